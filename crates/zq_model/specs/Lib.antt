@@ -1,0 +1,11 @@
+pub mod Operation
+pub mod Heaps
+pub mod Sets
+pub mod Rule
+pub mod Meaning
+pub mod Entry
+pub mod Image
+pub mod Score
+pub mod Queue
+pub mod Joining
+pub mod Tail

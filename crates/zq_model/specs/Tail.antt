@@ -1,0 +1,24 @@
+-- A tail of operations over a set: what a peer takes of it.
+
+use Rattle.std.specs.Prelude.{List, [], filter, not, ℕ, ◌∷◌, ◌≡◌}
+use Rattle.zq_model.specs.Image.{Image, image_after}
+use Rattle.zq_model.specs.Operation.{Operation, has}
+use Rattle.zq_model.specs.Sets.{IsNew}
+
+-- the set after a tail, its oldest operation first
+abbrev pub tail_set : List Operation → List Operation → List Operation
+tail_set S [] = S
+tail_set S (o ∷ tail) = tail_set (o ∷ S) tail
+
+abbrev pub image_after_all : List Operation → Image → Image
+image_after_all [] a = a
+image_after_all (o ∷ tail) a = image_after_all tail (image_after o a)
+
+-- what of the tail the vector lacks
+abbrev pub lacking : List ℕ → List Operation → List Operation
+lacking v tail = filter (λ o. not (has v o.site o.n)) tail
+
+-- each operation of the tail was new where it came
+abbrev pub IsTail : ℕ → List Operation → List Operation → Type 0
+IsTail h S [] = Unit {0}
+IsTail h S (o ∷ tail) = IsNew S o × (o.heap ≡ h) × IsTail h (o ∷ S) tail
