@@ -71,6 +71,10 @@ join_entry u v a b = by_site (λ s. join_site u v s (addition_at a s) (addition_
 abbrev pub join_vector : List ℕ → List ℕ → List ℕ
 join_vector u v = by_site (λ t. max (slice_index u t) (slice_index v t))
 
+-- the image of no operations: nothing is seen, and no member stands
+abbrev pub empty_image : Image
+empty_image = record { vector = by_site (λ _. 0); members = empty }
+
 -- the join of two images of one heap
 abbrev pub join : Image → Image → Image
 join a b = record {

@@ -9,3 +9,4 @@ pub mod Score
 pub mod Queue
 pub mod Joining
 pub mod Tail
+pub mod Examples

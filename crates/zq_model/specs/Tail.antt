@@ -3,7 +3,7 @@
 use Rattle.std.specs.Prelude.{List, [], filter, not, ℕ, ◌∷◌, ◌≡◌}
 use Rattle.zq_model.specs.Image.{Image, image_after}
 use Rattle.zq_model.specs.Operation.{Operation, has}
-use Rattle.zq_model.specs.Sets.{IsNew}
+use Rattle.zq_model.specs.Sets.{IsNew, New, taken_of}
 
 -- the set after a tail, its oldest operation first
 abbrev pub tail_set : List Operation → List Operation → List Operation
@@ -22,3 +22,8 @@ lacking v tail = filter (λ o. not (has v o.site o.n)) tail
 abbrev pub IsTail : ℕ → List Operation → List Operation → Type 0
 IsTail h S [] = Unit {0}
 IsTail h S (o ∷ tail) = IsNew S o × (o.heap ≡ h) × IsTail h (o ∷ S) tail
+
+-- each operation of the list is new by the image's vector where it comes
+abbrev pub AreNew : List Operation → Image → Type 0
+AreNew [] a = Unit {0}
+AreNew (o ∷ tail) a = (taken_of a.vector o ≡ New) × AreNew tail (image_after o a)

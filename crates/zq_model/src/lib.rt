@@ -1,14 +1,14 @@
-// The model of the replicated queue: sets of operations, images of them and the join of images.
+//! The model of the replicated queue: sets of operations, what a set means, the images that replicas keep, and the join of images.
+//!
+//! The definitions are in `specs/`. Each law of them is the contract of a public function with an empty body.
 #![tactic(auto)]
 
-ghost use Rattle.std.specs.Prelude.{List, ◌≡◌};
-ghost use Rattle.zq_model.specs.Operation.{Operation};
-ghost use Rattle.zq_model.specs.Image.{image_of, join};
-ghost use Rattle.zq_model.specs.Tail.{image_after_all};
-ghost use Rattle.zq_model.specs.Queue.{queue_of};
-ghost use Rattle.zq_model.specs.Joining.{IsImageOf};
-
-/// A stand-in.
-pub fn scoring()
-    ensures { (S : List Operation) → image_of S 0 ≡ image_of S 0 }
-{}
+pub mod examples;
+pub mod hashing;
+pub mod images;
+pub mod joins;
+pub mod merges;
+pub mod queues;
+pub mod scores;
+pub mod steps;
+pub mod tails;
