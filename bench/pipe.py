@@ -1,0 +1,130 @@
+#!/usr/bin/env python3
+"""Times `./zqueue pipe` on streams made from a seed, in alternation with redis-server over loopback, where it is
+there, and with the yardstick in C, and prints the medians and their ratios.
+
+Usage: bench/pipe.py [--seed N] [--requests N] [--members N] [--rounds N] [KIND ..]
+The kinds are those of streams.py. Numbers are of one run on one machine: only the ratios are worth a comparison.
+"""
+import argparse
+import pathlib
+import shutil
+import socket
+import statistics
+import subprocess
+import sys
+import tempfile
+import threading
+import time
+
+import streams
+
+ROOT = pathlib.Path(__file__).resolve().parent.parent
+
+
+def run_program(command, data):
+    """Seconds that a program takes from its first byte to its end, and what it wrote."""
+    begin = time.perf_counter()
+    done = subprocess.run(command, input=data, stdout=subprocess.PIPE, check=True)
+    return time.perf_counter() - begin, done.stdout
+
+
+class Redis:
+    """A redis-server of this run's own on a loopback port, without persistence."""
+
+    def __init__(self, folder):
+        with socket.socket() as free:
+            free.bind(("127.0.0.1", 0))
+            self.port = free.getsockname()[1]
+        self.server = subprocess.Popen(
+            ["redis-server", "--bind", "127.0.0.1", "--port", str(self.port), "--save", "", "--appendonly", "no",
+             "--dir", folder], stdout=subprocess.DEVNULL)
+        for _ in range(200):
+            try:
+                socket.create_connection(("127.0.0.1", self.port)).close()
+                return
+            except OSError:
+                time.sleep(0.05)
+        raise RuntimeError("redis-server did not answer")
+
+    def run(self, data):
+        """Seconds from the first byte sent to the last reply, over an empty database."""
+        with socket.create_connection(("127.0.0.1", self.port)) as link:
+            link.sendall(streams.request(b"FLUSHALL"))
+            link.recv(100)
+            last = b"$9\r\nthe-end-!\r\n"
+            begin = time.perf_counter()
+            sender = threading.Thread(target=link.sendall, args=(data + streams.request(b"PING", b"the-end-!"),))
+            sender.start()
+            tail = b""
+            while not tail.endswith(last):
+                piece = link.recv(1 << 16)
+                if not piece:
+                    raise RuntimeError("redis-server closed the connection")
+                tail = (tail + piece)[-len(last):]
+            seconds = time.perf_counter() - begin
+            sender.join()
+            return seconds
+
+    def stop(self):
+        self.server.terminate()
+        self.server.wait()
+
+
+def yardstick(folder):
+    """The path of the compiled yardstick, or None without a C compiler."""
+    compiler = shutil.which("cc")
+    if compiler is None:
+        return None
+    path = pathlib.Path(folder) / "yardstick"
+    subprocess.run([compiler, "-O2", "-o", path, ROOT / "bench" / "yardstick.c"], check=True)
+    return path
+
+
+def measure(kind, options, redis, stick):
+    """Times one kind of stream and prints its line."""
+    data = streams.stream(kind, options.seed, options.requests, options.members)
+    times = {"zqueue": [], "redis": [], "yardstick": []}
+    for _ in range(options.rounds):
+        times["zqueue"].append(run_program([ROOT / "zqueue", "pipe"], data)[0])
+        if redis:
+            times["redis"].append(redis.run(data))
+        if stick:
+            times["yardstick"].append(run_program([stick], data)[0])
+    medians = {name: statistics.median(all) for name, all in times.items() if all}
+    line = f"{kind}: {options.requests} requests, {len(data)} bytes"
+    for name, seconds in medians.items():
+        line += f"; {name} {seconds:.3f} s, {options.requests / seconds:,.0f} requests/s"
+    for name in ("redis", "yardstick"):
+        if name in medians:
+            line += f"; zqueue's rate is {medians[name] / medians['zqueue']:.2f} of {name}'s"
+    print(line, flush=True)
+
+
+def main():
+    parser = argparse.ArgumentParser(description=__doc__.split("\n\n")[0])
+    parser.add_argument("--seed", type=int, default=1)
+    parser.add_argument("--requests", type=int, default=300000)
+    parser.add_argument("--members", type=int, default=1000)
+    parser.add_argument("--rounds", type=int, default=5)
+    parser.add_argument("kinds", nargs="*", metavar="KIND", help=" ".join(streams.KINDS))
+    options = parser.parse_args()
+    for kind in options.kinds:
+        if kind not in streams.KINDS:
+            parser.error(f"{kind}: no such kind of stream")
+    run_program([ROOT / "zqueue", "pipe"], b"")
+    with tempfile.TemporaryDirectory() as folder:
+        stick = yardstick(folder)
+        redis = Redis(folder) if shutil.which("redis-server") else None
+        if redis is None:
+            print("redis-server is not there (Debian's package redis-server): no ratio to it")
+        try:
+            for kind in options.kinds or streams.KINDS:
+                measure(kind, options, redis, stick)
+        finally:
+            if redis:
+                redis.stop()
+    return 0
+
+
+if __name__ == "__main__":
+    sys.exit(main())
