@@ -1,6 +1,6 @@
 -- Dots: what a vector says of one, and which of them a closed set of a world has.
 
-use Rattle.std.proofs.Common.{List, T, [], ap, arith, eq-eqb, eqb-true, false, get_or, inl, inr, le-leb, leb, leb-true, lt-ltb, ltb, ltb-true, max, refl, subst, sym, true, true≢false, zero, ℕ, ⊎_elim, ◌&&◌, ◌++◌, ◌+◌, ◌<◌, ◌==◌, ◌∙◌, ◌∷◌, ◌≡◌, ◌≤◌}
+use Rattle.std.proofs.Common.{List, T, [], ap, arith, eq-eqb, eqb-true, false, get_or, inl, inr, le-leb, leb, leb-true, lt-ltb, ltb, ltb-true, max, refl, subst, sym, true, true≢false, ℕ, ⊎_elim, ◌&&◌, ◌++◌, ◌+◌, ◌<◌, ◌==◌, ◌∙◌, ◌∷◌, ◌≡◌, ◌≤◌}
 use Rattle.std.proofs.lemmas.Bool.{and_from, and_parts, cases_Bool, cases_lt, cond-false, cond-true, false_from_ne_true}
 use Rattle.zq_model.proofs.Membership.{in_left, in_right}
 use Rattle.zq_model.specs.Operation.{Operation, has}

@@ -5,7 +5,7 @@ use Rattle.std.proofs.lemmas.Bool.{cond-true, or_parts}
 use Rattle.std.proofs.lemmas.List.Folds.{list_any-append}
 use Rattle.std.specs.FinMap.{get, get-insert, get-remove, insert, keys, remove, same_map}
 use Rattle.std.specs.List.{list_all, list_any, range_with_len}
-use Rattle.std.specs.Ordering.{eq_by_cmp, on}
+use Rattle.std.specs.Ordering.{eq_by_cmp}
 use Rattle.zq_model.proofs.Maps.{get-map_on_all, get_without, in_map, key_same, place_exact, place_total}
 use Rattle.zq_model.proofs.Membership.{any_in}
 use Rattle.zq_model.proofs.Places.{is_on_parts, is_put_of_parts}
@@ -69,7 +69,8 @@ pub addition_at-image_of : (S : List Operation) (h : ℕ) (q : Place) (s : ℕ) 
 addition_at-image_of S h q s below = ap (λ e. addition_at e s) (entry_at-image_of S h q) ∙ by_site-at (addition_of S h q.0 q.1) s None below
 
 -- the image of a set is told by its vector and by what it has at each place
-pub image_from : (a : Image) (S : List Operation) (h : ℕ) → a.vector ≡ vector_of S h → ((q : Place) → get a.members q ≡ unless_bare (entry_of S h q)) → a ≡ image_of S h
+pub image_from : (a : Image) (S : List Operation) (h : ℕ) → a.vector ≡ vector_of S h → ((q : Place) → get a.members q ≡ unless_bare (entry_of S h q)) →
+    a ≡ image_of S h
 image_from a S h vectors each =
     let members : a.members ≡ (image_of S h).members = same_map place_total place_exact a.members (image_of S h).members (λ q. each q ∙ sym (get-image_of S h q)) in
     λ i. record { vector = vectors i; members = members i }

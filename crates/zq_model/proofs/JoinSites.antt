@@ -96,7 +96,8 @@ kept_unless v s n x = if has v s n then None else x
 
 module _ (K : ℕ) (S T : List Operation) (h : ℕ) (k m : List ℕ) (s : ℕ) (below : s < SITES) (world : IsWorld K (S ++ T)) (first : IsClosed S) (second : IsClosed T) where
   -- to a Put of both sets a site adds what it does in the set that has more of the site
-  sum_both : (n t : ℕ) → t < SITES → get_or (sums_joined (vector_of S h) (vector_of T h) (by_site (site_sum S h k m s n)) (by_site (site_sum T h k m s n))) t (pos 0) ≡ site_sum (S ++ T) h k m s n t
+  sum_both : (n t : ℕ) → t < SITES →
+      get_or (sums_joined (vector_of S h) (vector_of T h) (by_site (site_sum S h k m s n)) (by_site (site_sum T h k m s n))) t (pos 0) ≡ site_sum (S ++ T) h k m s n t
   sum_both n t inside =
       let u : get_or (vector_of S h) t 0 ≡ last S h t = by_site-at (last S h) t 0 inside in
       let v : get_or (vector_of T h) t 0 ≡ last T h t = by_site-at (last T h) t 0 inside in
@@ -125,7 +126,8 @@ module _ (K : ℕ) (S T : List Operation) (h : ℕ) (k m : List ℕ) (s : ℕ) (
       ]
 
   -- the first set alone has the Put
-  only_first : (o : Operation) → IsStanding S h k m s o → live T h k m s ≡ None → kept_unless (vector_of T h) s o.n (addition S h k m s (Some o)) ≡ addition_of (S ++ T) h k m s
+  only_first : (o : Operation) → IsStanding S h k m s o → live T h k m s ≡ None →
+      kept_unless (vector_of T h) s o.n (addition S h k m s (Some o)) ≡ addition_of (S ++ T) h k m s
   only_first o a none =
       let v : get_or (vector_of T h) s 0 ≡ last T h s = by_site-at (last T h) s 0 below in
       let low : 0 < o.n = counter_positive K (S ++ T) o world (in_left o S T a.here) in

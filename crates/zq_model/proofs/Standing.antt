@@ -3,7 +3,6 @@
 use Rattle.std.proofs.Common.{List, None, Some, T, ap, arith, false, get_or, inl, inr, not, subst, sym, true, true≢false, ℕ, ◌&&◌, ◌++◌, ◌+◌, ◌<◌, ◌||◌, ◌∙◌, ◌≡◌, ◌≤◌}
 use Rattle.std.proofs.lemmas.Bool.{and_from, and_parts, cases_order, not-true, not_from_false}
 use Rattle.std.proofs.lemmas.List.Folds.{list_any-append}
-use Rattle.std.specs.Ordering.{on}
 use Rattle.zq_model.proofs.Dots.{counter_positive, has_from, seen_last}
 use Rattle.zq_model.proofs.Membership.{any_in, any_none, any_nothing, find_none, find_nothing, find_only, find_some}
 use Rattle.zq_model.proofs.Places.{is_on_parts, is_put_of_parts, put_removes}
@@ -30,7 +29,8 @@ live_some S h k m s o e =
     let parts : (is_put_of h k m s o ≡ true) × (not (is_dead S h k m s o.n) ≡ true) = and_parts _ _ found.1 in
     record { here = found.0; put = parts.0; kept = not-true _ parts.1 }
 
-standing_passes : {S : List Operation} {h : ℕ} {k m : List ℕ} {s : ℕ} {o : Operation} → IsStanding S h k m s o → (is_put_of h k m s o && not (is_dead S h k m s o.n)) ≡ true
+standing_passes : {S : List Operation} {h : ℕ} {k m : List ℕ} {s : ℕ} {o : Operation} → IsStanding S h k m s o →
+    (is_put_of h k m s o && not (is_dead S h k m s o.n)) ≡ true
 standing_passes p = and_from _ _ p.put (not_from_false _ p.kept)
 
 pub live_none : (S : List Operation) (h : ℕ) (k m : List ℕ) (s : ℕ) (o : Operation) → live S h k m s ≡ None → IsStanding S h k m s o → ⊥

@@ -1,6 +1,6 @@
 -- What a vector tells of an operation: known, new or early.
 
-use Rattle.std.proofs.Common.{Bool, List, arith, cond, false, get_or, inl, inr, le-leb, le_refl, leb, leb-true, refl, subst, suc, sym, true, true≢false, zero, ℕ, ⊎_elim, ◌+◌, ◌<◌, ◌∙◌, ◌∷◌, ◌≡◌, ◌≤◌}
+use Rattle.std.proofs.Common.{Bool, List, arith, cond, false, get_or, inl, inr, le-leb, le_refl, leb, leb-true, length, refl, subst, suc, sym, true, true≢false, zero, ℕ, ⊎_elim, ◌+◌, ◌<◌, ◌∙◌, ◌∷◌, ◌≡◌, ◌≤◌}
 use Rattle.std.proofs.lemmas.Bool.{and_from, and_parts, cases_eq, cases_lt, cond-false, cond-true}
 use Rattle.std.proofs.lemmas.List.{get_or_past}
 use Rattle.std.specs.List.{list_all, range_with_len}
@@ -69,20 +69,25 @@ module _ (K : ℕ) (S : List Operation) (o : Operation) (v : List ℕ) (world : 
       has_from v o.site o.n (counter_positive K (o ∷ S) o world (inl refl)) (omega arith)
 
   seen_covered : HasAllSeen S o → covers v o.seen ≡ true
-  seen_covered seen = covers_from v o.seen (λ t _. ⊎_elim
-      (λ some.
-      let inside : get_or o.seen t 0 ≤ last S o.heap t = dot_last S o.heap t (get_or o.seen t 0) (seen t (get_or o.seen t 0) (has_from o.seen t (get_or o.seen t 0) some (le_refl _))) in
-      let is : get_or v t 0 ≡ last S o.heap t = vector.counter t in omega arith)
-      (λ none. omega arith)
-      (cases_lt 0 (get_or o.seen t 0)))
+  seen_covered seen = covers_from v o.seen (λ t _. elim (cases_lt 0 (get_or o.seen t 0)) [
+    | inl some ↦
+        let dot : HasDot S o.heap t (get_or o.seen t 0) = seen t (get_or o.seen t 0) (has_from o.seen t (get_or o.seen t 0) some (le_refl _)) in
+        let inside : get_or o.seen t 0 ≤ last S o.heap t = dot_last S o.heap t (get_or o.seen t 0) dot in
+        let is : get_or v t 0 ≡ last S o.heap t = vector.counter t in omega arith
+    | inr none ↦ omega arith
+  ])
 
   pub new_from : has v o.site o.n ≡ false → covers v o.seen ≡ true → IsNew S o
   new_from unknown covered = record {
-    covered = λ t. let is : get_or v t 0 ≡ last S o.heap t = vector.counter t in ⊎_elim
-        (λ below. let least : get_or o.seen t 0 ≤ get_or v t 0 = covers_at v o.seen t covered below in omega arith)
-        (λ past. let nothing : get_or o.seen t 0 ≡ 0 = get_or_past o.seen t 0 (subst (λ w. w ≤ t) (sym (world.each o (inl refl)).seen.wide) past) in omega arith)
-        (cases_lt t SITES);
-    fresh = let is : get_or v o.site 0 ≡ last S o.heap o.site = vector.counter o.site in
+    covered = λ t.
+        let is : get_or v t 0 ≡ last S o.heap t = vector.counter t in
+        let wide : length o.seen ≡ SITES = (world.each o (inl refl)).seen.wide in
+        elim (cases_lt t SITES) [
+          | inl below ↦ let least : get_or o.seen t 0 ≤ get_or v t 0 = covers_at v o.seen t covered below in omega arith
+          | inr past ↦ let nothing : get_or o.seen t 0 ≡ 0 = get_or_past o.seen t 0 (omega arith) in omega arith
+        ];
+    fresh =
+        let is : get_or v o.site 0 ≡ last S o.heap o.site = vector.counter o.site in
         let above : get_or v o.site 0 < o.n = has_not v o.site o.n unknown (counter_positive K (o ∷ S) o world (inl refl)) in omega arith;
   }
 

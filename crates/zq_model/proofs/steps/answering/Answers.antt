@@ -1,5 +1,4 @@
-use Rattle.zq_model.proofs.Made.{new_outside}
-use Rattle.zq_model.proofs.NewOperation.{new_has_seen, world_rest}
+use Rattle.zq_model.proofs.NewOperation.{new_has_seen, new_outside, world_rest}
 use Rattle.zq_model.proofs.Taken.{early_outside, known_here, taken_known, taking_new}
 use Rattle.zq_model.specs.Sets.{IsNew}
 use Rattle.zq_model.proofs.steps.answering.Goals as goal

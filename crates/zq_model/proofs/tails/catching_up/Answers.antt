@@ -1,4 +1,4 @@
-use Rattle.std.proofs.Common.{T, sym, ◌∙◌}
+use Rattle.std.proofs.Common.{sym, ◌∙◌}
 use Rattle.zq_model.proofs.CatchingUp.{peer_catches_up}
 use Rattle.zq_model.proofs.JoinImages.{join-union}
 use Rattle.zq_model.proofs.TailSets.{tail_closed}
