@@ -1,0 +1,26 @@
+-- An operation of a site with some number of heaps.
+
+use Rattle.std.specs.Prelude.{length, slice_index, ℕ, ◌+◌, ◌<◌, ◌≡◌, ◌≤◌}
+use Rattle.zq_model.specs.Operation.{IsAct, Operation}
+use Rattle.zq_model.specs.Sets.{IsCounters, IsHeaps, LAST, SITES}
+
+-- the most bytes of a key and of a member
+abbrev pub LONGEST : ℕ
+LONGEST = 1048576
+
+-- an operation, and the number of heaps of the site that made it
+pub record Placed : Type 0 where
+  pub heaps : ℕ
+  pub operation : Operation
+
+-- its numbers are in range, and its counter is the next of its site after those that it has seen
+pub record IsSound (p : Placed) : Type 0 where
+  pub heaps : IsHeaps p.heaps
+  pub heap : p.operation.heap < p.heaps
+  pub site : p.operation.site < SITES
+  pub seen : IsCounters p.operation.seen
+  pub next : p.operation.n ≡ slice_index p.operation.seen p.operation.site + 1
+  pub bounded : p.operation.n ≤ LAST
+  pub key : length p.operation.key ≤ LONGEST
+  pub member : length p.operation.member ≤ LONGEST
+  pub act : IsAct p.operation.act

@@ -1,0 +1,41 @@
+ghost use Rattle.std.specs.Prelude.{◌≡◌, ◌≤◌, ◌<◌, fold, length};
+ghost use Rattle.zq_model.specs.Heaps as place;
+
+/// The hash of no bytes.
+const OFFSET_BASIS: u64 = 14_695_981_039_346_656_037;
+
+/// What each byte multiplies the hash by.
+const PRIME: u64 = 1_099_511_628_211;
+
+/// The 64-bit FNV-1a hash of the bytes
+/// (<http://www.isthe.com/chongo/tech/comp/fnv/>).
+#[tactic(auto, unfolding(zq_model::specs::Heaps::fnv1a64))]
+pub fn fnv1a64(bytes: &[u8]) -> u64
+    ensures { result ≡ place.fnv1a64 bytes.now }
+{
+    hash_from(OFFSET_BASIS, bytes)
+}
+
+/// The heap of a member of a key, of this number of heaps: the FNV-1a hash of the key's length in
+/// four bytes, the highest first, the key and the member, modulo the number of heaps.
+pub fn heap_of(key: &[u8], member: &[u8], heaps: u8) -> u8
+    requires heaps { (1 ≤ heaps) × (heaps ≤ 16) }
+    requires key { length key.now ≤ 1048576 }
+    ensures heap { result ≡ place.heap_of key.now member.now heaps }
+    ensures below { result < heaps }
+{
+    let prefix = (key.len() as u32).to_be_bytes();
+    let hash = hash_from(hash_from(hash_from(OFFSET_BASIS, &prefix), key), member);
+    (hash % heaps as u64) as u8
+}
+
+/// The hash of what was hashed before and these bytes after it.
+fn hash_from(start: u64, bytes: &[u8]) -> u64
+    ensures { result ≡ fold place.fnv1a64_step start bytes.now }
+{
+    let mut hash = start;
+    for byte in bytes {
+        hash = (hash ^ *byte as u64).wrapping_mul(PRIME);
+    }
+    hash
+}

@@ -1,0 +1,80 @@
+use super::*;
+use std::test::Fail;
+
+fn site(number: u8) -> Result<SiteNo, &'static str> {
+    SiteNo::new(number).ok_or("a site")
+}
+
+#[test]
+fn hashes_are_those_of_fnv_1a(rt: HostRuntime) {
+    assert_eq!(rt; fnv1a64(b""), 0xcbf2_9ce4_8422_2325);
+    assert_eq!(rt; fnv1a64(b"a"), 0xaf63_dc4c_8601_ec8c);
+}
+
+#[test]
+fn members_lie_where_their_hash_says(rt: HostRuntime) {
+    for member in [b"a", b"c", b"y", b"m"] {
+        assert_eq!(rt; heap_of(b"q", member, 2), 0);
+    }
+    for member in [b"b", b"d", b"x"] {
+        assert_eq!(rt; heap_of(b"q", member, 2), 1);
+    }
+    assert_eq!(rt; heap_of(b"q", b"a", 4), 0);
+    assert_eq!(rt; heap_of(b"q", b"b", 4), 1);
+    assert_eq!(rt; heap_of(b"q", b"c", 4), 2);
+    assert_eq!(rt; heap_of(b"q", b"d", 4), 3);
+}
+
+#[test]
+fn numbers_out_of_range_are_refused(rt: HostRuntime) -> Result<(), Fail> {
+    assert_eq!(rt; site(7)?.value(), 7);
+    assert!(rt; SiteNo::new(8).is_none());
+    let least = Score::new(-9_007_199_254_740_992).ok_or("a score")?;
+    assert_eq!(rt; least.value(), -9_007_199_254_740_992);
+    assert!(rt; Score::new(9_007_199_254_740_993).is_none());
+    Ok(())
+}
+
+#[test]
+#[tactic(auto, unfolding(zq_model::specs::Sets::LAST))]
+fn vectors_join_and_cover(rt: HostRuntime) -> Result<(), Fail> {
+    let (a, b) = (site(0)?, site(7)?);
+    let mut mine = Vector::new();
+    mine.set(a, 3);
+    let mut other = Vector::new();
+    other.set(a, 2);
+    other.set(b, 5);
+    assert!(rt; !mine.covers(&other));
+    assert!(rt; mine.has(Dot { site: a, n: 3 }) && !mine.has(Dot { site: b, n: 1 }));
+    mine.join_with(&other);
+    assert!(rt; mine.covers(&other));
+    assert_eq!(rt; (mine.get(a), mine.get(b)), (3, 5));
+    assert_eq!(rt; mine.next(b), Ok(Dot { site: b, n: 6 }));
+    mine.set(b, 281_474_976_710_655);
+    assert_eq!(rt; mine.next(b), Err(Worn));
+    Ok(())
+}
+
+#[test]
+fn an_operation_has_its_parts(rt: HostRuntime) -> Result<(), Fail> {
+    let alloc = rt.alloc();
+    let dot = Vector::new().next(site(1)?).ok().ok_or("a dot")?;
+    let act = Act::Put(Score::new(-3).ok_or("a score")?);
+    let key = Vec::from_slice(alloc, b"q")?;
+    let member = Vec::from_slice(alloc, b"d")?;
+    let made = Op::new(1, 2, dot, Vector::new(), key, member, act);
+    let copy = made.copy(alloc)?;
+    assert_eq!(rt; (copy.heap(), copy.heaps()), (1, 2));
+    assert_eq!(rt;
+        copy.dot(),
+        Dot {
+            site: site(1)?,
+            n: 1
+        }
+    );
+    assert_eq!(rt; *copy.seen(), Vector::new());
+    assert_eq!(rt; copy.key(), b"q".as_slice());
+    assert_eq!(rt; copy.member(), b"d".as_slice());
+    assert_eq!(rt; copy.act(), act);
+    Ok(())
+}

@@ -1,0 +1,3 @@
+pub mod SparseLemmas
+pub mod SumLemmas
+pub mod EntryLemmas

@@ -1,0 +1,102 @@
+-- Sums that are not 0, and a place for each site's sum.
+
+use Rattle.std.proofs.Common.{inl, inr, ap, arith, cond, get_or, length, sym, take, lit≤, zero, suc, ◌∙◌, ◌≡◌, ◌≢◌, false}
+use Rattle.std.proofs.Math.Nat.{mul-le-mul_right}
+use Rattle.std.proofs.Math.IntN.{+ℤ_assoc}
+use Rattle.std.proofs.lemmas.Int.{ints}
+use Rattle.std.proofs.lemmas.Bool.{cases_Bool}
+use Rattle.std.proofs.lemmas.Bool.Decides.{Decides-int_eq}
+use Rattle.std.specs.Int.{w128}
+use mir.Val.{SFits}
+use Rattle.std.specs.List.{AllByRecursion}
+use Rattle.std.specs.Ordering.{int_eq}
+use Rattle.std.specs.Prelude.{List, Option, [], map, pos, unwrap_or, ℕ, ℤ, ◌*◌, ◌+◌, ◌+ℤ◌, ◌<◌, ◌≤◌, ◌∷◌}
+use Rattle.zq_model.specs.Operation.{IsWithin, MOST}
+use Rattle.zq_model.specs.Score.{total}
+use Rattle.zq_model.specs.Sets.{SITES}
+use Rattle.zq_entry.specs.Sparse.{IsRising}
+use Rattle.zq_entry.specs.Sums.{AreSums, IsSum, MOST_SUM, dense_sums, nonzero_from, nonzero_sums}
+use Rattle.zq_entry.proofs.SparseLemmas.{Here, Later, rising-length, rising-none, spread, spread-step}
+
+abbrev pub or_zero : Option ℤ → ℤ
+or_zero sum = unwrap_or sum (pos 0)
+
+zero-add_int : (x : ℤ) → pos 0 +ℤ x ≡ x
+zero-add_int x = omega (arith, ints)
+
+not_zero : (x : ℤ) → x ≢ pos 0 → int_eq x (pos 0) ≡ false
+not_zero x h =
+    elim (cases_Bool (int_eq x (pos 0))) [
+      | inl zero' ↦ absurd (h ((Decides-int_eq x (pos 0)).0 zero'))
+      | inr other ↦ other
+    ]
+
+-- what sums come to, said of those that are not 0
+abbrev pub total_of : List (ℕ × ℤ) → ℤ
+total_of items = total (map (λ p. p.1) items)
+
+total-spread : (n a high : ℕ) (items : List (ℕ × ℤ)) → a + n ≡ high → IsRising a high items → total (spread or_zero a n items) ≡ total_of items
+total-spread zero a high items e r = ap total_of (sym (rising-none a high items (omega arith) r))
+total-spread (suc n) a high items e r =
+    elim (spread-step or_zero a n high items r) [
+      | Here x rest is rising front ↦ ap total front ∙ (ap (λ y. x +ℤ y) (total-spread n (a + 1) high rest (omega arith) rising) ∙ ap total_of (sym is))
+      | Later rising front ↦ ap total front ∙ (zero-add_int (total (spread or_zero (a + 1) n items)) ∙ total-spread n (a + 1) high items (omega arith) rising)
+    ]
+
+pub total-dense : (items : List (ℕ × ℤ)) → AreSums items → total (dense_sums items) ≡ total_of items
+total-dense items h = total-spread SITES 0 SITES items (omega arith) h.rising
+
+nonzero-spread : (n a high : ℕ) (items : List (ℕ × ℤ)) → a + n ≡ high → IsRising a high items → AllByRecursion IsSum items → nonzero_from a (spread or_zero a n items) ≡ items
+nonzero-spread zero a high items e r h = sym (rising-none a high items (omega arith) r)
+nonzero-spread (suc n) a high items e r h =
+    elim (spread-step or_zero a n high items r) [
+      | Here x rest is rising front ↦
+          let each : AllByRecursion IsSum ((a, x) ∷ rest) = rw is at h in
+          let other : int_eq x (pos 0) ≡ false = not_zero x each.0.0 in
+          ap (nonzero_from a) front ∙ (ap (λ b. cond b (nonzero_from (a + 1) (spread or_zero (a + 1) n rest)) ((a, x) ∷ nonzero_from (a + 1) (spread or_zero (a + 1) n rest))) other ∙ (ap (λ xs. (a, x) ∷ xs) (nonzero-spread n (a + 1) high rest (omega arith) rising each.1) ∙ sym is))
+      | Later rising front ↦ ap (nonzero_from a) front ∙ nonzero-spread n (a + 1) high items (omega arith) rising h
+    ]
+
+-- the sums that are not 0 are those that are kept
+pub nonzero-dense : (items : List (ℕ × ℤ)) → AreSums items → nonzero_sums (dense_sums items) ≡ items
+nonzero-dense items h = nonzero-spread SITES 0 SITES items (omega arith) h.rising h.each
+
+pub sums-length : (items : List (ℕ × ℤ)) → AreSums items → length items ≤ SITES
+sums-length items h = omega (arith, rising-length 0 SITES items (omega arith) h.rising)
+
+pub sum-within : (items : List (ℕ × ℤ)) (i : ℕ) (d : ℕ × ℤ) → AllByRecursion IsSum items → i < length items → IsWithin MOST_SUM (get_or items i d).1
+sum-within [] i d h l = absurd (omega arith)
+sum-within (p ∷ items) zero d h l = h.0.1
+sum-within (p ∷ items) (suc i) d h l = sum-within items i d h.1 (omega (arith, l))
+
+pub total-take : (items : List (ℕ × ℤ)) (i : ℕ) (d : ℕ × ℤ) → i < length items → total_of (take (i + 1) items) ≡ total_of (take i items) +ℤ (get_or items i d).1
+total-take [] i d l = absurd (omega arith)
+total-take (p ∷ items) zero d l = omega (arith, ints)
+total-take (p ∷ items) (suc i) d l =
+    let more : suc i + 1 ≡ suc (i + 1) = omega arith in
+    ap (λ k. total_of (take k (p ∷ items))) more ∙ (ap (λ y. p.1 +ℤ y) (total-take items i d (omega (arith, l))) ∙ sym (+ℤ_assoc p.1 (total_of (take i items)) (get_or items i d).1))
+
+-- ---- no sum overflows
+
+pub few_sites : SITES ≤ 64
+unfolding SITES
+few_sites = lit≤ tt
+
+-- one more sum is in range
+pub more-within : (i : ℕ) (t x : ℤ) → IsWithin (i * MOST_SUM) t → IsWithin MOST_SUM x → IsWithin ((i + 1) * MOST_SUM) (t +ℤ x)
+more-within i t x h k = (omega (arith, ints), omega (arith, ints))
+
+pub sums-fit : (i : ℕ) (x : ℤ) → i ≤ SITES → IsWithin (i * MOST_SUM) x → SFits w128 x
+sums-fit i x l h = omega (arith, ints, few_sites)
+
+-- a wider range
+pub within-more : (i j b : ℕ) (x : ℤ) → i ≤ j → IsWithin (i * b) x → IsWithin (j * b) x
+within-more i j b x l h =
+    let wider = mul-le-mul_right b l in
+    (omega (arith, ints), omega (arith, ints))
+
+pub value-within : (x t : ℤ) → IsWithin MOST x → IsWithin (SITES * MOST_SUM) t → IsWithin (MOST + SITES * MOST_SUM) (x +ℤ t)
+value-within x t h k = (omega (arith, ints), omega (arith, ints))
+
+pub value-fits : (x : ℤ) → IsWithin (MOST + SITES * MOST_SUM) x → SFits w128 x
+value-fits x h = omega (arith, ints, few_sites)

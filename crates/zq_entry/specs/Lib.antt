@@ -1,0 +1,3 @@
+pub mod Sparse
+pub mod Sums
+pub mod Placed

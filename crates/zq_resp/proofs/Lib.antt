@@ -1,0 +1,13 @@
+pub mod Completed
+pub mod Counts
+pub mod Limits
+pub mod Lines
+pub mod Parts
+pub mod Pieces
+pub mod Sequences
+pub mod Spelled
+pub mod Stable
+pub mod Steps
+pub mod Streams
+pub mod Words
+pub mod Replies

@@ -1,0 +1,11 @@
+use Rattle.zq_resp.proofs.Streams.{breaks_alone, breaks_once, splits_once}
+use Rattle.zq_resp.proofs.laws.one_reading.Goals as goal
+
+pub returns-clause-splits : goal.returns-clause-splits
+returns-clause-splits c = splits_once
+
+pub returns-clause-breaks : goal.returns-clause-breaks
+returns-clause-breaks c = breaks_once
+
+pub returns-clause-apart : goal.returns-clause-apart
+returns-clause-apart c = breaks_alone

@@ -1,0 +1,14 @@
+pub mod Front
+pub mod Grammar
+pub mod Laws
+pub mod Line
+pub mod Null
+pub mod Partial
+pub mod Request
+pub mod Spelling
+pub mod Stream
+pub mod Suspended
+pub mod Unfinished
+pub mod Word
+pub mod Words
+pub mod Reply

@@ -1,0 +1,48 @@
+ghost use Rattle.std.specs.Prelude.{◌≡◌};
+
+use crate::request::Request;
+use std::alloc::{AllocError, AllocFailed};
+
+/// Why a reader stops.
+#[derive(Clone, Copy, Debug, PartialEq, Eq)]
+pub enum FeedFault {
+    /// A byte with which the text begins no request.
+    Protocol,
+    /// A count above 65,536, a word's length above 1,048,576, or a request of more than 16,777,216 bytes.
+    TooLong,
+    /// An earlier call failed.
+    Over,
+    /// There was no memory for a word or a request.
+    NoMemory,
+}
+
+/// A fault, and the requests that ended before it in the piece that has it.
+#[derive(Debug, Drop)]
+pub struct FeedError {
+    /// Why the reader stops.
+    pub fault: FeedFault,
+    /// The requests that ended in this piece before the fault; none where the fault is `Over`.
+    pub before: Vec<Request>,
+}
+
+impl From<AllocError> for FeedFault {
+    ghost use Rattle.std.specs.Prelude.{◌≡◌};
+    ghost use Rattle.zq_resp.specs.declared.fault.FeedFault.TheVariants.{NoMemory};
+
+    ghost from_gives = { λ _ e. e ≡ NoMemory };
+
+    fn from(_error: AllocError) -> FeedFault {
+        FeedFault::NoMemory
+    }
+}
+
+impl<T: Drop> From<AllocFailed<T>> for FeedFault {
+    ghost use Rattle.std.specs.Prelude.{◌≡◌};
+    ghost use Rattle.zq_resp.specs.declared.fault.FeedFault.TheVariants.{NoMemory};
+
+    ghost from_gives = { λ _ e. e ≡ NoMemory };
+
+    fn from(_error: AllocFailed<T>) -> FeedFault {
+        FeedFault::NoMemory
+    }
+}

@@ -1,0 +1,106 @@
+ghost use Rattle.std.specs.Prelude.{◌≡◌, ◌<◌, ◌++◌, ◌∷◌, [], length, Some, IfOk, OnOk, OnErr, IfErr};
+ghost use Rattle.zq_resp.specs.Request.{AreWords};
+ghost use Rattle.zq_resp.specs.Suspended.{IsStep, views};
+ghost use Rattle.zq_resp.specs.Partial.{text_so_far};
+ghost use Rattle.zq_resp.specs.Unfinished.{PieceGives, Stands, UnfinishedStep};
+ghost use Rattle.zq_resp.specs.Stream.{handed, is_inside};
+
+use crate::fault::FeedFault;
+use crate::reader::partial::Partial;
+use crate::reader::progress::Progress;
+use crate::request::Request;
+use std::alloc::Global;
+
+const LONGEST_REQUEST: usize = 16_777_216;
+
+/// What has come of a request, and how many bytes that is: within the limit of a request.
+#[derive(Drop)]
+pub struct Unfinished {
+    pub partial: Partial,
+    pub size: usize,
+}
+
+impl Unfinished {
+    /// Nothing.
+    pub fn new() -> Self
+        ensures begun { text_so_far result.partial ≡ [] }
+        ensures stands { Stands result }
+    {
+        Unfinished {
+            partial: Partial::Start,
+            size: 0,
+        }
+    }
+
+    /// Whether a byte of it has come.
+    pub fn is_begun(&self) -> bool
+        requires { Stands self.now }
+        ensures { result ≡ is_inside (Some (text_so_far self.now.partial)) }
+    {
+        self.size > 0
+    }
+
+    /// Reads on until the request ends or the bytes do, and answers how many bytes that took. A byte past
+    /// the limit of a request is too long.
+    fn read(
+        self,
+        alloc: Global,
+        bytes: &[u8],
+    ) -> Result<(Progress<Unfinished, Vec<Vec<u8>>>, usize), FeedFault>
+        requires some { 0 < length bytes.now }
+        requires stands { Stands self }
+        ensures taken { IfOk result (IsStep bytes.now) }
+        ensures step { UnfinishedStep self bytes.now result }
+    {
+        let near = bytes.len().min(LONGEST_REQUEST - self.size);
+        let (progress, taken) = self.partial.read(alloc, &bytes[..near])?;
+        match progress {
+            Progress::Whole(words) => Ok((Progress::Whole(words), taken)),
+            Progress::More(partial) => {
+                if near < bytes.len() {
+                    return Err(FeedFault::TooLong);
+                }
+                let size = self.size + near;
+                Ok((Progress::More(Unfinished { partial, size }), near))
+            }
+        }
+    }
+}
+
+/// Reads a piece: the requests that end in it are added, and what has come of the next is answered.
+pub fn read_on(
+    alloc: Global,
+    unfinished: Unfinished,
+    piece: &[u8],
+    requests: &mut Vec<Request>,
+) -> Result<Unfinished, FeedFault>
+    requires { Stands unfinished }
+    ensures { PieceGives result (text_so_far unfinished.partial ++ piece.now) requests.old.items requests.new.items }
+{
+    let mut unfinished = unfinished;
+    let mut rest = piece;
+    while !rest.is_empty() {
+        let (progress, taken) = unfinished.read(alloc, rest)?;
+        rest = &rest[taken..];
+        unfinished = match progress {
+            Progress::More(more) => more,
+            Progress::Whole(words) => {
+                hand_out(requests, words)?;
+                Unfinished::new()
+            }
+        };
+    }
+    Ok(unfinished)
+}
+
+fn hand_out(requests: &mut Vec<Request>, words: Vec<Vec<u8>>) -> Result<(), FeedFault>
+    requires { AreWords (views words) }
+    ensures ok { OnOk result (requests.new.items ≡ requests.old.items ++ handed (views words ∷ [])) }
+    ensures err { OnErr result (requests.new.items ≡ requests.old.items) }
+    ensures memory { IfErr result (λ e. e ≡ FeedFault.NoMemory) }
+{
+    if !words.is_empty() {
+        requests.push(Request::new(words))?;
+    }
+    Ok(())
+}

@@ -1,0 +1,182 @@
+//! Replies and their bytes.
+
+ghost use Rattle.std.specs.Prelude.{◌≡◌, ◌+◌, ◌<◌, ◌≤◌, ◌∷◌, ◌++◌, length, take, IsTrue};
+ghost use Rattle.std.specs.Vec.{vec_len, vec_capacity};
+ghost use Rattle.std.specs.Result.{OnOk, OnErr};
+ghost use Rattle.zq_resp.specs.Reply.{reply_bytes, all_bytes, is_writable, line, bulk, after_text};
+
+use itoa::Buffer;
+use std::alloc::AllocError;
+
+const LINE_END: &[u8] = b"\r\n";
+
+/// A reply of RESP2.
+///
+/// `Simple` and `Error` texts stand on one line: `write_reply` requires that they have no CR and no
+/// LF. `after` is a number that is written behind an error's text, with a space between.
+#[derive(Debug, Drop)]
+pub enum Reply {
+    Simple(&'static str),
+    Error {
+        text: &'static str,
+        after: Option<u64>,
+    },
+    Integer(i64),
+    Bulk(Vec<u8>),
+    NullBulk,
+    Array(Vec<Reply>),
+}
+
+/// Appends the reply's bytes to `out`. Where memory is refused, `out` has the bytes that it had.
+pub fn write_reply(out: &mut Vec<u8>, reply: &Reply) -> Result<(), AllocError>
+    requires { IsTrue (is_writable reply.now) }
+    ensures written { OnOk result (out.new.items ≡ out.old.items ++ reply_bytes reply.now) }
+    ensures full { OnErr result (vec_capacity out.old < vec_len out.old + length (reply_bytes reply.now)) }
+    ensures refused { OnErr result (out.new.items ≡ out.old.items) }
+{
+    let start = out.len();
+    let written = append_reply(out, reply);
+    if written.is_err() {
+        out.truncate(start);
+    }
+    written
+}
+
+// Where memory is refused, a part of the bytes may stand behind those that were there.
+#[cycle(append)]
+fn append_reply(out: &mut Vec<u8>, reply: &Reply) -> Result<(), AllocError>
+    ensures written { OnOk result (out.new.items ≡ out.old.items ++ reply_bytes reply.now) }
+    ensures full { OnErr result (vec_capacity out.old < vec_len out.old + length (reply_bytes reply.now)) }
+    ensures kept { take (length out.old.items) out.new.items ≡ out.old.items }
+    ensures capacity { vec_capacity out.old ≤ vec_capacity out.new }
+{
+    match reply {
+        Reply::Simple(text) => append_line(out, b'+', text.as_bytes()),
+        Reply::Error { text, after } => append_error(out, text.as_bytes(), *after),
+        Reply::Integer(number) => append_line(out, b':', Buffer::new().format(*number).as_bytes()),
+        Reply::Bulk(bytes) => append_bulk(out, bytes),
+        Reply::NullBulk => append_line(out, b'$', b"-1"),
+        Reply::Array(parts) => {
+            append_line(out, b'*', Buffer::new().format(parts.len()).as_bytes())?;
+            append_all(out, parts)
+        }
+    }
+}
+
+#[cycle(append)]
+fn append_all(out: &mut Vec<u8>, replies: &[Reply]) -> Result<(), AllocError>
+    ensures written { OnOk result (out.new.items ≡ out.old.items ++ all_bytes replies.now) }
+    ensures full { OnErr result (vec_capacity out.old < vec_len out.old + length (all_bytes replies.now)) }
+    ensures kept { take (length out.old.items) out.new.items ≡ out.old.items }
+    ensures capacity { vec_capacity out.old ≤ vec_capacity out.new }
+{
+    for reply in replies {
+        append_reply(out, reply)?;
+    }
+    Ok(())
+}
+
+fn append_line(out: &mut Vec<u8>, kind: u8, text: &[u8]) -> Result<(), AllocError>
+    ensures written { OnOk result (out.new.items ≡ out.old.items ++ kind ∷ line text.now) }
+    ensures full { OnErr result (vec_capacity out.old < vec_len out.old + length (kind ∷ line text.now)) }
+    ensures kept { take (length out.old.items) out.new.items ≡ out.old.items }
+    ensures capacity { vec_capacity out.old ≤ vec_capacity out.new }
+{
+    out.push(kind)?;
+    out.extend_from_slice(text)?;
+    out.extend_from_slice(LINE_END)
+}
+
+fn append_error(out: &mut Vec<u8>, text: &[u8], after: Option<u64>) -> Result<(), AllocError>
+    ensures written { OnOk result (out.new.items ≡ out.old.items ++ 45 ∷ line (text.now ++ after_text after)) }
+    ensures full { OnErr result (vec_capacity out.old < vec_len out.old + length (45 ∷ line (text.now ++ after_text after))) }
+    ensures kept { take (length out.old.items) out.new.items ≡ out.old.items }
+    ensures capacity { vec_capacity out.old ≤ vec_capacity out.new }
+{
+    out.push(b'-')?;
+    out.extend_from_slice(text)?;
+    if let Some(number) = after {
+        out.push(b' ')?;
+        out.extend_from_slice(Buffer::new().format(number).as_bytes())?;
+    }
+    out.extend_from_slice(LINE_END)
+}
+
+fn append_bulk(out: &mut Vec<u8>, bytes: &[u8]) -> Result<(), AllocError>
+    ensures written { OnOk result (out.new.items ≡ out.old.items ++ bulk bytes.now) }
+    ensures full { OnErr result (vec_capacity out.old < vec_len out.old + length (bulk bytes.now)) }
+    ensures kept { take (length out.old.items) out.new.items ≡ out.old.items }
+    ensures capacity { vec_capacity out.old ≤ vec_capacity out.new }
+{
+    append_line(out, b'$', Buffer::new().format(bytes.len()).as_bytes())?;
+    out.extend_from_slice(bytes)?;
+    out.extend_from_slice(LINE_END)
+}
+
+#[cfg(test)]
+mod tests {
+    use super::*;
+    use std::test::Fail;
+
+    fn bytes_of(rt: &HostRuntime, reply: &Reply) -> Result<Vec<u8>, AllocError>
+        requires { IsTrue (is_writable reply.now) }
+    {
+        let mut out = Vec::new(rt.alloc());
+        write_reply(&mut out, reply)?;
+        Ok(out)
+    }
+
+    #[test]
+    fn each_kind_has_the_bytes_of_resp2(rt: HostRuntime) -> Result<(), Fail> {
+        let pong = bytes_of(&rt, &Reply::Simple("PONG"))?;
+        assert_eq!(rt; pong.as_slice(), b"+PONG\r\n".as_slice());
+        let worn = Reply::Error {
+            text: "ERR worn after",
+            after: Some(12),
+        };
+        assert_eq!(rt;
+            bytes_of(&rt, &worn)?.as_slice(),
+            b"-ERR worn after 12\r\n".as_slice()
+        );
+        let syntax = Reply::Error {
+            text: "ERR syntax error",
+            after: None,
+        };
+        assert_eq!(rt;
+            bytes_of(&rt, &syntax)?.as_slice(),
+            b"-ERR syntax error\r\n".as_slice()
+        );
+        assert_eq!(rt;
+            bytes_of(&rt, &Reply::Integer(-30))?.as_slice(),
+            b":-30\r\n".as_slice()
+        );
+        assert_eq!(rt;
+            bytes_of(&rt, &Reply::Integer(0))?.as_slice(),
+            b":0\r\n".as_slice()
+        );
+        let bulk = Reply::Bulk(Vec::from_slice(rt.alloc(), b"a\r\nb")?);
+        assert_eq!(rt;
+            bytes_of(&rt, &bulk)?.as_slice(),
+            b"$4\r\na\r\nb\r\n".as_slice()
+        );
+        assert_eq!(rt;
+            bytes_of(&rt, &Reply::NullBulk)?.as_slice(),
+            b"$-1\r\n".as_slice()
+        );
+        Ok(())
+    }
+
+    #[test]
+    fn arrays_hold_their_parts_behind_what_stands(rt: HostRuntime) -> Result<(), Fail> {
+        let mut out = Vec::from_slice(rt.alloc(), b"+PONG\r\n")?;
+        let empty = Reply::Array(Vec::new(rt.alloc()));
+        let member = Reply::Bulk(Vec::from_slice(rt.alloc(), b"y")?);
+        let pairs = Reply::Array(vec![in rt.alloc(); member, Reply::NullBulk, empty]?);
+        write_reply(&mut out, &pairs)?;
+        assert_eq!(rt;
+            out.as_slice(),
+            b"+PONG\r\n*3\r\n$1\r\ny\r\n$-1\r\n*0\r\n".as_slice()
+        );
+        Ok(())
+    }
+}

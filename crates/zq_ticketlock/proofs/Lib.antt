@@ -1,0 +1,6 @@
+pub mod Stages
+pub mod Standings
+pub mod Looks
+pub mod Tickets
+pub mod Seatings
+pub mod Told

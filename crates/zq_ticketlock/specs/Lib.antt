@@ -1,0 +1,6 @@
+pub mod Views
+pub mod Order
+pub mod Steps
+pub mod Seats
+pub mod Lending
+pub mod Prefixes

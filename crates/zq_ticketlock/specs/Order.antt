@@ -1,0 +1,42 @@
+-- The rule of a ticket lock. Word 0 is `serving`, the ticket that is served, and word 1 is `next`, the ticket that is drawn next. Slot 0 is the value's.
+use Rattle.std.specs.Prelude.{◌≡◌, ℕ, ◌<◌, ◌≤◌, Bool, true, false, Option, Some, List, [], ◌∷◌}
+use mathlib.Core.Option as maybe
+use lib.ListN.{get_elem?}
+use Rattle.atomic_table.specs.Table.{State}
+use Rattle.zq_ticketlock.specs.declared.view.View.{View}
+use Rattle.zq_ticketlock.specs.declared.view.View.TheVariants.{Idle, Met, Waiting, Holding, Spent}
+
+-- Where a lock stands: the value at home, or the one with which the holder began; whether somebody holds it; which seat drew each ticket; the two words
+pub record Standing (T : Type 0) : Type 0 where
+  pub value : T
+  pub out : Bool
+  pub owner : ℕ → ℕ
+  pub serving : ℕ
+  pub next : ℕ
+
+-- the value's slot: at home exactly where nobody holds it
+abbrev pub slot : {T : Type 0} → Bool → T → maybe.Option (Option T)
+slot true value = maybe.none
+slot false value = maybe.some (Some value)
+
+module _ {T : Type 0} (holds : T → Type 0) (follows : T → T → Type 0) where
+  -- What a seat's view says is so. No two seats have one ticket, since each ticket has one owner
+  abbrev pub Knows : Standing T → ℕ → View T → Type 0
+  Knows at seat (Idle low x) = (low ≤ at.serving) × follows at.value x
+  Knows at seat (Met low x y) = (low ≤ at.serving) × follows at.value x × follows at.value y
+  Knows at seat (Waiting n x) = (at.serving ≤ n) × (n < at.next) × (at.owner n ≡ seat) × follows at.value x
+  Knows at seat (Holding n x) =
+      (n ≡ at.serving) × (n < at.next) × (at.owner n ≡ seat) × (at.out ≡ true) × (at.value ≡ x)
+  Knows at seat Spent = Unit {0}
+
+  pub record Stands (at : Standing T) (views : List (View T)) : Type 0 where
+    pub order : at.serving ≤ at.next
+    pub sound : holds at.value
+    pub held : at.out ≡ true → get_elem? views (at.owner at.serving) ≡ maybe.some (Holding at.serving at.value)
+    pub knows : (seat : ℕ) (view : View T) → get_elem? views seat ≡ maybe.some view → Knows at seat view
+
+  pub record IsKept (s : State (Option T) (View T)) : Type 0 where
+    pub at : Standing T
+    pub words : s.words ≡ at.serving ∷ at.next ∷ []
+    pub homes : s.homes ≡ slot at.out at.value ∷ []
+    pub stands : Stands at s.views

@@ -1,0 +1,36 @@
+//! A ticket lock whose seats remember what they saw.
+//!
+//! A thread uses the lock by a seat. A seat remembers the last value that it saw under the lock, and each value that
+//! it is given later follows that one, by an order of the value's own ([`Keeps`]).
+//!
+//! The lock has two words: `next` is the ticket that is drawn next, and `serving` the one that is served. They change
+//! in six kinds of step alone, each a function of its own:
+//!
+//! - a *draw* is a compare-exchange on `next`, by which an idle seat gets a ticket;
+//! - a *look* is a load of `serving`, by which an idle seat learns it, and a seat with that ticket takes the value out;
+//! - a *try* is a compare-exchange on `next`, which draws the ticket that is served, and takes the value out at once;
+//! - a *release* is a store to `serving`, by which a holder puts the value home;
+//! - a *split* makes two seats of one, and a *join* one of two.
+//!
+//! A thread that waits looks a few times, and then sleeps until a release wakes it. Nothing is proved of how long it
+//! waits, nor that it is served.
+#![tactic(auto)]
+
+mod calls;
+mod errors;
+mod held;
+mod keeps;
+mod lock;
+mod order;
+mod seat;
+mod steps;
+mod view;
+
+pub use errors::{NoMemory, TryFault, Worn};
+pub use held::Held;
+pub use keeps::Keeps;
+pub use lock::{LAST_TICKET, TicketLock};
+pub use seat::Seat;
+
+#[cfg(test)]
+mod tests;

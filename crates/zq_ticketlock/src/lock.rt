@@ -1,0 +1,82 @@
+ghost use Rattle.std.specs.Prelude.{◌≡◌, Some, [], ◌∷◌};
+
+use crate::errors::NoMemory;
+use crate::keeps::Keeps;
+use crate::order::{Opening, TicketOrder};
+use crate::seat::Seat;
+use crate::view::View;
+use atomic_table::{Refused, Table};
+use std::alloc::Global;
+use std::snapshot::Snapshot;
+use std::sync::atomic::AtomicU64;
+
+/// The last value of both words, at which no ticket is drawn: there the lock is worn.
+pub const LAST_TICKET: u64 = 4_611_686_018_427_387_904;
+
+/// The word that says which ticket is served.
+pub(crate) const SERVING: usize = 0;
+
+/// The word that says which ticket is drawn next.
+pub(crate) const NEXT: usize = 1;
+
+/// A lock that serves its seats in the order in which they drew their tickets.
+#[derive(Drop)]
+pub struct TicketLock<T: Keeps> {
+    pub(crate) table: Table<Option<T>, View<T>, Opening<T>, TicketOrder, Global>,
+    // How many threads may be asleep. It saves a lock that nobody waits for the call that wakes.
+    pub(crate) sleepers: AtomicU64,
+    ghost sized: { (table.shared.table_id.words ≡ 2) × (table.shared.table_id.slots ≡ 1) },
+}
+
+impl<T: Keeps> TicketLock<T> {
+    ghost use Rattle.std.specs.Prelude.{◌≡◌, ◌≤◌, Some, IfOk, IfErr};
+    ghost use Rattle.zq_ticketlock.specs.Seats.{id_of, lock_of, seen, served};
+
+    /// A lock over the value, with its first seat, which has seen the value. Want of memory gives the value back.
+    pub fn new(alloc: Global, value: T) -> Result<(TicketLock<T>, Seat<T>), (NoMemory, T)>
+        requires { T.holds value }
+        ensures lock { IfOk result (λ made. lock_of made.1 ≡ id_of made.0) }
+        ensures seen { IfOk result (λ made. seen made.1 ≡ Some value) }
+        ensures served { IfOk result (λ made. served made.1 ≡ 0) }
+        ensures refused { IfErr result (λ e. e.1 ≡ value) }
+    {
+        TicketLock::new_at(alloc, value, 0)
+    }
+
+    /// The same, and the first ticket that is drawn has this number. At [`LAST_TICKET`] none is drawn.
+    pub fn new_at(
+        alloc: Global,
+        value: T,
+        ticket: u64,
+    ) -> Result<(TicketLock<T>, Seat<T>), (NoMemory, T)>
+        requires holds { T.holds value }
+        requires in_range { ticket ≤ LAST_TICKET }
+        ensures lock { IfOk result (λ made. lock_of made.1 ≡ id_of made.0) }
+        ensures seen { IfOk result (λ made. seen made.1 ≡ Some value) }
+        ensures served { IfOk result (λ made. served made.1 ≡ ticket) }
+        ensures refused { IfErr result (λ e. e.1 ≡ value) }
+    {
+        let Ok(mut slots) = Vec::with_capacity(alloc, 1) else {
+            return Err((NoMemory, value));
+        };
+        let opening = (Snapshot::of(&value), ticket);
+        slots.push_reserved(Some(value));
+        match Table::new(alloc, &[ticket, ticket], slots, &opening) {
+            Ok((table, place)) => {
+                let sleepers = AtomicU64::new(0);
+                Ok((TicketLock { table, sleepers }, Seat { place }))
+            }
+            Err(Refused { slots }) => Err((NoMemory, only(slots))),
+        }
+    }
+}
+
+// The one value of a table that was not made.
+fn only<T>(mut slots: Vec<Option<T>>) -> T
+    requires { (x : T) × (slots.items ≡ Some x ∷ []) }
+    ensures { slots.items ≡ Some result ∷ [] }
+{
+    let value = slots.pop().unwrap().unwrap();
+    slots.destroy_empty();
+    value
+}

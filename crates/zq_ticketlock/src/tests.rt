@@ -1,0 +1,102 @@
+mod numbers;
+mod pushing;
+
+ghost use Rattle.std.specs.Prelude.{◌≡◌, IfOk};
+ghost use Rattle.zq_ticketlock.specs.Seats.{id_of, lock_of};
+
+use crate::{LAST_TICKET, Seat, TicketLock, TryFault, Worn};
+use numbers::{Numbers, lock_after_both, lock_after_join};
+use pushing::{holds_while_asked, push, push_in_four, push_in_two, try_push};
+use std::alloc::Global;
+use std::process::Abort;
+use std::test::Fail;
+
+// A lock over an empty list, with its first seat.
+fn opened(alloc: Global) -> Result<(TicketLock<Numbers>, Seat<Numbers>), Fail>
+    ensures { IfOk result (λ made. lock_of made.1 ≡ id_of made.0) }
+{
+    match TicketLock::new(alloc, Numbers::new(alloc)) {
+        Ok(made) => Ok(made),
+        Err(_) => Err(Fail::from("memory")),
+    }
+}
+
+// The thousand numbers from this one on stand there in their order.
+fn in_order(numbers: &[u64], from: u64) -> bool {
+    let end = from.wrapping_add(1000);
+    let mut next = from;
+    for number in numbers {
+        if *number >= from && *number < end {
+            if *number != next {
+                return false;
+            }
+            next = next.wrapping_add(1);
+        }
+    }
+    next == end
+}
+
+#[test]
+fn two_threads_push_in_their_order(rt: HostRuntime) -> Result<(), Fail> {
+    let (lock, seat) = opened(rt.alloc())?;
+    let (first, second) = push_in_two(&rt, &lock, seat, 0, 1000).ok_or("memory or tickets")?;
+    let held = match lock_after_join(&rt, &lock, first, second) {
+        Ok(held) => held,
+        Err(_) => return Err(Fail::from("worn")),
+    };
+    let numbers = held.value().as_slice();
+    assert_eq!(rt; numbers.len(), 2000);
+    assert!(rt; in_order(numbers, 0) && in_order(numbers, 1000));
+    lock.unlock(held);
+    Ok(())
+}
+
+#[test]
+fn a_seat_finds_another_busy(rt: HostRuntime) -> Result<(), Fail> {
+    let (lock, seat) = opened(rt.alloc())?;
+    let (first, second) = lock.split(seat);
+    let (fault, first, second) = holds_while_asked(&rt, &lock, first, second, 7).ok_or("worn")?;
+    assert_eq!(rt; fault, Some(TryFault::Busy));
+    let second = try_push(&lock, second, 8).ok().ok_or("busy")?;
+    let (held, _second) = match lock_after_both(&rt, &lock, first, second) {
+        Ok(both) => both,
+        Err(_) => return Err(Fail::from("worn")),
+    };
+    assert_eq!(rt; held.value().as_slice(), [7, 8].as_slice());
+    lock.unlock(held);
+    Ok(())
+}
+
+#[test]
+fn a_lock_is_worn_after_its_last_ticket(rt: HostRuntime) -> Result<(), Fail> {
+    let (lock, seat) = match TicketLock::new_at(
+        rt.alloc(),
+        Numbers::new(rt.alloc()),
+        LAST_TICKET - 1,
+    ) {
+        Ok(made) => made,
+        Err(_) => return Err(Fail::from("memory")),
+    };
+    let seat = push(&rt, &lock, seat, 1).ok().ok_or("worn")?;
+    let Err((Worn, seat)) = push(&rt, &lock, seat, 2) else {
+        panic!(rt; "a ticket was left")
+    };
+    let Err((fault, _seat)) = try_push(&lock, seat, 2) else {
+        panic!(rt; "a ticket was left")
+    };
+    assert_eq!(rt; fault, TryFault::Worn);
+    Ok(())
+}
+
+#[test]
+fn four_threads_lock_a_thousand_times(rt: HostRuntime) -> Result<(), Fail> {
+    let (lock, seat) = opened(rt.alloc())?;
+    let (first, second) = push_in_four(&rt, &lock, seat, 250).ok_or("memory or tickets")?;
+    let held = match lock_after_join(&rt, &lock, first, second) {
+        Ok(held) => held,
+        Err(_) => return Err(Fail::from("worn")),
+    };
+    assert_eq!(rt; held.value().as_slice().len(), 1000);
+    lock.unlock(held);
+    Ok(())
+}
