@@ -5,9 +5,8 @@
 mod mutex;
 mod ticket;
 
-use std::env;
-use std::io;
 use std::time::{Duration, Instant};
+use std::{env, io};
 
 fn main(rt: HostRuntime) -> io::Result<()> {
     let words = env::args(&rt)?.collect::<Vec<String>>(rt.alloc())?;
@@ -26,7 +25,10 @@ fn main(rt: HostRuntime) -> io::Result<()> {
         let theirs = began.elapsed(&rt)?;
         let done = threads as u64 * count as u64;
         let (ours, theirs) = (rate(done, ours), rate(done, theirs));
-        println!(rt; "{threads} threads: ticket lock {ours} a second, mutex {theirs} a second, {}% of it", percent(ours, theirs))?;
+        println!(rt;
+            "{threads} threads: ticket lock {ours} a second, mutex {theirs} a second, {}% of it",
+            percent(ours, theirs)
+        )?;
     }
     Ok(())
 }

@@ -8,11 +8,7 @@ pub fn contend<R: Threads + Wait + Sync>(rt: &R, threads: u32, count: u32) {
         1 => one(rt, &total, count),
         2 => two(rt, &total, count),
         _ => {
-            join(
-                rt,
-                || two(rt, &total, count),
-                || two(rt, &total, count),
-            );
+            join(rt, || two(rt, &total, count), || two(rt, &total, count));
         }
     }
 }

@@ -1,0 +1,3 @@
+mod Dense
+pub mod Again
+mod Answered

@@ -1,0 +1,4 @@
+pub mod Version
+pub mod Spelling
+pub mod Reading
+pub mod Answer

@@ -1,0 +1,14 @@
+pub mod Lists
+pub mod Linked
+pub mod Ordered
+pub mod Sifting
+pub mod Scored
+pub mod Moving
+pub mod Entries
+pub mod Dropped
+pub mod Removal
+pub mod DropLast
+pub mod InRange
+pub mod Tops
+pub mod Listed
+pub mod Counts

@@ -1,0 +1,90 @@
+-- The first place of a heap has the first of its pairs.
+use Rattle.std.specs.Prelude.{Bool, List, None, Option, Some, Vec, [], cond, false, get_or, option_map, slice_get, true, ℤ, suc, zero, ℕ, ◌∷◌, ◌≡◌, ◌≢◌}
+use Rattle.std.proofs.Common.{ap, arith, refl, subst, sym, true≢false, ◌∙◌}
+use Rattle.std.proofs.ByRecursion.{All-get_or}
+use Rattle.std.proofs.HeapSift.{greatest}
+use Rattle.std.proofs.lemmas.List.{length-map}
+use Rattle.std.proofs.lemmas.Option.{none-some, same_Some, slice_get-map, slice_get_within}
+use Rattle.std.specs.BinaryHeap.{IsHeap, lt_by_cmp}
+use Rattle.std.specs.FinMap.{IsAntisymmetric, get, int_cmp-IsAntisymmetric}
+use Rattle.std.specs.Map.{keys_of, lookup, values_of}
+use Rattle.std.specs.Ordering.{int_cmp, is_lt, nat_cmp, ordering_reverse, ordering_then}
+use Rattle.std.specs.Cmp.Lexicographic.{same_text, slice_cmp}
+use Rattle.std.specs.declared.cmp.Ordering.TheVariants.{Equal, Greater, Less}
+use Rattle.zq_posheap.proofs.Entries.{bytes_antisymmetric, get-scores, has_text, score_is, scores_in}
+use Rattle.zq_posheap.proofs.Linked.{some_eq}
+use Rattle.zq_posheap.proofs.Ordered.{scored_total, turned_total}
+use Rattle.zq_posheap.proofs.Scored.{scored_there, text_there}
+use Rattle.zq_posheap.specs.First.{IsFirst}
+use Rattle.zq_posheap.specs.Order.{Scored, scored_at, scored_cmp, scored_slots, texts_of, turned_cmp}
+use Rattle.zq_posheap.specs.Places.{IsLinked}
+use Rattle.zq_posheap.specs.Scores.{Scores}
+use Rattle.zq_posheap.specs.declared.heap.Place.{Place}
+use Rattle.zq_posheap.specs.declared.heap.Slot.{Slot}
+
+-- pairs that tie are one
+pub scored_antisymmetric : IsAntisymmetric scored_cmp
+scored_antisymmetric x y tied =
+    elim (int_cmp x.0 y.0) as (λ r. int_cmp x.0 y.0 ≡ r → ordering_then r (slice_cmp nat_cmp x.1 y.1) ≡ Equal → x ≡ y) [
+      | Less ↦ λ p e. absurd (true≢false (ap is_lt e))
+      | Equal ↦ λ p e k. (int_cmp-IsAntisymmetric x.0 y.0 p k, bytes_antisymmetric x.1 y.1 e k)
+      | Greater ↦ λ p e. absurd (true≢false (ap is_lt (ap ordering_reverse e)))
+    ] refl tied
+
+-- a pair that is not after another, and is not it, is before it
+pub before : (x y : Scored) → is_lt (scored_cmp y x) ≡ false → y ≢ x → scored_cmp x y ≡ Less
+before x y after apart =
+    elim (scored_cmp x y) as (λ r. scored_cmp x y ≡ r → r ≡ Less) [
+      | Less ↦ λ e. refl
+      | Equal ↦ λ e. absurd (apart (sym (scored_antisymmetric x y e)))
+      | Greater ↦ λ e. absurd (true≢false (sym (ap is_lt (scored_total.antisymm y x ∙ ap ordering_reverse e)) ∙ after))
+    ] refl
+
+-- what is first of one map is first of its equal
+pub same_first : (m m' : Scores) (x y : ℤ) (a b : List ℕ) → m ≡ m' → x ≡ y → a ≡ b → IsFirst m (x, a) → IsFirst m' (y, b)
+same_first m m' x y a b p q r first = subst (λ (t : Scores × ℤ × List ℕ). IsFirst t.0 (t.1, t.2)) (λ k. (p k, q k, r k)) first
+
+-- where a look-up found its value
+pub found_by : {K X : Type 0} (test : K → Bool) (es : List (K × X)) (w : X) → lookup test es ≡ Some w →
+    (i : ℕ) × (k : K) × (slice_get es i ≡ Some (k, w)) × (test k ≡ true)
+found_by test [] w is = absurd (none-some w is)
+found_by {K} {X} test (e ∷ es) w is = by (test e.0) refl is (λ later. found_by test es w later)
+  where
+    by : (b : Bool) → test e.0 ≡ b → cond b (Some e.1) (lookup test es) ≡ Some w →
+        (lookup test es ≡ Some w → (i : ℕ) × (k : K) × (slice_get es i ≡ Some (k, w)) × (test k ≡ true)) →
+        (i : ℕ) × (k : K) × (slice_get (e ∷ es) i ≡ Some (k, w)) × (test k ≡ true)
+    by true p q later = (zero, e.0, (λ j. Some (e.0, same_Some e.1 w q j)), p)
+    by false p q later = let rest = later q in (suc rest.0, rest.1, rest.2, rest.3)
+
+pub option_map_some : {X Y : Type 0} (f : X → Y) (o : Option X) (y : Y) → option_map f o ≡ Some y → (x : X) × (o ≡ Some x) × (f x ≡ y)
+option_map_some f None y e = absurd (none-some y e)
+option_map_some f (Some x) y e = (x, refl, same_Some (f x) y e)
+
+module _ {Z : Type 0} (es : List (Vec ℕ Z × Place)) (slots : List Slot) (linked : IsLinked slots (values_of es))
+    (ordered : IsHeap turned_cmp (scored_slots (texts_of (keys_of es)) slots)) where
+  -- a pair that the scores have stands at a place
+  pub stands : (pair : Scored) → get (scores_in es) pair.1 ≡ Some pair.0 → (p : ℕ) × (x : Slot) × (slice_get slots p ≡ Some x) × (scored_at (texts_of (keys_of es)) x ≡ pair)
+  stands pair has =
+      let w = option_map_some (λ v. v.score) (lookup (has_text pair.1) es) pair.0 (sym (get-scores es pair.1) ∙ has) in
+      let e = found_by (has_text pair.1) es w.0 w.1 in
+      let here = linked.found e.0 w.0 (slice_get-map (λ x. x.1) es e.0 ∙ ap (option_map (λ x. x.1)) e.2) in
+      (w.0.position, _, here, λ k. (w.2 k, (sym (text_there es e.0 e.1 w.0 e.2) ∙ sym (same_text pair.1 e.1.items (sym e.3))) k))
+
+  pub first_is : (first : Slot) (key : Vec ℕ Z) (w : Place) → slice_get slots 0 ≡ Some first → slice_get es first.index ≡ Some (key, w) →
+      lookup (has_text key.items) es ≡ Some w → IsFirst (scores_in es) (first.score, key.items)
+  first_is first key w at_top entry found =
+      let queue = scored_slots (texts_of (keys_of es)) slots in
+      let place = sym (slice_get-map (λ x. x.1) es first.index ∙ ap (option_map (λ x. x.1)) entry) ∙ linked.known 0 first at_top in
+      let score : w.score ≡ first.score = ap (λ v. v.score) (some_eq place) in
+      let top : Scored = scored_at (texts_of (keys_of es)) first in
+      let is : top ≡ (first.score, key.items) = λ k. (first.score, sym (text_there es first.index key w entry) k) in
+      let bound = greatest turned_total queue top (sym (scored_there (texts_of (keys_of es)) slots 0 first top at_top)) ordered in
+      record {
+        there = score_is es key.items w (sym found) ∙ ap (λ s. Some s) score;
+        before = λ pair has apart.
+            let at = stands pair has in
+            let within = slice_get_within slots at.0 at.1 at.2 in
+            let after = All-get_or (λ y. lt_by_cmp turned_cmp top y ≡ false) queue at.0 top (omega (arith, within, length-map slots (scored_at (texts_of (keys_of es))))) bound in
+            let there : get_or queue at.0 top ≡ pair = scored_there (texts_of (keys_of es)) slots at.0 at.1 top at.2 ∙ at.3 in
+            before (first.score, key.items) pair ((λ k. is_lt (scored_cmp (sym there k) (sym is k))) ∙ after) apart;
+      }

@@ -1,0 +1,6 @@
+pub mod Places
+pub mod Order
+pub mod Moves
+pub mod Scores
+pub mod First
+pub mod InOrder

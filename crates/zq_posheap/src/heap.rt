@@ -1,0 +1,160 @@
+//! The heap and the map under a `PosHeap`, whose places know each other.
+ghost use Rattle.std.specs.Prelude.{Some, length, slice_get, slice_index_or, slice_set, [], ◌+◌, ◌*◌, ◌<◌, ◌≤◌, ◌≡◌, ◌≢◌, swap};
+ghost use Rattle.indexmap.specs.IndexMap.{index_map_len, keys, values};
+ghost use Rattle.std.specs.BinaryHeap.{IsHeap, lt_by_cmp};
+ghost use Rattle.std.specs.BinaryHeap.Sift.{ComparesAt, IsGreaterChild, IsHeapWithHole};
+ghost use Rattle.std.specs.Slice.Heapsort.{IsNotBelowChildren};
+ghost use Rattle.zq_posheap.specs.Moves.{IsLinkedHeap, OnlyMoves, queue_of};
+ghost use Rattle.zq_posheap.specs.Order.{texts_of, turned_cmp};
+
+use indexmap::IndexMap;
+use std::cmp::Ordering;
+use std::hash::BuildHasher;
+
+/// A place of the heap: a score, and the index in the map of the member that has it.
+#[derive(Clone, Copy, Drop)]
+pub(crate) struct Slot {
+    pub(crate) score: i128,
+    pub(crate) index: usize,
+}
+
+/// What the map keeps of a member: its score, and its place in the heap.
+#[derive(Clone, Copy, Drop)]
+pub(crate) struct Place {
+    pub(crate) score: i128,
+    pub(crate) position: usize,
+}
+
+/// The heap beside the map.
+#[derive(Drop)]
+pub(crate) struct Heap<S: BuildHasher + Drop> {
+    pub(crate) slots: Vec<Slot>,
+    pub(crate) places: IndexMap<Vec<u8>, Place, S>,
+}
+
+/// Notes where a member now stands in the heap.
+fn set_position<S: BuildHasher + Drop>(
+    places: &mut IndexMap<Vec<u8>, Place, S>,
+    index: usize,
+    position: usize,
+)
+    requires { index < index_map_len places.old }
+    ensures members { keys places.new ≡ keys places.old }
+    ensures noted { (w : Place) → slice_get (values places.old) index ≡ Some w →
+        values places.new ≡ slice_set (values places.old) index (record { score = w.score; position = position }) }
+{
+    places[index].position = position;
+}
+
+impl<S: BuildHasher + Drop> Heap<S> {
+    /// Exchanges two places of the heap.
+    pub(crate) fn swap(&mut self, a: usize, b: usize)
+        requires linked { IsLinkedHeap self.old }
+        requires a_within { a < length self.old.slots.items }
+        requires b_within { b < length self.old.slots.items }
+        requires apart { a ≢ b }
+        ensures slots { self.new.slots.items ≡ swap self.old.slots.items a b }
+        ensures queue { queue_of self.new ≡ swap (queue_of self.old) a b }
+        ensures moves { OnlyMoves self.old self.new }
+    {
+        let (x, y) = (self.slots[a], self.slots[b]);
+        self.slots.swap(a, b);
+        set_position(&mut self.places, x.index, b);
+        set_position(&mut self.places, y.index, a);
+    }
+
+    /// The member at an index of the map.
+    fn member(&self, index: usize) -> &[u8]
+        requires { index < index_map_len self.now.places }
+        ensures { result.now ≡ slice_index_or (texts_of (keys self.now.places)) index [] }
+    {
+        match self.places.get_index(index) {
+            Some((member, _)) => member.as_slice(),
+            None => &[],
+        }
+    }
+
+    /// Whether the place `a` goes before the place `b`.
+    fn is_before(&self, a: usize, b: usize) -> bool
+        requires linked { IsLinkedHeap self.now }
+        requires a_within { a < length self.now.slots.items }
+        requires b_within { b < length self.now.slots.items }
+        ensures { ComparesAt turned_cmp (queue_of self.now) b a result }
+    {
+        let (x, y) = (self.slots[a], self.slots[b]);
+        match x.score.cmp(&y.score) {
+            Ordering::Less => true,
+            Ordering::Greater => false,
+            Ordering::Equal => self.member(x.index).cmp(self.member(y.index)).is_lt(),
+        }
+    }
+
+    /// The child of a place that goes before the other.
+    fn first_child(&self, place: usize) -> usize
+        requires linked { IsLinkedHeap self.now }
+        requires has_child { place * 2 + 1 < length self.now.slots.items }
+        ensures from { place * 2 + 1 ≤ result }
+        ensures to { result ≤ place * 2 + 2 }
+        ensures within { result < length self.now.slots.items }
+        ensures first { IsGreaterChild turned_cmp (queue_of self.now) place result (length self.now.slots.items) }
+    {
+        let left = place * 2 + 1;
+        if left + 1 < self.slots.len() && !self.is_before(left, left + 1) {
+            left + 1
+        } else {
+            left
+        }
+    }
+
+    /// Moves what is at a place down while a child goes before it, and answers where it comes to.
+    fn sink(&mut self, mut place: usize) -> usize
+        requires linked { IsLinkedHeap self.old }
+        requires within { place < length self.old.slots.items }
+        requires hole { IsHeapWithHole (lt_by_cmp turned_cmp) (queue_of self.old) place (length self.old.slots.items) }
+        ensures moves { OnlyMoves self.old self.new }
+        ensures still_within { result < length self.new.slots.items }
+        ensures hole_moved { IsHeapWithHole (lt_by_cmp turned_cmp) (queue_of self.new) result (length self.new.slots.items) }
+        ensures over_children { IsNotBelowChildren (lt_by_cmp turned_cmp) (queue_of self.new) result result (length self.new.slots.items) }
+    {
+        while place < self.slots.len() / 2 {
+            let child = self.first_child(place);
+            if !self.is_before(child, place) {
+                return place;
+            }
+            self.swap(place, child);
+            place = child;
+        }
+        place
+    }
+
+    /// Moves what is at a place up while it goes before its parent.
+    fn rise(&mut self, mut place: usize)
+        requires linked { IsLinkedHeap self.old }
+        requires within { place < length self.old.slots.items }
+        requires hole { IsHeapWithHole (lt_by_cmp turned_cmp) (queue_of self.old) place (length self.old.slots.items) }
+        requires over_children { IsNotBelowChildren (lt_by_cmp turned_cmp) (queue_of self.old) place place (length self.old.slots.items) }
+        ensures moves { OnlyMoves self.old self.new }
+        ensures heap { IsHeap turned_cmp (queue_of self.new) }
+    {
+        while place > 0 {
+            let parent = (place - 1) / 2;
+            if !self.is_before(place, parent) {
+                return;
+            }
+            self.swap(parent, place);
+            place = parent;
+        }
+    }
+
+    /// Moves what is at a place, where all else is in order, to where it belongs.
+    pub(crate) fn settle(&mut self, place: usize)
+        requires linked { IsLinkedHeap self.old }
+        requires within { place < length self.old.slots.items }
+        requires hole { IsHeapWithHole (lt_by_cmp turned_cmp) (queue_of self.old) place (length self.old.slots.items) }
+        ensures moves { OnlyMoves self.old self.new }
+        ensures heap { IsHeap turned_cmp (queue_of self.new) }
+    {
+        let place = self.sink(place);
+        self.rise(place);
+    }
+}

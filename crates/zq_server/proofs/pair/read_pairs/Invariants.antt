@@ -1,0 +1,10 @@
+use Rattle.std.proofs.Common.{map, length}
+use Rattle.zq_server.specs.Shown.{views, pair_shown}
+use Rattle.zq_server.proofs.Pairs.{ReadsOn}
+use Rattle.zq_server.proofs.pair.read_pairs.Given as goal
+
+abbrev pub invariant-loop-rest : goal.invariant-loop-rest
+invariant-loop-rest l = ReadsOn (views l.words) (map pair_shown l.pairs.items) (views l.rest)
+
+abbrev pub decreases-loop-rest : goal.decreases-loop-rest
+decreases-loop-rest l = length l.rest

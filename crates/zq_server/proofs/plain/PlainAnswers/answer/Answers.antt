@@ -1,0 +1,16 @@
+use Rattle.std.proofs.Common.{subst, sym}
+use Rattle.zq_resp.specs.Reply.{reply_bytes}
+use Rattle.zq_server.proofs.Limits.{within_limits}
+use Rattle.zq_server.proofs.Refusing.{refusal_runs}
+use Rattle.zq_server.specs.Command.{command_of}
+use Rattle.zq_server.specs.Plan.{RunsReading}
+use Rattle.zq_server.proofs.plain.PlainAnswers.answer.Goals as goal
+
+pub run-requires : goal.run-requires
+run-requires c = within_limits c.args.request.now c.in-Ok.command c.words-limits.ensures.limits.limits.each c.words-limits.ensures.limits.limits.count c.in-Ok.ensures
+
+pub returns-in-Ok-clause-related : goal.returns-in-Ok-clause-related
+returns-in-Ok-clause-related c = subst (λ r. RunsReading c.args.self.now r c.run.new.self (reply_bytes c.run.result)) (sym c.in-Ok.ensures) c.run.ensures.ran
+
+pub returns-in-Err-clause-related : goal.returns-in-Err-clause-related
+returns-in-Err-clause-related c = refusal_runs c.in-Err.refused (command_of c.args.request.now) c.args.self.now _ c.in-Err.ensures c.reply.ensures.bytes

@@ -1,0 +1,12 @@
+use Rattle.std.proofs.Common.{◌≡◌, ℕ, List, Some}
+use Rattle.std.specs.Io.KnownBytes.{Appends, Consumes}
+use Rattle.zq_server.proofs.Served.{Stands}
+use Rattle.zq_server.proofs.stream.serve_all.Given as goal
+
+abbrev pub invariant-loop : goal.invariant-loop
+invariant-loop g l =
+    (text written had : List ℕ)
+    × Consumes (g.R.Read.remaining l.initial.reader) (g.R.Read.remaining l.reader) text
+    × Appends (g.W.Write.contents l.initial.writer) (g.W.Write.contents l.writer) written
+    × (l.input ≡ Some had)
+    × Stands g.A.Answers.answers l.initial.answerer l.answerer text written had

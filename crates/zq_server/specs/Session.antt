@@ -1,0 +1,75 @@
+-- What a session answers to a text.
+use Rattle.std.specs.Prelude.{◌≡◌, ◌≢◌, ◌⊎◌, ℕ, List, [], ◌∷◌, ◌++◌, codes, Option, Some, Result, Ok, Err}
+use Rattle.std.specs.Io.KnownBytes.{IsAtEnd}
+use Rattle.std.specs.declared.alloc.AllocError.{AllocError}
+use Rattle.zq_resp.specs.declared.reply.Reply.{Reply}
+use Rattle.zq_resp.specs.declared.fault.FeedFault.{FeedFault}
+use Rattle.zq_resp.specs.Front.{Wrong}
+use Rattle.zq_resp.specs.Grammar.{request_at}
+use Rattle.zq_resp.specs.Reply.{all_bytes}
+use Rattle.zq_resp.specs.Stream.{Requests, Reaches, Splits, Breaks, handed}
+use Rattle.zq_server.specs.declared.serving.Served.{Served}
+use Rattle.zq_server.specs.declared.serving.Served.TheVariants.{More, Broken}
+use Rattle.zq_server.specs.declared.outcome.End.{End}
+use Rattle.zq_server.specs.declared.outcome.End.TheVariants.{Clean, Inside, Protocol}
+use Rattle.zq_server.specs.declared.outcome.SessionFault.{SessionFault}
+use Rattle.zq_server.specs.declared.outcome.SessionFault.TheVariants.{Read, Write, NoMemory}
+
+abbrev pub status_of : Result End SessionFault → ℕ
+status_of (Ok Clean) = 0
+status_of (Ok Inside) = 2
+status_of (Ok Protocol) = 2
+status_of (Err fault) = 4
+
+-- how states answer: the state before, the request, the reply, the state after
+abbrev pub Relation : Type 0 → Type 1
+Relation S = S → List (List ℕ) → Reply → S → Type 0
+
+-- The requests are answered one after the other.
+abbrev pub Runs : {S : Type 0} → Relation S → S → Requests → List Reply → S → Type 0
+Runs answers old [] [] new = old ≡ new
+Runs {S} answers old (request ∷ requests) (reply ∷ replies) new = (mid : S) × answers old request reply mid × Runs answers mid requests replies new
+Runs answers old [] (reply ∷ replies) new = ⊥
+Runs answers old (request ∷ requests) [] new = ⊥
+
+-- The bytes are the replies to all the requests.
+abbrev pub IsAnswered : {S : Type 0} → Relation S → S → S → Requests → List ℕ → Type 0
+IsAnswered answers old new requests bytes = (replies : List Reply) × Runs answers old requests replies new × (bytes ≡ all_bytes replies)
+
+-- what is written where the input breaks the protocol
+abbrev pub closing : List ℕ
+closing = codes "-ERR Protocol error\r\n"
+
+-- The bytes are the replies to all the requests, and the closing words.
+abbrev pub IsClosed : {S : Type 0} → Relation S → S → S → Requests → List ℕ → Type 0
+IsClosed answers old new requests bytes = (replies : List ℕ) × IsAnswered answers old new requests replies × (bytes ≡ replies ++ closing)
+
+-- The bytes are the front of the replies to the first of the requests.
+abbrev pub IsBegun : {S : Type 0} → Relation S → S → S → Requests → List ℕ → Type 0
+IsBegun answers old new requests bytes =
+    (first others : Requests) × (unwritten : List ℕ) × (requests ≡ first ++ others) × IsAnswered answers old new first (bytes ++ unwritten)
+
+-- The bytes are the front of what the text is owed.
+abbrev pub IsOwed : {S : Type 0} → Relation S → S → S → List ℕ → List ℕ → Type 0
+IsOwed answers old new text bytes =
+    ((all : Requests) × (rest : List ℕ) × Reaches text all rest × IsBegun answers old new (handed all) bytes)
+    ⊎ ((all : Requests) × (why : FeedFault) × (unwritten : List ℕ) × Breaks text all why × IsClosed answers old new (handed all) (bytes ++ unwritten))
+
+-- What was written for the text that was read, by how the session ended.
+abbrev pub Serves : {S : Type 0} → Relation S → S → S → List ℕ → List ℕ → Result End SessionFault → Type 0
+Serves answers old new text bytes (Ok Clean) = (all : Requests) × Splits text all [] × IsAnswered answers old new (handed all) bytes
+Serves answers old new text bytes (Ok Inside) =
+    (all : Requests) × (rest : List ℕ) × Splits text all rest × (rest ≢ []) × IsAnswered answers old new (handed all) bytes
+Serves answers old new text bytes (Ok Protocol) =
+    (all : Requests) × (why : FeedFault) × Breaks text all why × IsClosed answers old new (handed all) bytes
+Serves answers old new text bytes (Err Read) =
+    (all : Requests) × (rest : List ℕ) × Splits text all rest × IsAnswered answers old new (handed all) bytes
+Serves answers old new text bytes (Err Write) = IsOwed answers old new text bytes
+Serves answers old new text bytes (Err NoMemory) = IsOwed answers old new text bytes
+
+-- An end that is no fault of the protocol comes where the reader has no more.
+abbrev pub IsReadOff : Result End SessionFault → Option (List ℕ) → Type 0
+IsReadOff (Ok Clean) remaining = IsAtEnd remaining
+IsReadOff (Ok Inside) remaining = IsAtEnd remaining
+IsReadOff (Ok Protocol) remaining = Unit {0}
+IsReadOff (Err fault) remaining = Unit {0}
