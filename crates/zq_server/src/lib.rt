@@ -8,6 +8,8 @@ mod number;
 mod outcome;
 mod pair;
 mod plain;
+#[cfg(test)]
+mod plain_tests;
 mod refused;
 mod replies;
 mod serving;

@@ -186,7 +186,7 @@ fn a_command_is_read_without_regard_to_case(rt: HostRuntime) -> Result<(), Fail>
     let Ok(command) = Command::read(rt.alloc(), &request) else {
         return Err("refused".into());
     };
-    let Kind::Zadd(key, pairs) = command.kind() else {
+    let Kind::Zadd(key, pairs) = &command.kind else {
         return Err("another command".into());
     };
     assert_eq!(rt; *key, b"q".as_slice());

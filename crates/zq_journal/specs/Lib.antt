@@ -1,0 +1,5 @@
+pub mod Codes
+pub mod Books
+pub mod Records
+pub mod BookView
+pub mod Answers
