@@ -249,3 +249,27 @@ found-filter keep s low high (p ∷ items) r =
       | inl same ↦ kept-filter_at keep s high p items r.2 same ∙ ap (kept keep s) (sym (found-here s p items same))
       | inr other ↦ kept-filter_past keep s p items other ∙ (found-filter keep s (p.0 + 1) high items r.2 ∙ ap (kept keep s) (sym (found-past s p items other)))
     ]
+
+-- ---- the values of a list with a place for each site
+
+-- the values that stand, each with its site, of sites from s on
+abbrev pub sparse_from : {X : Type 0} → ℕ → List (Option X) → List (ℕ × X)
+sparse_from s [] = []
+sparse_from s (None ∷ places) = sparse_from (s + 1) places
+sparse_from s (Some x ∷ places) = (s, x) ∷ sparse_from (s + 1) places
+
+abbrev as_it_is : {X : Type 0} → Option X → Option X
+as_it_is value = value
+
+sparse-spread : {X : Type 0} (n a high : ℕ) (items : List (ℕ × X)) → a + n ≡ high → IsRising a high items → sparse_from a (spread as_it_is a n items) ≡ items
+sparse-spread zero a high items e r = sym (rising-none a high items (omega arith) r)
+sparse-spread (suc n) a high items e r =
+    elim (spread-step as_it_is a n high items r) [
+      | Here x rest is rising front ↦ ap (sparse_from a) front ∙ (ap (λ xs. (a, x) ∷ xs) (sparse-spread n (a + 1) high rest (omega arith) rising) ∙ sym is)
+      | Later rising front ↦ ap (sparse_from a) front ∙ sparse-spread n (a + 1) high items (omega arith) rising
+    ]
+
+-- rising lists of which the same is found at each site are one
+pub rising-same : {X : Type 0} (xs ys : List (ℕ × X)) → IsRising 0 SITES xs → IsRising 0 SITES ys → by_site (λ s. found s xs) ≡ by_site (λ s. found s ys) → xs ≡ ys
+rising-same xs ys r q h =
+    sym (sparse-spread SITES 0 SITES xs (omega arith) r) ∙ (ap (sparse_from 0) h ∙ sparse-spread SITES 0 SITES ys (omega arith) q)

@@ -1,16 +1,17 @@
 -- Sums that are not 0, and a place for each site's sum.
 
-use Rattle.std.proofs.Common.{inl, inr, ap, arith, cond, get_or, length, sym, take, lit≤, zero, suc, ◌∙◌, ◌≡◌, ◌≢◌, false}
+use Rattle.std.proofs.Common.{inl, inr, refl, ap, arith, cond, get_or, length, sym, take, lit≤, zero, suc, ◌∙◌, ◌≡◌, ◌≢◌, false}
 use Rattle.std.proofs.Math.Nat.{mul-le-mul_right}
 use Rattle.std.proofs.Math.IntN.{+ℤ_assoc}
 use Rattle.std.proofs.lemmas.Int.{ints}
-use Rattle.std.proofs.lemmas.Bool.{cases_Bool}
-use Rattle.std.proofs.lemmas.Bool.Decides.{Decides-int_eq}
+use Rattle.std.proofs.lemmas.Bool.{and_parts, cases_Bool}
+use Rattle.std.proofs.lemmas.Bool.Decides.{Decides-eqb, Decides-int_eq}
 use Rattle.std.specs.Int.{w128}
 use mir.Val.{SFits}
 use Rattle.std.specs.List.{AllByRecursion}
+use Rattle.std.specs.Bool.{Decides}
 use Rattle.std.specs.Ordering.{int_eq}
-use Rattle.std.specs.Prelude.{List, Option, [], map, pos, unwrap_or, ℕ, ℤ, ◌*◌, ◌+◌, ◌+ℤ◌, ◌<◌, ◌≤◌, ◌∷◌}
+use Rattle.std.specs.Prelude.{List, Option, [], ◌&&◌, ◌==◌, map, pos, unwrap_or, ℕ, ℤ, ◌*◌, ◌+◌, ◌+ℤ◌, ◌<◌, ◌≤◌, ◌∷◌}
 use Rattle.zq_model.specs.Operation.{IsWithin, MOST}
 use Rattle.zq_model.specs.Score.{total}
 use Rattle.zq_model.specs.Sets.{SITES}
@@ -100,3 +101,12 @@ value-within x t h k = (omega (arith, ints), omega (arith, ints))
 
 pub value-fits : (x : ℤ) → IsWithin (MOST + SITES * MOST_SUM) x → SFits w128 x
 value-fits x h = omega (arith, ints, few_sites)
+
+-- a site with its sum is compared by both
+pub Decides-pair : (p q : ℕ × ℤ) → Decides ((p.0 == q.0) && int_eq p.1 q.1) (p ≡ q)
+Decides-pair p q = (
+  λ both.
+      let parts = and_parts (p.0 == q.0) (int_eq p.1 q.1) both in
+      ap (λ s. (s, p.1)) ((Decides-eqb p.0 q.0).0 parts.0) ∙ ap (λ x. (q.0, x)) ((Decides-int_eq p.1 q.1).0 parts.1),
+  λ same. rw (same, (Decides-eqb q.0 q.0).1 refl, (Decides-int_eq q.1 q.1).1 refl) refl,
+)

@@ -1,4 +1,4 @@
-ghost use Rattle.std.specs.Prelude.{◌≡◌, ◌+◌, ◌*◌, IfOk};
+ghost use Rattle.std.specs.Prelude.{◌≡◌, ◌+◌, ◌*◌, ◌↔◌, IfOk, IsTrue};
 ghost use Rattle.zq_model.specs.Operation.{IsWithin, MOST};
 ghost use Rattle.zq_model.specs.Score.{value_of};
 ghost use Rattle.zq_model.specs.Sets as sets;
@@ -70,6 +70,13 @@ impl Addition {
         ensures within { IsWithin (MOST + sets.SITES * MOST_SUM) result }
     {
         i128::from(self.score.value()) + self.sums.total()
+    }
+
+    /// Whether this is the same addition.
+    pub(crate) fn same(&self, other: &Addition) -> bool
+        ensures { IsTrue result ↔ (self.now ≡ other.now) }
+    {
+        self.dot == other.dot && self.score == other.score && self.sums.same(&other.sums)
     }
 
     /// The same addition.

@@ -1,4 +1,4 @@
-ghost use Rattle.std.specs.Prelude.{◌≡◌, ◌+◌, ◌*◌, ℕ, false, IfOk, IfSome, OnErr, OnOk, is_none};
+ghost use Rattle.std.specs.Prelude.{◌≡◌, ◌+◌, ◌*◌, ◌↔◌, ℕ, false, IfOk, IfSome, IsTrue, OnErr, OnOk, is_none};
 ghost use Rattle.zq_model.specs.Operation.{Drop as ActDrop, IsWithin, MOST, Put};
 ghost use Rattle.zq_model.specs.Image as model;
 ghost use Rattle.zq_model.specs.Rule.{Greatest};
@@ -87,6 +87,13 @@ impl Entry {
         self.additions.iter().map(Addition::value).max()
     }
 
+    /// Whether this is the same entry: the same additions at the same sites.
+    pub fn same(&self, other: &Entry) -> bool
+        ensures { IsTrue result ↔ (self.now ≡ other.now) }
+    {
+        are_same(&self.additions, &other.additions)
+    }
+
     /// The same entry, or an error where there is no memory for it.
     pub fn copy(&self, alloc: Global) -> Result<Entry, AllocError>
         ensures { IfOk result (λ copy. copy ≡ self.now) }
@@ -97,4 +104,19 @@ impl Entry {
         }
         Ok(Entry { additions })
     }
+}
+
+/// Whether these are the same additions in the same order.
+fn are_same(mine: &[Addition], theirs: &[Addition]) -> bool
+    ensures { IsTrue result ↔ (mine.now ≡ theirs.now) }
+{
+    if mine.len() != theirs.len() {
+        return false;
+    }
+    for (addition, other) in mine.iter().zip(theirs) {
+        if !addition.same(other) {
+            return false;
+        }
+    }
+    true
 }

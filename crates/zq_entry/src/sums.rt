@@ -1,4 +1,4 @@
-ghost use Rattle.std.specs.Prelude.{◌≡◌, ◌*◌, IfOk, pos};
+ghost use Rattle.std.specs.Prelude.{◌≡◌, ◌*◌, ◌↔◌, IfOk, IsTrue, pos};
 ghost use Rattle.zq_model.specs.Operation.{IsWithin};
 ghost use Rattle.zq_model.specs.Score.{total};
 ghost use Rattle.zq_model.specs.Sets as sets;
@@ -54,6 +54,13 @@ impl Sums {
             total += *sum;
         }
         total
+    }
+
+    /// Whether these are the same sums.
+    pub fn same(&self, other: &Sums) -> bool
+        ensures { IsTrue result ↔ (self.now ≡ other.now) }
+    {
+        self.items == other.items
     }
 
     /// The same sums.

@@ -70,7 +70,10 @@ fn a_copy_stands_alone(rt: HostRuntime) -> Result<(), Fail> {
     let alloc = rt.alloc();
     let mut entry = apart(alloc)?;
     let copy = entry.copy(alloc)?;
-    entry.drop_seen(&seen(1, 1)?);
+    assert!(rt; copy.same(&entry));
+    entry.drop_seen(&seen(0, 1)?);
+    assert!(rt; !copy.same(&entry));
+    assert!(rt; !entry.same(&copy));
     assert_eq!(rt; copy.score(), Some(9));
     Ok(())
 }
