@@ -90,7 +90,8 @@ fn a_request_is_its_words(rt: HostRuntime) -> Result<(), Fail> {
     Ok(())
 }
 
-// A count and a length take no memory before their bytes come: this passes where each allocation is refused.
+// A count and a length take no memory before their bytes come: tools/headers-take-no-memory runs this with the first
+// allocation refused.
 #[test]
 fn a_declared_count_takes_no_memory(rt: HostRuntime) -> Result<(), Fail> {
     let mut reader = Reader::new();
