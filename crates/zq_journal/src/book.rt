@@ -1,5 +1,5 @@
 ghost use Rattle.std.specs.List.{All};
-ghost use Rattle.std.specs.Prelude.{◌≡◌, ◌≢◌, ◌≤◌, ◌<◌, ◌↔◌, ◌⊎◌, IfOk, IsErrOf, List, OnErr, OnOk, false, length, map, not, slice_index, true};
+ghost use Rattle.std.specs.Prelude.{◌≡◌, ◌≢◌, ◌≤◌, ◌<◌, ◌↔◌, ◌⊎◌, IfOk, IsErrOf, IsTrue, List, OnErr, OnOk, false, length, map, not, slice_index, true};
 ghost use Rattle.zq_dots.specs.Act.{act_of};
 ghost use Rattle.zq_dots.specs.Placed.{IsSound, LONGEST};
 ghost use Rattle.zq_history.specs.Books.{IsBook, Made, is_change_over, operations_of, recorded, touched};
@@ -18,7 +18,7 @@ ghost use Rattle.zq_shard.specs.Taken.{answer_of};
 use crate::faults::TakeFault;
 use crate::records::{Change, Record};
 use crate::since::Since;
-use crate::tail::missing;
+use crate::tail::{missing, replay};
 use std::alloc::{AllocError, Global};
 use std::marker::Model;
 use zq_dots::{Act, Op, SiteNo, Vector, heap_of};
@@ -212,6 +212,18 @@ impl Book {
             return Ok(Since::TooOld);
         }
         Ok(Since::Ops(missing(alloc, &self.tail, vector)?))
+    }
+
+    /// Whether the records, replayed from a copy of the base, lead to the state.
+    ///
+    /// The replay is done in fact: it is a check against a fault of the memory, or of the compiler
+    /// that built this. What a book keeps says that the answer is always true, so a body that
+    /// answered so without a replay would meet the contract as well. `Err` where the copy or a
+    /// growth was refused.
+    pub fn audit(&self, alloc: Global) -> Result<bool, AllocError>
+        ensures { IfOk result (λ sound. IsTrue sound) }
+    {
+        Ok(replay(alloc, &self.base, &self.tail)?.same(&self.state))
     }
 
     /// The next operation of a site, where a record of it can be counted.

@@ -1,9 +1,12 @@
-ghost use Rattle.std.specs.Prelude.{◌≡◌, IfOk};
-ghost use Rattle.zq_journal.specs.Records.{missing_of};
+ghost use Rattle.std.specs.List.{All};
+ghost use Rattle.std.specs.Prelude.{◌≡◌, IfOk, map};
+ghost use Rattle.zq_history.specs.Books.{replayed};
+ghost use Rattle.zq_journal.specs.Records.{IsRecordable, missing_of, placed_in, record_of};
 
 use crate::records::Record;
 use std::alloc::{AllocError, Global};
 use zq_dots::{Op, Vector};
+use zq_shard::Shard;
 
 /// The operations of the records that the vector lacks.
 pub(crate) fn missing(
@@ -21,4 +24,18 @@ pub(crate) fn missing(
         }
     }
     Ok(ops)
+}
+
+/// The heap that the records lead to from this base. Where memory is short nothing is made.
+pub(crate) fn replay(alloc: Global, base: &Shard, tail: &[Record]) -> Result<Shard, AllocError>
+    requires { All (λ r. IsRecordable base.now (placed_in r.what)) tail.now }
+    ensures heap { IfOk result (λ shard. shard.heap ≡ base.now.heap) }
+    ensures heaps { IfOk result (λ shard. shard.heaps ≡ base.now.heaps) }
+    ensures image { IfOk result (λ shard. shard.image ≡ replayed (map record_of tail.now) base.now.image) }
+{
+    let mut shard = base.copy(alloc)?;
+    for record in tail {
+        shard.put_in(alloc, record.what.op())?;
+    }
+    Ok(shard)
 }

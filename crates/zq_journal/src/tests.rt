@@ -77,3 +77,23 @@ fn a_book_records_what_is_new(rt: HostRuntime) -> Result<(), Fail> {
     assert_eq!(rt; there.state().count(b"q"), 0);
     Ok(())
 }
+
+#[test]
+#[tactic(auto, unfolding(crate::specs::Books::LAST_STAMP))]
+fn a_book_with_records_of_both_kinds_is_sound(rt: HostRuntime) -> Result<(), Fail> {
+    let alloc = rt.alloc();
+    let mut shard = Shard::new(alloc, 0, 1);
+    shard.make(alloc, site()?, b"q", b"x", Act::Put(score(1)?))?;
+    let mut elsewhere = shard.copy(alloc)?;
+    let other = SiteNo::new(1).ok_or("a site")?;
+    let addition = elsewhere.make(alloc, other, b"q", b"y", Act::Put(score(2)?))?;
+    let mut book = Book::new(alloc, shard)?;
+    assert!(rt; book.audit(alloc)?);
+    book.make(alloc, site()?, 1, b"q", b"x", Act::Drop)?;
+    assert_eq!(rt; take(&mut book, alloc, &addition)?, Taken::New);
+    let stamp = book.stamp();
+    book.make(alloc, site()?, stamp, b"q", b"y", Act::Put(score(3)?))?;
+    assert_eq!(rt; book.tail().len(), 3);
+    assert!(rt; book.audit(alloc)?);
+    Ok(())
+}

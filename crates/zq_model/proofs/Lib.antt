@@ -25,6 +25,7 @@ pub mod NewOperation
 pub mod Outcomes
 pub mod Places
 pub mod Preferred
+pub mod Queued
 pub mod Rising
 pub mod Same
 pub mod SetTests

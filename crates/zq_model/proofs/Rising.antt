@@ -20,7 +20,7 @@ scored_exact = exact_pairs int_cmp (slice_cmp nat_cmp) exact_signed exact_bytes
 not_both_below : (x y : Scored) → scored_cmp x y ≡ Less → scored_cmp y x ≡ Less → ⊥
 not_both_below x y below above = let turned = scored_total.antisymm x y in cc
 
-not_below_itself : (x : Scored) → scored_cmp x x ≡ Less → ⊥
+pub not_below_itself : (x : Scored) → scored_cmp x x ≡ Less → ⊥
 not_below_itself x below = let tied = tied_itself scored_total x in cc
 
 same_first : (x y : Scored) (q r : List Scored) → IsRising (x ∷ q) → IsRising (y ∷ r) → IsIn x (y ∷ r) → IsIn y (x ∷ q) → x ≡ y
@@ -46,7 +46,7 @@ rising_one (x ∷ q) (y ∷ r) a b forth back =
 
 -- ---- the keys of a set
 
-is_true : (b : Bool) → T b → b ≡ true
+pub is_true : (b : Bool) → T b → b ≡ true
 is_true true holds = refl
 is_true false holds = absurd holds
 

@@ -1,14 +1,13 @@
 -- Maps of the code with bytes for keys, read at bytes.
 
-use Rattle.std.proofs.Common.{Bool, List, None, Option, Some, Vec, [], ap, cond, false, refl, subst, sym, true, ℕ, ◌∙◌, ◌∷◌, ◌≡◌}
+use Rattle.std.proofs.Common.{Bool, List, Option, Some, Vec, [], ap, cond, false, refl, sym, true, ℕ, ◌∙◌, ◌∷◌, ◌≡◌}
 use Rattle.std.specs.BTreeMap.{is_at}
 use Rattle.std.specs.FinMap.{find}
 use Rattle.std.specs.Map.{AreApart, IsKeyTest, KeepsOthers, lookup, set_value}
 use Rattle.std.specs.Ordering.{eq_by_cmp}
 use Rattle.std.specs.declared.alloc.Global.{Global}
 use Rattle.std.specs.declared.cmp.Ordering.{Ordering}
-use Rattle.zq_model.proofs.Maps.{key_same, same_key}
-use Rattle.std.proofs.lemmas.Cmp.{nat_list_cmp_total}
+use Rattle.zq_model.proofs.Maps.{same_key}
 use Rattle.std.proofs.lemmas.Map.Lookups.{exact_bytes}
 use Rattle.std.proofs.lemmas.Map.Steps.{set_value_same}
 use Rattle.zq_shard.specs.Queue.{by_bytes, bytes_cmp}

@@ -6,3 +6,7 @@ pub mod Counts
 pub mod SetSteps
 pub mod Runs
 pub mod Copies
+pub mod EmptyQueues
+pub mod SameMaps
+pub mod QueueLengths
+pub mod Meant

@@ -1,12 +1,11 @@
 -- A step of a key's entries.
 
-use Rattle.std.proofs.Common.{arith, length, ◌↔◌, Err, Ok, Result, ap₂, map, ℤ, Bool, List, None, Option, Some, Vec, [], ap, cond, false, refl, subst, sym, true, true≢false, unwrap_or, ℕ, ◌∙◌, ◌∷◌, ◌≡◌}
+use Rattle.std.proofs.Common.{arith, length, ◌↔◌, Err, Ok, Result, ap₂, map, ℤ, List, None, Option, Some, Vec, [], ap, cond, false, refl, subst, sym, true, unwrap_or, ℕ, ◌∙◌, ◌∷◌, ◌≡◌}
 use Rattle.std.proofs.lemmas.Cmp.{nat_list_cmp_total}
 use Rattle.std.proofs.lemmas.Map.Lookups.{exact_bytes}
 use Rattle.std.specs.FinMap.{empty, find, get, get-empty, get-from_entries, get-insert, get-remove, insert, remove, same_map}
 use Rattle.std.specs.Ordering.{eq_by_cmp}
-use Rattle.std.specs.Map.{KeepsOthers, lookup, set_value}
-use Rattle.std.proofs.lemmas.Map.Steps.{set_value_same}
+use Rattle.std.specs.Map.{KeepsOthers, lookup}
 use Rattle.std.specs.List.{range_with_len}
 use Rattle.zq_model.specs.Rule.{Greatest}
 use Rattle.zq_model.specs.Score.{score_of}
@@ -16,7 +15,7 @@ use Rattle.std.specs.declared.alloc.Global.{Global}
 use Rattle.zq_model.proofs.Entries.{addition_at-no_additions, is_bare-no_additions}
 use Rattle.zq_model.proofs.Sites.{by_site-same}
 use Rattle.zq_model.specs.Entry.{Addition, without}
-use Rattle.zq_model.specs.Image.{Entry, addition_at, entry_after, is_bare, no_additions, unless_bare}
+use Rattle.zq_model.specs.Image.{Entry, entry_after, is_bare, no_additions, unless_bare}
 use Rattle.std.specs.Prelude.{OnErr, OnOk}
 use Rattle.zq_model.proofs.Maps.{key_same}
 use Rattle.zq_model.specs.Operation.{Drop, Operation, Put}

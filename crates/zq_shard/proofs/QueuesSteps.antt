@@ -1,6 +1,6 @@
 -- A step of the members of a heap.
 
-use Rattle.std.proofs.Common.{Bool, Equal, Greater, Less, List, None, Option, Ordering, Some, Vec, [], ap, ap₂, cond, false, map, refl, subst, sym, true, unwrap_or, ℕ, ◌&&◌, ◌++◌, ◌||◌, ◌∙◌, ◌∷◌, ◌≡◌}
+use Rattle.std.proofs.Common.{Bool, Equal, Greater, Less, List, None, Option, Ordering, Some, Vec, [], ap, ap₂, cond, false, map, refl, sym, true, unwrap_or, ℕ, ◌&&◌, ◌||◌, ◌∙◌, ◌∷◌, ◌≡◌}
 use Rattle.std.proofs.lemmas.Bool.{or_parts}
 use Rattle.std.proofs.lemmas.Cmp.{nat_list_cmp_total}
 use Rattle.std.proofs.lemmas.List.Folds.{list_any-append}
@@ -12,11 +12,11 @@ use Rattle.std.specs.Ordering.{eq_by_cmp, is_eq, ordering_then}
 use Rattle.std.specs.declared.alloc.Global.{Global}
 use Rattle.zq_model.proofs.Entries.{get-put_entry}
 use Rattle.zq_model.proofs.Maps.{get-map_on_all, get_without, place_exact, place_total, same_key}
-use Rattle.zq_model.specs.Image.{Entry, Members, Place, entry_after, entry_at, no_additions, place_cmp, place_of, unless_bare}
+use Rattle.zq_model.specs.Image.{Entry, Place, entry_after, entry_at, no_additions, place_cmp, place_of, unless_bare}
 use Rattle.zq_model.specs.Operation.{Operation}
 use Rattle.zq_shard.proofs.ByBytes.{at, found, updated, vec_cmp}
 use Rattle.zq_shard.proofs.QueueSteps.{get-set_entry}
-use Rattle.zq_shard.specs.Queue.{Entries, by_bytes, bytes_cmp, entries_after, entry_in, set_entry}
+use Rattle.zq_shard.specs.Queue.{Entries, by_bytes, bytes_cmp, entries_after, entry_in}
 use Rattle.zq_shard.specs.Queues.{members_after, members_in, members_of, places_of, queue_in}
 
 both_equal : (r s : Ordering) → is_eq (ordering_then r s) ≡ (is_eq r && is_eq s)

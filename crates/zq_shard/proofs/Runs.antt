@@ -1,6 +1,6 @@
 -- What every run of one heap keeps.
 
-use Rattle.std.proofs.Common.{Bool, List, None, Option, Some, [], ap, arith, cond, eq-eqb, eqb-true, true≢false, false, get_or, inl, inr, ltb-true, refl, slice_index, subst, suc, sym, true, ℕ, ◌++◌, ◌+◌, ◌<◌, ◌==◌, ◌∙◌, ◌∷◌, ◌≡◌, ◌≤◌, nat_lt, ◌&&◌}
+use Rattle.std.proofs.Common.{List, None, Some, [], ap, arith, cond, eq-eqb, eqb-true, true≢false, false, inl, inr, ltb-true, refl, slice_index, subst, sym, true, ℕ, ◌++◌, ◌<◌, ◌==◌, ◌∙◌, ◌∷◌, ◌≡◌, ◌≤◌, nat_lt, ◌&&◌}
 use Rattle.std.proofs.lemmas.Bool.{and_parts}
 use Rattle.zq_model.proofs.Dots.{last_above}
 use Rattle.zq_model.proofs.JoinImages.{image_of-nothing}
@@ -12,7 +12,7 @@ use Rattle.zq_model.proofs.StepImages.{image_of-step}
 use Rattle.zq_model.proofs.Taken.{taking_new}
 use Rattle.zq_model.proofs.Worlds.{at_some, vector_is, world_part}
 use Rattle.zq_model.specs.Heaps.{heap_of}
-use Rattle.zq_model.specs.Image.{Image, empty_image, image_after, image_of}
+use Rattle.zq_model.specs.Image.{Image, image_after, image_of}
 use Rattle.zq_model.specs.Operation.{Act, IsAct, Operation}
 use Rattle.zq_model.specs.Sets.{AreSame, Early, IsClosed, IsHeaps, IsIn, IsMade, IsNew, IsOperation, IsVector, IsWorld, Known, LAST, New, SITES, Taken, at, last, taken_of, vector_of}
 use Rattle.zq_shard.specs.Runs.{AreEvents, Deliver, Event, IsEvent, Make, Sites, after_delivery, after_making, next_of, run, set_when, start, step, with_at}

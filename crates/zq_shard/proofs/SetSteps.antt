@@ -1,17 +1,16 @@
 -- A heap that holds the image of a closed set, and one more operation.
 
-use Rattle.std.proofs.Common.{List, ap, inl, inr, refl, subst, sym, ⊎_elim, ◌∙◌, ◌∷◌, ◌≡◌, ℕ}
+use Rattle.std.proofs.Common.{List, ap, inl, inr, subst, sym, ◌∙◌, ◌∷◌, ◌≡◌}
 use Rattle.zq_dots.specs.Placed.{IsSound, Placed}
 use Rattle.zq_model.proofs.Made.{making_closed, making_image, making_world}
-use Rattle.zq_model.proofs.NewOperation.{closed_after, new_has_seen, world_rest}
+use Rattle.zq_model.proofs.NewOperation.{closed_after, new_has_seen}
 use Rattle.zq_model.proofs.Same.{image_of-same}
 use Rattle.zq_model.proofs.StepImages.{image_of-step}
 use Rattle.zq_model.proofs.Taken.{known_here, taken_known, taking_new}
 use Rattle.zq_model.proofs.Worlds.{vector_is}
-use Rattle.zq_model.specs.Heaps.{heap_of}
-use Rattle.zq_model.specs.Image.{Image, image_after, image_of}
+use Rattle.zq_model.specs.Image.{image_after, image_of}
 use Rattle.zq_model.specs.Operation.{Operation}
-use Rattle.zq_model.specs.Sets.{AreSame, IsClosed, IsHeaps, IsIn, IsMade, IsNew, IsVector, IsWorld, Known, New, taken_of, vector_of}
+use Rattle.zq_model.specs.Sets.{AreSame, IsHeaps, IsIn, IsMade, IsNew, IsVector, IsWorld, Known, New, taken_of, vector_of}
 use Rattle.zq_shard.specs.Shard.{HeapImage, HoldsImage, IsOfHeap}
 
 made : (s : HeapImage) (p : Placed) (S : List Operation) → IsSound p → IsOfHeap s p → p.operation.seen ≡ s.image.vector → HoldsImage s S → IsMade s.heaps S p.operation

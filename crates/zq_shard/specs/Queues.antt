@@ -1,10 +1,9 @@
 -- The keys of a heap with the entries of their members.
 
-use Rattle.std.specs.FinMap.{empty, find, get, keys, len}
-use Rattle.std.specs.Prelude.{List, None, Option, Some, Vec, flat_map, map, unwrap_or, ℕ, ◌<◌, ◌≡◌}
+use Rattle.std.specs.FinMap.{empty, find, get, keys}
+use Rattle.std.specs.Prelude.{List, Some, Vec, flat_map, map, unwrap_or, ℕ, ◌≡◌, ◌≢◌}
 use Rattle.std.specs.declared.alloc.Global.{Global}
-use Rattle.zq_model.specs.Entry.{Addition}
-use Rattle.zq_model.specs.Image.{Entry, Members, Place, entry_after, entry_at, map_on, place_cmp, place_of, put_entry}
+use Rattle.zq_model.specs.Image.{Members, Place, entry_after, entry_at, map_on, place_cmp, place_of, put_entry}
 use Rattle.zq_model.specs.Operation.{Operation}
 use Rattle.zq_shard.specs.Queue.{Entries, by_bytes, bytes_cmp}
 
@@ -26,7 +25,7 @@ members_of pairs = members_in (by_bytes pairs)
 
 -- a key without members is not there
 abbrev pub NoneIsEmpty : List (List ℕ × Entries) → Type 0
-NoneIsEmpty queues = (key : List ℕ) (entries : Entries) → find bytes_cmp key queues ≡ Some entries → 0 < len entries
+NoneIsEmpty queues = (key : List ℕ) (entries : Entries) → find bytes_cmp key queues ≡ Some entries → entries ≢ empty
 
 -- the members of one key with their entries
 abbrev pub entries_at : Members → List ℕ → Entries

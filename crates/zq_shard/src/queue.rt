@@ -1,9 +1,12 @@
-ghost use Rattle.std.specs.Prelude.{◌≡◌, ◌↔◌, IfOk, IsTrue, OnErr, OnOk, false, ◌<◌, ◌^◌};
+ghost use Rattle.std.specs.Prelude.{◌≡◌, ◌↔◌, ◌∷◌, [], List, length, ℕ, IfOk, IsTrue, OnErr, OnOk, false, ◌<◌, ◌^◌};
 ghost use Rattle.std.specs.FinMap as map;
+ghost use Rattle.zq_model.specs.Image.{Members};
 ghost use Rattle.zq_model.specs.Operation.{Put as ActPut, Drop as ActDrop};
+ghost use Rattle.zq_model.specs.Queue.{queue_of};
 ghost use Rattle.zq_model.specs.Rule.{Greatest};
 ghost use Rattle.zq_model.specs.Score.{score_of};
 ghost use Rattle.zq_shard.specs.Queue.{entries_after, entries_of, entry_in, is_bump};
+ghost use Rattle.zq_shard.specs.Queues.{entries_at};
 
 use std::alloc::{AllocError, Global};
 use std::collections::BTreeMap;
@@ -50,6 +53,7 @@ impl Queue {
     /// The number of members.
     pub fn len(&self) -> usize
         ensures number { result ≡ map.len self.now }
+        ensures queue { (members : Members) (key : List ℕ) → entries_at members key ≡ self.now → result ≡ length (queue_of Greatest key (members ∷ [])) }
         ensures small { result < 2 ^ 63 }
     {
         self.entries.len()
@@ -72,6 +76,17 @@ impl Queue {
         Ok(Queue {
             entries: copy(&self.entries, alloc)?,
         })
+    }
+
+    /// Whether it has the same members with the same entries.
+    pub fn same(&self, other: &Queue) -> bool
+        ensures { IsTrue result ↔ (self.now ≡ other.now) }
+    {
+        let (mine, theirs) = (self.entries.iter(), other.entries.iter());
+        self.entries.len() == other.entries.len()
+            && mine.zip(theirs).all(|((member, entry), (their_member, their_entry))| {
+                member == their_member && entry.same(their_entry)
+            })
     }
 
     /// Takes a new Put or Drop on one of its members. A Drop is never refused.

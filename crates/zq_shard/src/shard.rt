@@ -1,10 +1,12 @@
-ghost use Rattle.std.specs.Prelude.{◌≡◌, ◌≢◌, ◌≤◌, ◌<◌, ◌↔◌, ◌∷◌, IfErr, IfOk, IsOk, IsErrOf, IsTrue, List, [], OnErr, OnOk, length, slice_index, false, ◌^◌};
+ghost use Rattle.std.specs.Prelude.{◌≡◌, ◌≢◌, ◌≤◌, ◌<◌, ◌↔◌, ◌∷◌, IfErr, IfOk, IsOk, IsErrOf, IsTrue, List, [], OnErr, OnOk, length, slice_index, false, ◌^◌, ℤ};
 ghost use Rattle.std.specs.FinMap as map;
 ghost use Rattle.zq_dots.specs.Act.{act_of};
 ghost use Rattle.zq_dots.specs.Placed.{IsSound, LONGEST};
 ghost use Rattle.zq_model.specs.Heaps as place;
 ghost use Rattle.zq_model.specs.Image.{empty_image, entry_at, image_after, image_of};
+ghost use Rattle.zq_model.specs.Meaning.{IsLive, IsQueue, IsScore, Scored};
 ghost use Rattle.zq_model.specs.Operation.{Operation};
+ghost use Rattle.zq_model.specs.Queue.{queue_of};
 ghost use Rattle.zq_model.specs.Rule.{Greatest};
 ghost use Rattle.zq_model.specs.Score.{score_of};
 ghost use Rattle.zq_model.specs.Sets as sets;
@@ -86,9 +88,13 @@ impl Shard {
     }
 
     /// The score of a member of a key: the greatest value of its live additions, and `None` where
-    /// it has none.
+    /// it has none, as each member of another heap.
     pub fn score(&self, key: &[u8], member: &[u8]) -> Option<i128>
-        ensures { result ≡ score_of Greatest (entry_at self.now.image.members (key.now, member.now)) }
+        ensures image { result ≡ score_of Greatest (entry_at self.now.image.members (key.now, member.now)) }
+        ensures meant { (S : List Operation) (x : ℤ) → HoldsImage self.now S →
+            (result ≡ Some x) ↔ ((place.heap_of key.now member.now self.now.heaps ≡ self.now.heap) × IsScore Greatest S key.now member.now x) }
+        ensures absent { (S : List Operation) → HoldsImage self.now S →
+            (result ≡ None) ↔ (place.heap_of key.now member.now self.now.heaps ≡ self.now.heap → (p : Operation) → IsLive S key.now member.now p → ⊥) }
     {
         self.queues.score(key, member)
     }
@@ -96,6 +102,9 @@ impl Shard {
     /// The number of members of a key.
     pub fn count(&self, key: &[u8]) -> usize
         ensures number { result ≡ map.len (entries_at self.now.image.members key.now) }
+        ensures queue { result ≡ length (queue_of Greatest key.now (self.now.image.members ∷ [])) }
+        ensures meant { (S : List Operation) (q : List Scored) → HoldsImage self.now S →
+            IsQueue Greatest self.now.heaps S key.now (self.now.heap ∷ []) q → result ≡ length q }
         ensures small { result < 2 ^ 63 }
     {
         self.queues.count(key)
@@ -111,6 +120,17 @@ impl Shard {
             vector: self.vector,
             queues: self.queues.copy(alloc)?,
         })
+    }
+
+    /// Whether it is the same heap, of as many heaps, with an equal vector and the same members with
+    /// the same additions.
+    pub fn same(&self, other: &Shard) -> bool
+        ensures { IsTrue result ↔ (self.now ≡ other.now) }
+    {
+        self.vector == other.vector
+            && self.heap == other.heap
+            && self.heaps == other.heaps
+            && self.queues.same(&other.queues)
     }
 
     /// The next operation of a site, which is not yet taken. The act is a Put or a Drop.

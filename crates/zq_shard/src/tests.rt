@@ -101,3 +101,34 @@ fn a_copy_goes_on_alone(rt: HostRuntime) -> Result<(), Fail> {
     assert_eq!(rt; (copy.count(b"q"), shard.count(b"q")), (1, 2));
     Ok(())
 }
+
+#[test]
+fn a_copy_is_the_same_until_one_of_them_changes(rt: HostRuntime) -> Result<(), Fail> {
+    let alloc = rt.alloc();
+    let mut shard = Shard::new(alloc, 0, 1);
+    put(&mut shard, alloc, 0, b"x", 3)?;
+    let mut copy = shard.copy(alloc)?;
+    assert!(rt; copy.same(&shard));
+    let addition = put(&mut shard, alloc, 1, b"x", 3)?;
+    assert!(rt; !copy.same(&shard));
+    assert_eq!(rt; take(&mut copy, alloc, &addition)?, Taken::New);
+    assert!(rt; copy.same(&shard));
+    assert!(rt; !Shard::new(alloc, 0, 1).same(&Shard::new(alloc, 0, 2)));
+    assert!(rt; !Shard::new(alloc, 0, 2).same(&Shard::new(alloc, 1, 2)));
+    Ok(())
+}
+
+#[test]
+fn a_member_that_was_put_and_dropped_leaves_no_trace_but_in_the_vector(
+    rt: HostRuntime,
+) -> Result<(), Fail> {
+    let alloc = rt.alloc();
+    let (mut a, mut b) = (Shard::new(alloc, 0, 1), Shard::new(alloc, 0, 1));
+    put(&mut a, alloc, 0, b"x", 3)?;
+    a.make(alloc, site(0)?, b"q", b"x", Act::Drop)?;
+    b.make(alloc, site(0)?, b"q", b"y", Act::Drop)?;
+    assert!(rt; !a.same(&b));
+    b.make(alloc, site(0)?, b"r", b"y", Act::Drop)?;
+    assert!(rt; a.same(&b));
+    Ok(())
+}

@@ -34,6 +34,6 @@ pub returns-in-Zscore-clause-ran : goal.returns-in-Zscore-clause-ran
 returns-in-Zscore-clause-ran c =
     let s = c.args.self.now in
     let bytes = reply_bytes c.score_reply.result in
-    let read = c.score.ensures ∙ ap (λ t. plan.score_in t c.in-Zscore.key.now c.in-Zscore.member.now) c.self.view_is in
+    let read = c.score.ensures.image ∙ ap (λ t. plan.score_in t c.in-Zscore.key.now c.in-Zscore.member.now) c.self.view_is in
     subst (λ d. RunsPlan s (plan_of d s) s bytes) (ap shown (sym c.in-Zscore.is) ∙ c.command.view_is)
     (elim c.score_reply.ensures.bytes [ inl e ↦ whole refl (e ∙ ap plan.score_reply read) | inr e ↦ refused 0 (omega arith) refl e ])
