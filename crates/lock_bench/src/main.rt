@@ -4,9 +4,15 @@
 
 mod mutex;
 mod ticket;
+mod worker;
 
-use std::time::{Duration, Instant};
+use std::sync::{Mutex, Wait};
+use std::thread::Threads;
+use std::time::{Clock, Instant};
 use std::{env, io};
+use ticket::{Seated, Total};
+use worker::{Worker, contend};
+use zq_ticketlock::TicketLock;
 
 fn main(rt: HostRuntime) -> io::Result<()> {
     let words = env::args(&rt)?.collect::<Vec<String>>(rt.alloc())?;
@@ -17,14 +23,12 @@ fn main(rt: HostRuntime) -> io::Result<()> {
         return Ok(());
     };
     for threads in [1u32, 2, 4] {
-        let began = Instant::now(&rt)?;
-        ticket::contend(&rt, rt.alloc(), threads, count);
-        let ours = began.elapsed(&rt)?;
-        let began = Instant::now(&rt)?;
-        mutex::contend(&rt, threads, count);
-        let theirs = began.elapsed(&rt)?;
-        let done = threads as u64 * count as u64;
-        let (ours, theirs) = (rate(done, ours), rate(done, theirs));
+        let Ok((lock, seat)) = TicketLock::new(rt.alloc(), Total { count: 0 }) else {
+            return Ok(());
+        };
+        let ours = rate(&rt, Seated { lock: &lock, seat }, threads, count)?;
+        let total = Mutex::new(0);
+        let theirs = rate(&rt, &total, threads, count)?;
         println!(rt;
             "{threads} threads: ticket lock {ours} a second, mutex {theirs} a second, {}% of it",
             percent(ours, theirs)
@@ -33,9 +37,17 @@ fn main(rt: HostRuntime) -> io::Result<()> {
     Ok(())
 }
 
-// How many a second.
-fn rate(done: u64, time: Duration) -> u128 {
-    done as u128 * 1_000_000 / time.as_micros().max(1)
+// Lockings a second.
+fn rate<W: Worker + Send, R: Clock + Threads + Wait + Sync>(
+    rt: &R,
+    worker: W,
+    threads: u32,
+    count: u32,
+) -> io::Result<u128> {
+    let began = Instant::now(rt)?;
+    let made = contend(rt, worker, threads, count);
+    let time = began.elapsed(rt)?;
+    Ok(made as u128 * 1_000_000 / time.as_micros().max(1))
 }
 
 fn percent(part: u128, whole: u128) -> u128 {

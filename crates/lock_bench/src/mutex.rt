@@ -1,25 +1,14 @@
+use crate::worker::Worker;
 use std::sync::{Mutex, Wait};
-use std::thread::{Threads, join};
 
-// So many threads count so far each.
-pub fn contend<R: Threads + Wait + Sync>(rt: &R, threads: u32, count: u32) {
-    let total = Mutex::new(0);
-    match threads {
-        1 => one(rt, &total, count),
-        2 => two(rt, &total, count),
-        _ => {
-            join(rt, || two(rt, &total, count), || two(rt, &total, count));
-        }
-    }
-}
-
-fn two<R: Threads + Wait + Sync>(rt: &R, total: &Mutex<u64>, count: u32) {
-    join(rt, || one(rt, total, count), || one(rt, total, count));
-}
-
-fn one<R: Wait>(rt: &R, total: &Mutex<u64>, count: u32) {
-    for _ in 0..count {
-        let mut held = total.lock(rt);
+impl Worker for &Mutex<u64> {
+    fn lock_once<R: Wait>(self, rt: &R) -> Option<Self> {
+        let mut held = self.lock(rt);
         *held = held.wrapping_add(1);
+        Some(self)
+    }
+
+    fn split(self) -> (Self, Self) {
+        (self, self)
     }
 }

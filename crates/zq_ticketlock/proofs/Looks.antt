@@ -1,10 +1,10 @@
 -- The loads of `serving`, and the store to it.
 use Rattle.std.proofs.Common.{◌≡◌, ℕ, ◌+◌, ◌<◌, ◌≤◌, ◌≢◌, ◌==◌, Bool, true, false, Option, Some, None, List, [], ◌∷◌, set, refl, sym, ap, subst, ◌∙◌, arith}
 use Rattle.std.specs.Prelude.{MatchBool}
-use Rattle.std.proofs.lemmas.Bool.{eqb-true}
+use Rattle.std.proofs.lemmas.Bool.{eqb-true, false_from_ne_true}
 use mathlib.Core.Option as maybe
 use lib.ListN.{get_elem?}
-use Rattle.atomic_table.specs.Table.{State, Act, keeps, takes, gives, Valid, stepped, carried_after, Allows, step}
+use Rattle.atomic_table.specs.Table.{State, keeps, takes, gives, Allows, step}
 use Rattle.atomic_table.proofs.Lists.{set_else}
 use Rattle.zq_ticketlock.specs.declared.view.View.{View}
 use Rattle.zq_ticketlock.specs.declared.view.View.TheVariants.{Idle, Met, Waiting, Holding, Spent}
@@ -12,7 +12,7 @@ use Rattle.zq_ticketlock.specs.Views.{Sat, is_idle, is_waiting}
 use Rattle.zq_ticketlock.specs.Order.{Standing, slot, Knows, Stands, IsKept}
 use Rattle.zq_ticketlock.specs.Steps.{Looked, Arrived, Takes, Released, Settled}
 use Rattle.zq_ticketlock.proofs.Stages.{idle_seat, waiting_seat}
-use Rattle.zq_ticketlock.proofs.Standings.{at_changed, one_view, table, kept, allowed, unchanged, knows_each}
+use Rattle.zq_ticketlock.proofs.Standings.{Moves, at_changed, one_view, kept, allowed, knows_each}
 
 module _ {T : Type 0} (holds : T → Type 0) (follows : T → T → Type 0) where
   abbrev Rule : State (Option T) (View T) → Type 0
@@ -29,107 +29,92 @@ module _ {T : Type 0} (holds : T → Type 0) (follows : T → T → Type 0) wher
     knows = knows_each holds follows at at views seat w stands.knows mine (λ other apart u k. k);
   }
 
-  looks_idle : (slots seat low : ℕ) (x : T) → Allows Rule slots seat (Idle low x, []) 0 (λ n. n) (Looked (step slots 0 0 0 maybe.none) (Idle low x, []))
-  looks_idle slots seat low x = allowed holds follows slots seat (Idle low x, []) 0 (λ n. n) (Looked (step slots 0 0 0 maybe.none) (Idle low x, []))
-      (λ at views stands here. let w : View T = Idle at.serving x in let k = stands.knows seat (Idle low x) here in (
-        w,
-        keeps,
-        tt,
-        kept holds follows at (set views seat w) (other_view at views seat (Idle low x) w stands here (λ e. cc) (omega arith, k.1)),
-        refl,
-      ))
+  -- by a step that leaves the words, a seat that does not hold gets such a view
+  pub notes : (at : Standing T) (views : List (View T)) (seat word number : ℕ) (v w : View T) → Stands holds follows at views
+      → get_elem? views seat ≡ maybe.some v → v ≢ Holding at.serving at.value → Knows holds follows at seat w
+      → set (at.serving ∷ at.next ∷ []) word number ≡ at.serving ∷ at.next ∷ []
+      → Moves holds follows at views seat [] word number (λ after. after ≡ (w, []))
+  notes at views seat word number v w stands here idle mine words =
+      (w, keeps, tt, record { at = at; words = words; homes = refl; stands = other_view at views seat v w stands here idle mine }, refl)
 
   pub looks : (slots seat : ℕ) (me : Sat T) → is_idle me ≡ true → Allows Rule slots seat me 0 (λ n. n) (Looked (step slots 0 0 0 maybe.none) me)
   looks slots seat me idle =
       let is = idle_seat me idle in
-      subst (λ (m : Sat T). Allows Rule slots seat m 0 (λ n. n) (Looked (step slots 0 0 0 maybe.none) m)) (sym is.2) (looks_idle slots seat is.0 is.1)
-
-  settles_met : (slots seat low : ℕ) (x y : T) → ((z : T) → follows z z) → Allows Rule slots seat (Met low x y, []) 0 (λ n. n) (Settled follows (step slots 0 0 0 maybe.none) (Met low x y, []))
-  settles_met slots seat low x y reflexive = allowed holds follows slots seat (Met low x y, []) 0 (λ n. n) (Settled follows (step slots 0 0 0 maybe.none) (Met low x y, []))
-      (λ at views stands here. let w : View T = Idle at.serving at.value in let k = stands.knows seat (Met low x y) here in (
-        w,
-        keeps,
-        tt,
-        kept holds follows at (set views seat w) (other_view at views seat (Met low x y) w stands here (λ e. cc) (omega arith, reflexive at.value)),
-        (at.value, refl, (k.1, k.2)),
-      ))
+      let v : View T = Idle is.0 is.1 is.2 in
+      allowed holds follows slots seat me (v, []) 0 (λ n. n) (Looked (step slots 0 0 0 maybe.none)) is.3
+      (λ at views stands here. let k = stands.knows seat v here in
+      notes at views seat 0 at.serving v (Idle at.serving at.serving is.2) stands here (λ e. cc) (omega arith, stands.order, k.2) refl)
 
   pub settles : (slots seat low : ℕ) (x y : T) (me : Sat T) → me ≡ (Met low x y, []) → ((z : T) → follows z z) → Allows Rule slots seat me 0 (λ n. n) (Settled follows (step slots 0 0 0 maybe.none) me)
   settles slots seat low x y me is reflexive =
-      subst (λ (m : Sat T). Allows Rule slots seat m 0 (λ n. n) (Settled follows (step slots 0 0 0 maybe.none) m)) (sym is) (settles_met slots seat low x y reflexive)
+      let v : View T = Met low x y in
+      allowed holds follows slots seat me (v, []) 0 (λ n. n) (Settled follows (step slots 0 0 0 maybe.none)) is
+      (λ at views stands here. let k = stands.knows seat v here in
+      let m = notes at views seat 0 at.serving v (Idle at.serving at.serving at.value) stands here (λ e. cc) (omega arith, stands.order, reflexive at.value) refl in
+      (m.0, m.1, m.2, m.3, (at.value, m.4, (k.1, k.2))))
 
-  -- where the value is home, a seat takes it out by the ticket that is served
-  pub takes_out : (at : Standing T) (views : List (View T)) (seat : ℕ) (v : View T) (next : ℕ) (owner : ℕ → ℕ) → Stands holds follows at views
-      → get_elem? views seat ≡ maybe.some v → at.out ≡ false → at.next ≤ next → at.serving < next → owner at.serving ≡ seat
-      → ((n : ℕ) → n < at.next → (other : ℕ) → other ≢ seat → at.owner n ≡ other → owner n ≡ at.owner n)
-      → Stands holds follows (record { value = at.value; out = true; owner = owner; serving = at.serving; next = next }) (set views seat (Holding at.serving at.value))
-  takes_out at views seat v next owner stands here home more below mine others =
+  -- where the value is home, a seat takes it out by the ticket n that is served
+  pub takes_out : (at : Standing T) (views : List (View T)) (seat word number n : ℕ) (v : View T) (x : T) (next : ℕ) (owner : ℕ → ℕ) → Stands holds follows at views
+      → get_elem? views seat ≡ maybe.some v → (at.out ≡ true → ⊥) → at.serving ≡ n → follows at.value x
+      → set (at.serving ∷ at.next ∷ []) word number ≡ at.serving ∷ next ∷ []
+      → at.next ≤ next → at.serving < next → owner at.serving ≡ seat → ((k : ℕ) → k < at.next → at.owner k ≢ seat → owner k ≡ at.owner k)
+      → Moves holds follows at views seat [] word number (Takes follows holds n (Some x))
+  takes_out at views seat word number n v x next owner stands here home same follow words more below mine others =
+      let is_home : at.out ≡ false = false_from_ne_true at.out home in
       let after : Standing T = record { value = at.value; out = true; owner = owner; serving = at.serving; next = next } in
       let w : View T = Holding at.serving at.value in
-      let stay : (other : ℕ) → other ≢ seat → (u : View T) → Knows holds follows at other u → Knows holds follows after other u = stays in record {
+      let now : Stands holds follows after (set views seat w) = record {
         order = omega arith;
         sound = stands.sound;
         held = λ out. ap (get_elem? (set views seat w)) mine ∙ at_changed views seat v w here;
-        knows = knows_each holds follows at after views seat w stands.knows (refl, below, mine, refl, refl) stay;
-      }
-    where
-      stays : (other : ℕ) → other ≢ seat → (u : View T) → Knows holds follows at other u → Knows holds follows (record { value = at.value; out = true; owner = owner; serving = at.serving; next = next }) other u
-      stays other apart (Idle low x) k = k
-      stays other apart (Met low x y) k = k
-      stays other apart (Waiting n x) k = (k.0, (let m = k.1 in omega arith), others n k.1 other apart k.2 ∙ k.2, k.3)
-      stays other apart (Holding n x) k = absurd (let p : true ≡ false = sym k.3 ∙ home in cc)
-      stays other apart Spent k = tt
-
-  -- the value is home while the ticket that is served waits
-  waits_home : (at : Standing T) (views : List (View T)) (seat : ℕ) (x : T) → Stands holds follows at views → get_elem? views seat ≡ maybe.some (Waiting at.serving x) → (out : Bool) → at.out ≡ out → out ≡ false
-  waits_home at views seat x stands here false is = refl
-  waits_home at views seat x stands here true is =
-      let mine = (stands.knows seat (Waiting at.serving x) here).2 in
-      let e : Waiting at.serving x ≡ Holding at.serving at.value = one_view views seat (at.owner at.serving) (Waiting at.serving x) (Holding at.serving at.value) here (stands.held is) (sym mine) in absurd (cc)
-
-  arrives_waiting : (slots seat n : ℕ) (x : T) → Allows Rule slots seat (Waiting n x, []) 0 (λ k. k) (Arrived follows holds (step slots 0 0 0 maybe.none) (Waiting n x, []))
-  arrives_waiting slots seat n x = allowed holds follows slots seat (Waiting n x, []) 0 (λ k. k) (Arrived follows holds (step slots 0 0 0 maybe.none) (Waiting n x, []))
-      (λ at views stands here. turn at views stands here (at.serving == n) (eqb-true at.serving n))
-    where
-      turn : (at : Standing T) (views : List (View T)) → Stands holds follows at views → get_elem? views seat ≡ maybe.some (Waiting n x)
-          → (b : Bool) → (b ≡ true → at.serving ≡ n)
-          → (w : View T) × (a : Act (Option T)) × Valid (slot at.out at.value ∷ []) [] a × Rule (stepped (table at views) 0 at.serving seat [] w a)
-          × MatchBool b (Takes follows holds n (Some x) (w, carried_after [] a)) (let m : Sat T = (w, carried_after [] a) in m ≡ (Waiting n x, []))
-      turn at views stands here true is =
-          let same = is refl in
-          let there : get_elem? views seat ≡ maybe.some (Waiting at.serving x) = here ∙ ap (λ (m : ℕ). maybe.some (Waiting m x)) (sym same) in
-          let k = stands.knows seat (Waiting at.serving x) there in
-          let home : at.out ≡ false = let f = waits_home at views seat x stands there at.out refl in f in
-          let after : Standing T = record { value = at.value; out = true; owner = at.owner; serving = at.serving; next = at.next } in
-          let now = takes_out at views seat (Waiting at.serving x) at.next at.owner stands there home (omega arith) k.1 k.2 (λ m below other apart mine. refl) in (
-            Holding at.serving at.value,
-            takes 0 (Some at.value),
-            ap (λ (o : Bool). maybe.some (slot o at.value)) home,
-            kept holds follows after (set views seat (Holding at.serving at.value)) now,
-            (at.value, ap (λ (m : ℕ). let p : Sat T = (Holding m at.value, (0, Some at.value) ∷ []) in p) same, stands.sound, k.3),
-          )
-      turn at views stands here false is = (
-        Waiting n x,
-        keeps,
-        tt,
-        kept holds follows at (set views seat (Waiting n x)) (unchanged holds follows at views seat (Waiting n x) here stands),
-        refl,
+        knows = knows_each holds follows at after views seat w stands.knows (refl, below, mine, refl, refl) (stay is_home);
+      } in (
+        w,
+        takes 0 (Some at.value),
+        ap (λ (o : Bool). maybe.some (slot o at.value)) is_home,
+        record { at = after; words = words; homes = refl; stands = now },
+        (at.value, ap (λ (m : ℕ). let p : Sat T = (Holding m at.value, (0, Some at.value) ∷ []) in p) same, stands.sound, follow),
       )
+    where
+      stay : at.out ≡ false → (other : ℕ) → other ≢ seat → (u : View T) → Knows holds follows at other u
+          → Knows holds follows (record { value = at.value; out = true; owner = owner; serving = at.serving; next = next }) other u
+      stay is_home other apart (Idle low reached x) k = (k.0, (let come = k.1 in omega arith), k.2)
+      stay is_home other apart (Met low x y) k = k
+      stay is_home other apart (Waiting m x) k = (k.0, (let low = k.1 in omega arith), others m k.1 (λ own. apart (sym k.2 ∙ own)) ∙ k.2, k.3)
+      stay is_home other apart (Holding m x) k = absurd (let p : true ≡ false = sym k.3 ∙ is_home in cc)
+      stay is_home other apart Spent k = tt
 
   pub arrives : (slots seat n : ℕ) (me : Sat T) → is_waiting n me ≡ true → Allows Rule slots seat me 0 (λ k. k) (Arrived follows holds (step slots 0 0 0 maybe.none) me)
   arrives slots seat n me waiting =
       let is = waiting_seat n me waiting in
-      subst (λ (m : Sat T). Allows Rule slots seat m 0 (λ k. k) (Arrived follows holds (step slots 0 0 0 maybe.none) m)) (sym is.1) (arrives_waiting slots seat n is.0)
+      allowed holds follows slots seat me (Waiting n is.0, []) 0 (λ k. k) (Arrived follows holds (step slots 0 0 0 maybe.none)) is.1
+      (λ at views stands here. turn is.0 at views stands here (at.serving == n) (eqb-true at.serving n))
+    where
+      turn : (x : T) (at : Standing T) (views : List (View T)) → Stands holds follows at views → get_elem? views seat ≡ maybe.some (Waiting n x)
+          → (b : Bool) → (b ≡ true → at.serving ≡ n)
+          → Moves holds follows at views seat [] 0 at.serving (λ after. MatchBool b (Takes follows holds n (Some x) after) (after ≡ (Waiting n x, [])))
+      turn x at views stands here true is =
+          let same = is refl in
+          let k = stands.knows seat (Waiting n x) here in
+          let below : at.serving < at.next = let low = k.1 in omega arith in
+          let mine : at.owner at.serving ≡ seat = ap at.owner same ∙ k.2 in
+          let home : at.out ≡ true → ⊥ = λ out.
+          let e : Waiting n x ≡ Holding at.serving at.value = one_view views seat (at.owner at.serving) (Waiting n x) (Holding at.serving at.value) here (stands.held out) (sym mine) in cc in
+          takes_out at views seat 0 at.serving n (Waiting n x) x at.next at.owner stands here home same k.3 refl (omega arith) below mine (λ m low apart. refl)
+      turn x at views stands here false is =
+          notes at views seat 0 at.serving (Waiting n x) (Waiting n x) stands here (λ e. cc) (stands.knows seat (Waiting n x) here) refl
 
-  releases_held : (slots seat n : ℕ) (x y : T) → holds y → follows y x → ((z : T) → follows z z) → ((z u v : T) → follows z u → follows u v → follows z v)
-      → Allows Rule slots seat (Holding n x, (0, Some y) ∷ []) 0 (λ _. n + 1) (λ _. Released (step slots 0 (n + 1) 0 maybe.none) (Holding n x, (0, Some y) ∷ []) (n + 1))
-  releases_held slots seat n x y sound follow reflexive transitive = allowed holds follows slots seat (Holding n x, (0, Some y) ∷ []) 0 (λ _. n + 1) (λ _. Released (step slots 0 (n + 1) 0 maybe.none) (Holding n x, (0, Some y) ∷ []) (n + 1))
+  pub releases : (slots seat n : ℕ) (x y : T) (me : Sat T) → me ≡ (Holding n x, (0, Some y) ∷ []) → holds y → follows y x → ((z : T) → follows z z) → ((z u v : T) → follows z u → follows u v → follows z v)
+      → Allows Rule slots seat me 0 (λ _. n + 1) (λ _. Released (step slots 0 (n + 1) 0 maybe.none) me (n + 1))
+  releases slots seat n x y me is sound follow reflexive transitive =
+      let v : View T = Holding n x in
+      let w : View T = Idle (n + 1) (n + 1) y in
+      allowed holds follows slots seat me (v, (0, Some y) ∷ []) 0 (λ _. n + 1) (λ m _. Released (step slots 0 (n + 1) 0 maybe.none) m (n + 1)) is
       (λ at views stands here.
-      let k = stands.knows seat (Holding n x) here in
+      let k = stands.knows seat v here in
       let here_now = k.0 in let below = k.1 in
       let after : Standing T = record { value = y; out = false; owner = at.owner; serving = n + 1; next = at.next } in
-      let w : View T = Idle (n + 1) y in
-      let later : (z : T) → follows at.value z → follows y z = λ z f. transitive y at.value z (subst (λ (v : T). follows y v) (sym k.4) follow) f in (
+      let later : (z : T) → follows at.value z → follows y z = λ z f. transitive y at.value z (subst (λ (u : T). follows y u) (sym k.4) follow) f in (
         w,
         gives,
         tt,
@@ -137,26 +122,21 @@ module _ {T : Type 0} (holds : T → Type 0) (follows : T → T → Type 0) wher
           order = omega arith;
           sound = sound;
           held = λ out. absurd (let p : false ≡ true = out in cc);
-          knows = knows_each holds follows at after views seat w stands.knows ((let m : n + 1 ≤ n + 1 = omega arith in m), reflexive y) (stays at k.0 k.2 later);
+          knows = knows_each holds follows at after views seat w stands.knows (omega arith, omega arith, reflexive y) (moved at k.0 k.2 later);
         }),
-        (λ z is. ap (λ (v : T). let p : Sat T = (Idle (n + 1) v, []) in p) (let e : Some y ≡ Some z = ap (λ (l : List (ℕ × Option T)). head_of l) is in cc)),
+        (λ z is. ap (λ (u : T). let p : Sat T = (Idle (n + 1) (n + 1) u, []) in p) (let e : Some y ≡ Some z = ap (λ (l : List (ℕ × Option T)). head_of l) is in cc)),
       ))
     where
       head_of : List (ℕ × Option T) → Option T
       head_of [] = None
       head_of (p ∷ ps) = p.1
 
-      stays : (at : Standing T) → n ≡ at.serving → at.owner n ≡ seat → ((z : T) → follows at.value z → follows y z)
+      moved : (at : Standing T) → n ≡ at.serving → at.owner n ≡ seat → ((z : T) → follows at.value z → follows y z)
           → (other : ℕ) → other ≢ seat → (v : View T) → Knows holds follows at other v → Knows holds follows (record { value = y; out = false; owner = at.owner; serving = n + 1; next = at.next }) other v
-      stays at here mine later other apart (Idle low z) k = ((let m = k.0 in omega arith), later z k.1)
-      stays at here mine later other apart (Met low z u) k = ((let m = k.0 in omega arith), later z k.1, later u k.2)
-      stays at here mine later other apart (Waiting m z) k =
+      moved at here mine later other apart (Idle low reached z) k = ((let m = k.0 in omega arith), k.1, later z k.2)
+      moved at here mine later other apart (Met low z u) k = ((let m = k.0 in omega arith), later z k.1, later u k.2)
+      moved at here mine later other apart (Waiting m z) k =
           let from = k.0 in
           let differs : m ≢ n = λ same. apart (sym k.2 ∙ ap at.owner same ∙ mine) in (omega arith, k.1, k.2, later z k.3)
-      stays at here mine later other apart (Holding m z) k = absurd (apart (sym k.2 ∙ ap at.owner (k.0 ∙ sym here) ∙ mine))
-      stays at here mine later other apart Spent k = tt
-
-  pub releases : (slots seat n : ℕ) (x y : T) (me : Sat T) → me ≡ (Holding n x, (0, Some y) ∷ []) → holds y → follows y x → ((z : T) → follows z z) → ((z u v : T) → follows z u → follows u v → follows z v)
-      → Allows Rule slots seat me 0 (λ _. n + 1) (λ _. Released (step slots 0 (n + 1) 0 maybe.none) me (n + 1))
-  releases slots seat n x y me is sound follow reflexive transitive =
-      subst (λ (m : Sat T). Allows Rule slots seat m 0 (λ _. n + 1) (λ _. Released (step slots 0 (n + 1) 0 maybe.none) m (n + 1))) (sym is) (releases_held slots seat n x y sound follow reflexive transitive)
+      moved at here mine later other apart (Holding m z) k = absurd (apart (sym k.2 ∙ ap at.owner (k.0 ∙ sym here) ∙ mine))
+      moved at here mine later other apart Spent k = tt

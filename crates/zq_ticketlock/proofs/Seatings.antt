@@ -18,24 +18,24 @@ module _ {T : Type 0} (holds : T → Type 0) (follows : T → T → Type 0) wher
   abbrev Rule : State (Option T) (View T) → Type 0
   Rule = IsKept holds follows
 
-  pub opens : (x : T) (n : ℕ) → holds x → ((z : T) → follows z z) → Rule (opening (n ∷ n ∷ []) (Some x ∷ []) (Idle n x))
+  pub opens : (x : T) (n : ℕ) → holds x → ((z : T) → follows z z) → Rule (opening (n ∷ n ∷ []) (Some x ∷ []) (Idle n n x))
   opens x n sound reflexive =
       let at : Standing T = record { value = x; out = false; owner = λ _. 0; serving = n; next = n } in
-      kept holds follows at (Idle n x ∷ []) (record {
+      kept holds follows at (Idle n n x ∷ []) (record {
         order = omega arith;
         sound = sound;
         held = λ out. absurd (let p : false ≡ true = out in cc);
-        knows = first at (omega arith) (reflexive x);
+        knows = first at (omega arith) (omega arith) (reflexive x);
       })
     where
-      first : (at : Standing T) → n ≤ at.serving → follows at.value x → (seat : ℕ) (v : View T) → get_elem? (Idle n x ∷ []) seat ≡ maybe.some v → Knows holds follows at seat v
-      first at low known zero v here = subst (Knows holds follows at 0) (some-injective (Idle n x) v here) (low, known)
-      first at low known (suc seat) v here = absurd (some-ne-none v (sym here))
+      first : (at : Standing T) → n ≤ at.serving → n ≤ at.next → follows at.value x → (seat : ℕ) (v : View T) → get_elem? (Idle n n x ∷ []) seat ≡ maybe.some v → Knows holds follows at seat v
+      first at low come known zero v here = subst (Knows holds follows at 0) (some-injective (Idle n n x) v here) (low, come, known)
+      first at low come known (suc seat) v here = absurd (some-ne-none v (sym here))
 
-  splits_idle : (seat low : ℕ) (x : T) → Splits Rule seat (Idle low x) (Idle low x) (Idle low x)
-  splits_idle seat low x s k here =
+  splits_idle : (seat low reached : ℕ) (x : T) → Splits Rule seat (Idle low reached x) (Idle low reached x) (Idle low reached x)
+  splits_idle seat low reached x s k here =
       let at = k.at in
-      let v : View T = Idle low x in
+      let v : View T = Idle low reached x in
       let views : List (View T) = s.views ++ v ∷ [] in
       let two : Stands holds follows at views = record {
         order = k.stands.order;
@@ -52,24 +52,24 @@ module _ {T : Type 0} (holds : T → Type 0) (follows : T → T → Type 0) wher
   pub splits : (seat : ℕ) (me : Sat T) → is_idle me ≡ true → Splits Rule seat me.0 me.0 me.0
   splits seat me idle =
       let is = idle_seat me idle in
-      subst (λ (m : Sat T). Splits Rule seat m.0 m.0 m.0) (sym is.2) (splits_idle seat is.0 is.1)
+      subst (λ (m : Sat T). Splits Rule seat m.0 m.0 m.0) (sym is.3) (splits_idle seat is.0 is.1 is.2)
 
-  joins_idle : (seat other low m : ℕ) (x y : T) → Joins Rule seat (Idle low x) other (Idle m y) (Met low x y) Spent
-  joins_idle seat other low m x y s k here apart there =
+  joins_idle : (seat other low reached m passed : ℕ) (x y : T) → Joins Rule seat (Idle low reached x) other (Idle m passed y) (Met low x y) Spent
+  joins_idle seat other low reached m passed x y s k here apart there =
       let at = k.at in
       let w : View T = Met low x y in
       let views : List (View T) = set s.views seat w in
-      let first = k.stands.knows seat (Idle low x) here in
-      let second = k.stands.knows other (Idle m y) (unmoved s.views there) in
-      let one = other_view holds follows at s.views seat (Idle low x) w k.stands here (λ e. cc) (first.0, first.1, second.1) in
-      record { at = at; words = k.words; homes = k.homes; stands = other_view holds follows at views other (Idle m y) Spent one there (λ e. cc) tt }
+      let first = k.stands.knows seat (Idle low reached x) here in
+      let second = k.stands.knows other (Idle m passed y) (unmoved s.views there) in
+      let one = other_view holds follows at s.views seat (Idle low reached x) w k.stands here (λ e. cc) (first.0, first.2, second.2) in
+      record { at = at; words = k.words; homes = k.homes; stands = other_view holds follows at views other (Idle m passed y) Spent one there (λ e. cc) tt }
     where
-      unmoved : (views : List (View T)) → get_elem? (set views seat (Met low x y)) other ≡ maybe.some (Idle m y) → get_elem? views other ≡ maybe.some (Idle m y)
+      unmoved : (views : List (View T)) → get_elem? (set views seat (Met low x y)) other ≡ maybe.some (Idle m passed y) → get_elem? views other ≡ maybe.some (Idle m passed y)
       unmoved views e = sym (set_else views seat other (Met low x y) apart) ∙ e
 
   pub joins : (seat other : ℕ) (me second : Sat T) → is_idle me ≡ true → is_idle second ≡ true → Joins Rule seat me.0 other second.0 (met me.0 second.0) Spent
   joins seat other me second idle also =
       let is = idle_seat me idle in
       let are = idle_seat second also in
-      subst (λ (m : Sat T). Joins Rule seat m.0 other second.0 (met m.0 second.0) Spent) (sym is.2)
-      (subst (λ (m : Sat T). Joins Rule seat (Idle is.0 is.1) other m.0 (met (Idle is.0 is.1) m.0) Spent) (sym are.2) (joins_idle seat other is.0 are.0 is.1 are.1))
+      subst (λ (m : Sat T). Joins Rule seat m.0 other second.0 (met m.0 second.0) Spent) (sym is.3)
+      (subst (λ (m : Sat T). Joins Rule seat (Idle is.0 is.1 is.2) other m.0 (met (Idle is.0 is.1 is.2) m.0) Spent) (sym are.3) (joins_idle seat other is.0 is.1 are.0 are.1 is.2 are.2))

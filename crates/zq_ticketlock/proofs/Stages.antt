@@ -28,32 +28,32 @@ module _ {T : Type 0} where
       let empty : slot.1 ≡ None = none_is slot.1 both.1 in
       let rest : slots ≡ [] = nothing_is slots first.1 in λ i. (place i, empty i) ∷ rest i
 
-  idle_is : (v : View T) → idle_view v ≡ true → (low : ℕ) × (x : T) × (v ≡ Idle low x)
-  idle_is (Idle low x) e = (low, x, refl)
+  idle_is : (v : View T) → idle_view v ≡ true → (low : ℕ) × (reached : ℕ) × (x : T) × (v ≡ Idle low reached x)
+  idle_is (Idle low reached x) e = (low, reached, x, refl)
   idle_is (Met low x y) e = absurd (cc)
   idle_is (Waiting n x) e = absurd (cc)
   idle_is (Holding n x) e = absurd (cc)
   idle_is Spent e = absurd (cc)
 
   waiting_is : (k : ℕ) (v : View T) → waiting_view k v ≡ true → (x : T) × (v ≡ Waiting k x)
-  waiting_is k (Idle low x) e = absurd (cc)
+  waiting_is k (Idle low reached x) e = absurd (cc)
   waiting_is k (Met low x y) e = absurd (cc)
   waiting_is k (Waiting n x) e = (x, ap (λ (m : ℕ). Waiting m x) (eqb-true n k e))
   waiting_is k (Holding n x) e = absurd (cc)
   waiting_is k Spent e = absurd (cc)
 
   holding_is : (k : ℕ) (v : View T) → holding_view k v ≡ true → (x : T) × (v ≡ Holding k x)
-  holding_is k (Idle low x) e = absurd (cc)
+  holding_is k (Idle low reached x) e = absurd (cc)
   holding_is k (Met low x y) e = absurd (cc)
   holding_is k (Waiting n x) e = absurd (cc)
   holding_is k (Holding n x) e = (x, ap (λ (m : ℕ). Holding m x) (eqb-true n k e))
   holding_is k Spent e = absurd (cc)
 
-  pub idle_seat : (me : Sat T) → is_idle me ≡ true → (low : ℕ) × (x : T) × (me ≡ (Idle low x, []))
+  pub idle_seat : (me : Sat T) → is_idle me ≡ true → (low : ℕ) × (reached : ℕ) × (x : T) × (me ≡ (Idle low reached x, []))
   idle_seat me e =
       let parts = and_true (idle_view me.0) (nothing_out me.1) e in
       let view = idle_is me.0 parts.0 in
-      let slots = nothing_is me.1 parts.1 in (view.0, view.1, λ i. (view.2 i, slots i))
+      let slots = nothing_is me.1 parts.1 in (view.0, view.1, view.2, λ i. (view.3 i, slots i))
 
   pub waiting_seat : (k : ℕ) (me : Sat T) → is_waiting k me ≡ true → (x : T) × (me ≡ (Waiting k x, []))
   waiting_seat k me e =

@@ -4,7 +4,7 @@ use mathlib.Core.Option as maybe
 use mathlib.Core.Option.{some-injective, some-ne-none}
 use lib.ListN.{get_elem?}
 use Rattle.atomic_table.specs.Table.{State, Act, Valid, stepped, carried_after, Allows}
-use Rattle.atomic_table.proofs.Lists.{at_set, set_again}
+use Rattle.atomic_table.proofs.Lists.{at_set}
 use Rattle.std.specs.Prelude.{slice_index}
 use Rattle.zq_ticketlock.specs.declared.view.View.{View}
 use Rattle.zq_ticketlock.specs.declared.view.View.TheVariants.{Idle, Met, Waiting, Holding, Spent}
@@ -35,24 +35,27 @@ module _ {T : Type 0} (holds : T → Type 0) (follows : T → T → Type 0) wher
   pub table_is : (s : State (Option T) (View T)) (k : Rule s) → s ≡ table k.at s.views
   table_is s k = λ i. record { words = k.words i; homes = k.homes i; views = s.views }
 
-  -- a step is allowed where it is wherever the lock stands
-  pub allowed : (slots seat : ℕ) (me : Sat T) (word : ℕ) (f : ℕ → ℕ) (then : ℕ → Sat T → Type 0)
-      → ((at : Standing T) (views : List (View T)) → Stands holds follows at views → get_elem? views seat ≡ maybe.some me.0
-      → let s : State (Option T) (View T) = table at views in
-      (w : View T) × (a : Act (Option T)) × Valid s.homes me.1 a × Rule (stepped s word (f (slice_index s.words word)) seat me.1 w a)
-      × then (slice_index s.words word) (w, carried_after me.1 a))
-      → Allows Rule slots seat me word f then
-  allowed slots seat me word f then wherever s k len at fits =
-      let P : State (Option T) (View T) → Type 0 = λ t.
-      get_elem? t.views seat ≡ maybe.some me.0
-      → (w : View T) × (a : Act (Option T)) × Valid t.homes me.1 a × Rule (stepped t word (f (slice_index t.words word)) seat me.1 w a)
-      × then (slice_index t.words word) (w, carried_after me.1 a) in
-      subst P (sym (table_is s k)) (wherever k.at s.views k.stands) at
+  -- What a seat may do by a step that leaves this number in the word: it gets a view, and keeps, takes or gives a value,
+  -- so that the rule is kept, and what is told of the seat after is so.
+  abbrev pub Moves : Standing T → List (View T) → ℕ → List (ℕ × Option T) → ℕ → ℕ → (Sat T → Type 0) → Type 0
+  Moves at views seat out word number told =
+      (w : View T) × (a : Act (Option T)) × Valid (slot at.out at.value ∷ []) out a
+      × Rule (stepped (table at views) word number seat out w a) × told (w, carried_after out a)
 
-  -- where a seat keeps its view, the lock stands as before
-  pub unchanged : (at : Standing T) (views : List (View T)) (seat : ℕ) (v : View T) → get_elem? views seat ≡ maybe.some v
-      → Stands holds follows at views → Stands holds follows at (set views seat v)
-  unchanged at views seat v here stands = subst (Stands holds follows at) (sym (set_again views seat v here)) stands
+  -- a step is allowed where a seat may make it wherever the lock stands
+  pub allowed : (slots seat : ℕ) (me known : Sat T) (word : ℕ) (f : ℕ → ℕ) (then : Sat T → ℕ → Sat T → Type 0) → me ≡ known
+      → ((at : Standing T) (views : List (View T)) → Stands holds follows at views → get_elem? views seat ≡ maybe.some known.0
+      → let found = slice_index (at.serving ∷ at.next ∷ []) word in Moves at views seat known.1 word (f found) (then known found))
+      → Allows Rule slots seat me word f (then me)
+  allowed slots seat me known word f then is wherever = subst (λ (m : Sat T). Allows Rule slots seat m word f (then m)) (sym is) there
+    where
+      there : Allows Rule slots seat known word f (then known)
+      there s k len here fits =
+          let P : State (Option T) (View T) → Type 0 = λ t.
+          get_elem? t.views seat ≡ maybe.some known.0
+          → (w : View T) × (a : Act (Option T)) × Valid t.homes known.1 a × Rule (stepped t word (f (slice_index t.words word)) seat known.1 w a)
+          × then known (slice_index t.words word) (w, carried_after known.1 a) in
+          subst P (sym (table_is s k)) (wherever k.at s.views k.stands) here
 
   -- what each seat knows, where one has a new view
   pub knows_each : (before after : Standing T) (views : List (View T)) (seat : ℕ) (w : View T)
@@ -71,8 +74,8 @@ module _ {T : Type 0} (holds : T → Type 0) (follows : T → T → Type 0) wher
       → ((n : ℕ) → n < before.next → after.owner n ≡ before.owner n)
       → (before.out ≡ true → after.out ≡ true)
       → (other : ℕ) (v : View T) → Knows holds follows before other v → Knows holds follows after other v
-  still_knows before after value serving next owner out other (Idle low x) k =
-      let low_is = k.0 in (omega arith, subst (λ (y : T). follows y x) (sym value) k.1)
+  still_knows before after value serving next owner out other (Idle low reached x) k =
+      let low_is = k.0 in let reached_is = k.1 in (omega arith, omega arith, subst (λ (y : T). follows y x) (sym value) k.2)
   still_knows before after value serving next owner out other (Met low x y) k =
       let low_is = k.0 in (omega arith, subst (λ (z : T). follows z x) (sym value) k.1, subst (λ (z : T). follows z y) (sym value) k.2)
   still_knows before after value serving next owner out other (Waiting n x) k =

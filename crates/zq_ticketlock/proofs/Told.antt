@@ -1,11 +1,11 @@
 -- What a seat can tell from a step that it made.
-use Rattle.std.proofs.Common.{◌≡◌, ℕ, ◌==◌, true, Option, Some, None, List, [], ◌∷◌, refl, sym, ap, subst, ◌∙◌, eq-eqb}
+use Rattle.std.proofs.Common.{◌≡◌, ℕ, ◌<◌, ◌==◌, true, Option, Some, None, List, [], ◌∷◌, refl, sym, ap, subst, ◌∙◌, eq-eqb}
 use Rattle.std.specs.Prelude.{IfSome, IsSome, MatchBool}
 use Rattle.std.proofs.lemmas.Bool.Decides.{when_true}
 use Rattle.atomic_table.specs.Table.{Step, rest}
 use Rattle.zq_ticketlock.specs.declared.view.View.TheVariants.{Met, Holding}
 use Rattle.zq_ticketlock.specs.Views.{Sat, is_idle, is_waiting, is_holding, seen_by, ticket_of}
-use Rattle.zq_ticketlock.specs.Steps.{Arrived, Tried, Takes, FollowsSeen, FollowsBoth, met}
+use Rattle.zq_ticketlock.specs.Steps.{Arrived, Tried, Takes, FollowsSeen, FollowsBoth, met, reaching}
 use Rattle.zq_ticketlock.proofs.Stages.{idle_seat, waiting_seat, holding_seat}
 
 -- a value was seen, and it has this property
@@ -31,7 +31,7 @@ module _ {T : Type 0} (holds : T → Type 0) (follows : T → T → Type 0) wher
 
   -- a try that finds the ticket next has taken the value out
   pub tried : (st : Step (Option T)) (found : ℕ) (me after : Sat T) → found ≡ st.first → Tried follows holds st me found after → Takes follows holds st.first (seen_by me.0) after
-  tried st found me after same told = found_it found st.first (Takes follows holds st.first (seen_by me.0) after) (after ≡ me) same told
+  tried st found me after same told = found_it found st.first (Takes follows holds st.first (seen_by me.0) after) ((after ≡ (reaching found me.0, me.1)) × (st.first < found)) same told
 
   -- a holder's seat with a value put back into its slot
   pub filled : (n : ℕ) (y : T) (me after : Sat T) (holding : is_holding n me ≡ true) → after ≡ (me.0, (0, Some y) ∷ rest me.1)
@@ -45,11 +45,11 @@ module _ {T : Type 0} (holds : T → Type 0) (follows : T → T → Type 0) wher
 
   -- the view of two idle seats that were joined
   pub met_view : (me second after : Sat T) (idle : is_idle me ≡ true) (also : is_idle second ≡ true) → after ≡ (met me.0 second.0, me.1)
-      → after ≡ (Met (idle_seat me idle).0 (idle_seat me idle).1 (idle_seat second also).1, [])
+      → after ≡ (Met (idle_seat me idle).0 (idle_seat me idle).2 (idle_seat second also).2, [])
   met_view me second after idle also is =
       let first = idle_seat me idle in
       let other = idle_seat second also in
-      is ∙ ((λ i. (met (first.2 i).0 (other.2 i).0, (first.2 i).1)))
+      is ∙ ((λ i. (met (first.3 i).0 (other.3 i).0, (first.3 i).1)))
 
   -- what follows both values of a joined view follows what each seat had seen
   pub follows_each : (x : T) (me second : Sat T) (idle : is_idle me ≡ true) (also : is_idle second ≡ true) → FollowsBoth follows x (met me.0 second.0)
@@ -57,8 +57,8 @@ module _ {T : Type 0} (holds : T → Type 0) (follows : T → T → Type 0) wher
   follows_each x me second idle also both =
       let first = idle_seat me idle in
       let other = idle_seat second also in
-      let each = subst (λ (m : Sat T × Sat T). FollowsBoth follows x (met m.0.0 m.1.0)) (λ i. (first.2 i, other.2 i)) both in
-      (subst (λ (m : Sat T). FollowsSeen follows x (seen_by m.0)) (sym first.2) each.0, subst (λ (m : Sat T). FollowsSeen follows x (seen_by m.0)) (sym other.2) each.1)
+      let each = subst (λ (m : Sat T × Sat T). FollowsBoth follows x (met m.0.0 m.1.0)) (λ i. (first.3 i, other.3 i)) both in
+      (subst (λ (m : Sat T). FollowsSeen follows x (seen_by m.0)) (sym first.3) each.0, subst (λ (m : Sat T). FollowsSeen follows x (seen_by m.0)) (sym other.3) each.1)
 
   -- what follows a value that follows all that was seen also follows it
   pub follows_later : ((x y z : T) → follows x y → follows y z → follows x z) → (x y : T) (seen : Option T) → follows x y → FollowsSeen follows y seen → FollowsSeen follows x seen

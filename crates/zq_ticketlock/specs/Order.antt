@@ -22,7 +22,7 @@ slot false value = maybe.some (Some value)
 module _ {T : Type 0} (holds : T → Type 0) (follows : T → T → Type 0) where
   -- What a seat's view says is so. No two seats have one ticket, since each ticket has one owner
   abbrev pub Knows : Standing T → ℕ → View T → Type 0
-  Knows at seat (Idle low x) = (low ≤ at.serving) × follows at.value x
+  Knows at seat (Idle low reached x) = (low ≤ at.serving) × (reached ≤ at.next) × follows at.value x
   Knows at seat (Met low x y) = (low ≤ at.serving) × follows at.value x × follows at.value y
   Knows at seat (Waiting n x) = (at.serving ≤ n) × (n < at.next) × (at.owner n ≡ seat) × follows at.value x
   Knows at seat (Holding n x) =

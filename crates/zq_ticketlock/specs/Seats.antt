@@ -5,7 +5,7 @@ use Rattle.zq_ticketlock.specs.declared.seat.Seat.{Seat}
 use Rattle.zq_ticketlock.specs.declared.seat.Ticket.{Ticket}
 use Rattle.zq_ticketlock.specs.declared.held.Held.{Held}
 use Rattle.zq_ticketlock.specs.declared.lock.TicketLock.{TicketLock}
-use Rattle.zq_ticketlock.specs.Views.{seen_by, low_of}
+use Rattle.zq_ticketlock.specs.Views.{seen_by, low_of, reached_of}
 
 module _ {T : Type 0} where
   -- which lock a seat is of
@@ -23,6 +23,10 @@ module _ {T : Type 0} where
   -- the ticket that the seat last found to be served
   abbrev pub served : Seat T → ℕ
   served seat = low_of seat.place.me.0
+
+  -- the ticket to which the seat knows that drawing has come: all before it are drawn
+  abbrev pub reached : Seat T → ℕ
+  reached seat = reached_of seat.place.me.0
 
   abbrev pub ticket_lock : Ticket T → TableId
   ticket_lock ticket = ticket.place.table_id

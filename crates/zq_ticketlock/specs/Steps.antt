@@ -1,37 +1,42 @@
 -- What each step tells the seat that steps: of the seat before, the number found, and the seat after.
-use Rattle.std.specs.Prelude.{◌≡◌, ℕ, ◌==◌, Option, Some, IfSome, [], ◌∷◌, MatchBool}
+use Rattle.std.specs.Prelude.{◌≡◌, ℕ, ◌<◌, ◌==◌, Option, Some, IfSome, [], ◌∷◌, MatchBool}
 use Rattle.atomic_table.specs.Table.{Step}
 use Rattle.zq_ticketlock.specs.declared.view.View.{View}
 use Rattle.zq_ticketlock.specs.declared.view.View.TheVariants.{Idle, Met, Waiting, Holding}
 use Rattle.zq_ticketlock.specs.Views.{Sat, seen_by, ticket_of}
 
 module _ {T : Type 0} where
-  -- an idle seat has read this number in `serving`
+  -- an idle seat has read this number in `serving`: `next` has come as far
   abbrev pub noted : ℕ → View T → View T
-  noted n (Idle low x) = Idle n x
+  noted n (Idle low reached x) = Idle n n x
   noted n view = view
+
+  -- an idle seat has read this number in `next`
+  abbrev pub reaching : ℕ → View T → View T
+  reaching n (Idle low reached x) = Idle low n x
+  reaching n view = view
 
   -- an idle seat has drawn this ticket
   abbrev pub waiting : ℕ → View T → View T
-  waiting n (Idle low x) = Waiting n x
+  waiting n (Idle low reached x) = Waiting n x
   waiting n view = view
 
   -- an idle seat has taken in another's view
   abbrev pub met : View T → View T → View T
-  met (Idle low x) (Idle m y) = Met low x y
+  met (Idle low reached x) (Idle m passed y) = Met low x y
   met view _ = view
 
   -- a look notes the number found
   abbrev pub Looked : Step (Option T) → Sat T → ℕ → Sat T → Type 0
   Looked step me found after = after ≡ (noted found me.0, me.1)
 
-  -- a draw wins where it finds the ticket that it names, and else changes nothing
+  -- a draw wins where it finds the ticket that it names, and else notes the number found
   abbrev pub Drew : Step (Option T) → Sat T → ℕ → Sat T → Type 0
-  Drew step me found after = MatchBool (found == step.first) (after ≡ (waiting step.first me.0, me.1)) (after ≡ me)
+  Drew step me found after = MatchBool (found == step.first) (after ≡ (waiting step.first me.0, me.1)) (after ≡ (reaching found me.0, me.1))
 
   -- a release leaves the seat idle, and it has seen the value that it put home
   abbrev pub Released : Step (Option T) → Sat T → ℕ → Sat T → Type 0
-  Released step me found after = (x : T) → me.1 ≡ (0, Some x) ∷ [] → after ≡ (Idle step.first x, [])
+  Released step me found after = (x : T) → me.1 ≡ (0, Some x) ∷ [] → after ≡ (Idle step.first step.first x, [])
 
   module _ (follows : T → T → Type 0) where
     -- the value follows all that was seen
@@ -45,7 +50,7 @@ module _ {T : Type 0} where
 
     -- a seat that was joined with another has seen the value where the lock stands, which follows what either had seen
     abbrev pub Settled : Step (Option T) → Sat T → ℕ → Sat T → Type 0
-    Settled step me found after = (x : T) × (after ≡ (Idle found x, [])) × FollowsBoth x me.0
+    Settled step me found after = (x : T) × (after ≡ (Idle found found x, [])) × FollowsBoth x me.0
 
     module _ (holds : T → Type 0) where
       -- the seat holds by ticket n, and has the value out, which follows what it had seen
@@ -58,7 +63,7 @@ module _ {T : Type 0} where
       Arrived step me found after =
           MatchBool (found == ticket_of me.0) (Takes (ticket_of me.0) (seen_by me.0) after) (after ≡ me)
 
-      -- a try takes the value where the ticket that is served was not drawn yet, and else changes nothing
+      -- a try takes the value where the ticket that is served was not drawn yet, and else notes the later number found
       abbrev pub Tried : Step (Option T) → Sat T → ℕ → Sat T → Type 0
       Tried step me found after =
-          MatchBool (found == step.first) (Takes step.first (seen_by me.0) after) (after ≡ me)
+          MatchBool (found == step.first) (Takes step.first (seen_by me.0) after) ((after ≡ (reaching found me.0, me.1)) × (step.first < found))

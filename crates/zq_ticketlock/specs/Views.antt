@@ -11,15 +11,20 @@ Sat T = Me (Option T) (View T)
 module _ {T : Type 0} where
   -- the value that was seen last, where it is one
   abbrev pub seen_by : View T → Option T
-  seen_by (Idle low x) = Some x
+  seen_by (Idle low reached x) = Some x
   seen_by (Waiting n x) = Some x
   seen_by (Holding n x) = Some x
   seen_by _ = None
 
   -- the number that an idle seat has last read in `serving`
   abbrev pub low_of : View T → ℕ
-  low_of (Idle low x) = low
+  low_of (Idle low reached x) = low
   low_of _ = 0
+
+  -- the number to which an idle seat knows that `next` has come
+  abbrev pub reached_of : View T → ℕ
+  reached_of (Idle low reached x) = reached
+  reached_of _ = 0
 
   -- the ticket of a seat that waits
   abbrev pub ticket_of : View T → ℕ
@@ -36,7 +41,7 @@ module _ {T : Type 0} where
   value_out (slot ∷ slots) = (slot.0 == 0) && is_none slot.1 && nothing_out slots
 
   abbrev pub idle_view : View T → Bool
-  idle_view (Idle low x) = true
+  idle_view (Idle low reached x) = true
   idle_view _ = false
 
   abbrev pub waiting_view : ℕ → View T → Bool

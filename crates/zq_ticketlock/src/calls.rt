@@ -1,6 +1,6 @@
 //! Locking, in all its ways, and unlocking.
-ghost use Rattle.std.specs.Prelude.{◌≡◌, ◌≤◌, ◌↔◌, Some, IfOk, IfErr};
-ghost use Rattle.zq_ticketlock.specs.Seats.{id_of, lock_of, seen, HasSeen, served, ticket_lock, ticket_seen, held_lock, given, value_of};
+ghost use Rattle.std.specs.Prelude.{◌≡◌, ◌<◌, ◌≤◌, ◌↔◌, Some, IfOk, IfErr};
+ghost use Rattle.zq_ticketlock.specs.Seats.{id_of, lock_of, seen, HasSeen, served, reached, ticket_lock, ticket_seen, held_lock, given, value_of};
 ghost use Rattle.zq_ticketlock.specs.Steps.{FollowsSeen};
 
 use crate::errors::{TryFault, Worn};
@@ -21,6 +21,7 @@ impl<T: Keeps> TicketLock<T> {
         requires own { lock_of seat ≡ id_of self.now }
         ensures drawn { IfOk result (λ ticket. (ticket_lock ticket ≡ lock_of seat) × (ticket_seen ticket ≡ seen seat)) }
         ensures worn { IfErr result (λ e. (lock_of e.1 ≡ lock_of seat) × (seen e.1 ≡ seen seat)) }
+        ensures last { IfErr result (λ e. LAST_TICKET ≤ reached e.1) }
     {
         let mut next = self.look(&mut seat);
         for _ in rt.forever() {
@@ -82,7 +83,7 @@ impl<T: Keeps> TicketLock<T> {
     }
 
     /// Waits until the seat is served, and takes the value out. It follows what the seat had seen.
-    /// Where the lock's tickets are used up, the seat comes back.
+    /// Where the lock's tickets are used up, the seat comes back: it has found that the last one was reached.
     pub fn lock<R: Wait>(&self, rt: &R, seat: Seat<T>) -> Result<Held<T>, (Worn, Seat<T>)>
         requires own { lock_of seat ≡ id_of self.now }
         ensures lock { IfOk result (λ held. held_lock held ≡ lock_of seat) }
@@ -90,6 +91,7 @@ impl<T: Keeps> TicketLock<T> {
         ensures follows { IfOk result (λ held. FollowsSeen T.follows (value_of held) (seen seat)) }
         ensures given { IfOk result (λ held. given held ≡ Some (value_of held)) }
         ensures worn { IfErr result (λ e. (lock_of e.1 ≡ lock_of seat) × (seen e.1 ≡ seen seat)) }
+        ensures last { IfErr result (λ e. LAST_TICKET ≤ reached e.1) }
     {
         let ticket = self.draw_next(rt, seat)?;
         Ok(self.wait_for(rt, ticket))
@@ -111,6 +113,7 @@ impl<T: Keeps> TicketLock<T> {
         ensures second { IfOk result (λ r. HasSeen r.1 (λ x. FollowsSeen T.follows x (seen second) × T.follows (value_of r.0) x)) }
         ensures worn_lock { IfErr result (λ e. (lock_of e.1 ≡ id_of self.now) × (lock_of e.2 ≡ id_of self.now)) }
         ensures worn { IfErr result (λ e. (seen e.1 ≡ seen e.2) × HasSeen e.1 (λ x. FollowsSeen T.follows x (seen first) × FollowsSeen T.follows x (seen second))) }
+        ensures last { IfErr result (λ e. LAST_TICKET ≤ reached e.1) }
     {
         let (one, other) = self.split(self.join(first, second));
         match self.lock(rt, one) {
@@ -120,7 +123,8 @@ impl<T: Keeps> TicketLock<T> {
     }
 
     /// Takes the value out if nobody has drawn the ticket that is served. It waits for nobody.
-    /// Or else the seat comes back: worn where it found the last ticket served, and else busy.
+    /// Or else the seat comes back: worn where it found the last ticket served, and else busy, where it found that the
+    /// one that is served was drawn.
     pub fn try_lock(&self, mut seat: Seat<T>) -> Result<Held<T>, (TryFault, Seat<T>)>
         requires own { lock_of seat ≡ id_of self.now }
         ensures lock { IfOk result (λ held. held_lock held ≡ lock_of seat) }
@@ -129,6 +133,7 @@ impl<T: Keeps> TicketLock<T> {
         ensures given { IfOk result (λ held. given held ≡ Some (value_of held)) }
         ensures refused { IfErr result (λ e. (lock_of e.1 ≡ lock_of seat) × (seen e.1 ≡ seen seat)) }
         ensures worn { IfErr result (λ e. (e.0 ≡ TryFault.Worn) ↔ (LAST_TICKET ≤ served e.1)) }
+        ensures busy { IfErr result (λ e. e.0 ≡ TryFault.Busy → served e.1 < reached e.1) }
     {
         let serving = self.look(&mut seat);
         if serving >= LAST_TICKET {

@@ -6,9 +6,10 @@
 //! The lock has two words: `next` is the ticket that is drawn next, and `serving` the one that is served. They change
 //! in six kinds of step alone, each a function of its own:
 //!
-//! - a *draw* is a compare-exchange on `next`, by which an idle seat gets a ticket;
+//! - a *draw* is a compare-exchange on `next`, by which an idle seat gets a ticket, or learns which one is next;
 //! - a *look* is a load of `serving`, by which an idle seat learns it, and a seat with that ticket takes the value out;
-//! - a *try* is a compare-exchange on `next`, which draws the ticket that is served, and takes the value out at once;
+//! - a *try* is a compare-exchange on `next`, which draws the ticket that is served, and takes the value out at once, or
+//!   learns which one is next;
 //! - a *release* is a store to `serving`, by which a holder puts the value home;
 //! - a *split* makes two seats of one, and a *join* one of two.
 //!

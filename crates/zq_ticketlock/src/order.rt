@@ -17,7 +17,7 @@ pub struct TicketOrder;
 impl<T: Keeps> TableRule<Option<T>, View<T>, Opening<T>> for TicketOrder {
     ghost holds = { λ _. IsKept T.holds T.follows };
 
-    ghost first = { λ opening. Idle opening.1 opening.0.value };
+    ghost first = { λ opening. Idle opening.1 opening.1 opening.0.value };
 }
 
 /// A load of `serving` by a seat that waits for nothing.

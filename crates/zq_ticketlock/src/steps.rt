@@ -1,7 +1,7 @@
 //! The steps. Each is one load, store or compare-exchange on one of the two words. One that takes the value out of its
 //! slot, or puts it home, also moves it.
 ghost use Rattle.std.specs.Prelude.{◌≡◌, ◌<◌, Some, IfOk, IfErr, MatchResult};
-ghost use Rattle.zq_ticketlock.specs.Seats.{id_of, lock_of, seen, HasSeen, served, ticket_lock, ticket_seen, held_lock, given, value_of};
+ghost use Rattle.zq_ticketlock.specs.Seats.{id_of, lock_of, seen, HasSeen, served, reached, ticket_lock, ticket_seen, held_lock, given, value_of};
 ghost use Rattle.zq_ticketlock.specs.Steps.{FollowsSeen};
 
 use crate::held::Held;
@@ -17,6 +17,7 @@ impl<T: Keeps> TicketLock<T> {
         ensures lock { lock_of seat.new ≡ lock_of seat.old }
         ensures seen { seen seat.new ≡ seen seat.old }
         ensures served { result ≡ served seat.new }
+        ensures reached { result ≡ reached seat.new }
     {
         self.table.shared.load::<Look>(&mut seat.place, SERVING)
     }
@@ -27,6 +28,7 @@ impl<T: Keeps> TicketLock<T> {
         requires in_range { number < LAST_TICKET }
         ensures drawn { IfOk result (λ ticket. (ticket_lock ticket ≡ lock_of seat) × (ticket_seen ticket ≡ seen seat)) }
         ensures missed { IfErr result (λ e. (lock_of e.1 ≡ lock_of seat) × (seen e.1 ≡ seen seat)) }
+        ensures found { IfErr result (λ e. e.0 ≡ reached e.1) }
     {
         let Seat { mut place } = seat;
         let found = self
@@ -72,7 +74,8 @@ impl<T: Keeps> TicketLock<T> {
         ensures holds { IfOk result (λ held. T.holds (value_of held)) }
         ensures follows { IfOk result (λ held. FollowsSeen T.follows (value_of held) (seen seat)) }
         ensures given { IfOk result (λ held. given held ≡ Some (value_of held)) }
-        ensures missed { IfErr result (λ back. back ≡ seat) }
+        ensures missed { IfErr result (λ back. (lock_of back ≡ lock_of seat) × (seen back ≡ seen seat)) }
+        ensures drawn { IfErr result (λ back. (served back ≡ number) × (number < reached back)) }
     {
         let Seat { mut place } = seat;
         let shared = &self.table.shared;

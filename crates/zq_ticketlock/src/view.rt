@@ -1,7 +1,8 @@
 /// What a seat knows of its lock. Proofs alone speak of it: no value of it is ever made.
 pub enum View<T> {
-    /// The seat neither waits nor holds. It has read `low` in `serving`, and has seen this value.
-    Idle { low: u64, seen: T },
+    /// The seat neither waits nor holds. It has read `low` in `serving`, knows that `next` has come to `reached`, and has
+    /// seen this value.
+    Idle { low: u64, reached: u64, seen: T },
     /// Two seats that were joined, with what each had seen. The next load of `serving` settles it.
     Met { low: u64, first: T, second: T },
     /// The seat has drawn this ticket.
