@@ -32,7 +32,7 @@ module _ {Z : Type 0} (slots slots' : List Slot) (es es' : List (Vec ℕ Z × Pl
   within : f.index < (length slots - 1) + 1
   within = omega (arith, slice_get_within (values_of es) f.index _ (linked.known _ f last), length-values_of es, es_long)
 
-  left : length (values_of es') ≡ length slots - 1
+  pub left : length (values_of es') ≡ length slots - 1
   left = values_left es es' f.index (length slots - 1) r es_long within entry entries
 
   module _ (past : length es' ≤ f.index) where

@@ -44,7 +44,7 @@ module _ {Z : Type 0} where
   abbrev pub same_key : Vec ℕ Z → Vec ℕ Z → Bool
   same_key x y = pointwise nat_eq x.items y.items
 
-  pub same_key_laws : IsEquivalence same_key
+  same_key_laws : IsEquivalence same_key
   same_key_laws = on_equiv (λ key. key.items) nat_list_eq_equiv
 
   -- the scores of the entries

@@ -10,5 +10,6 @@ pub mod Removal
 pub mod DropLast
 pub mod InRange
 pub mod Tops
+pub mod Listings
 pub mod Listed
-pub mod Counts
+pub mod Heads

@@ -9,11 +9,11 @@ use Rattle.zq_posheap.specs.Order.{texts_of}
 
 module _ {Z W : Type 0} (es es' : List (Vec ℕ Z × W)) (i n : ℕ) (r : Option (Vec ℕ Z × W)) (long : length es ≡ n + 1) (within : i < n + 1)
     (entry : r ≡ slice_get es i) (entries : IfSome r (λ p. es' ≡ swap_remove es i p)) where
-  pub gone : (p : Vec ℕ Z × W) × (slice_get es i ≡ Some p)
+  gone : (p : Vec ℕ Z × W) × (slice_get es i ≡ Some p)
   gone = there_is es i (omega arith)
 
   -- the entry that goes
-  pub gone_entry : r ≡ Some gone.0
+  gone_entry : r ≡ Some gone.0
   gone_entry = entry ∙ gone.1
 
   is : es' ≡ swap_remove es i gone.0

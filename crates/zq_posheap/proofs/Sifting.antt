@@ -32,12 +32,6 @@ module _ {X : Type 0} (R : X → X → Ordering) where
         by _ _ _ _ (ap (λ m. get_or zs m d) e ∙ s.0) (s.2 k (omega arith) (omega arith)) (h.0 c k d f g i (omega arith) (omega arith)),
   )
 
-  -- where no child goes before the first child, none goes before what is before that one
-  pub rests : IsTotalOrder R → (ys : List X) (n j c : ℕ) → IsGreaterChild R ys j c n →
-      ((d : X) → lt_by_cmp R (get_or ys j d) (get_or ys c d) ≡ false) → IsNotBelowChildren (lt_by_cmp R) ys j j n
-  unfolding IsGreaterChild
-  rests o ys n j c best after = λ k d a b f. (ranks o).chain _ _ _ (after d) (best k d a b f)
-
   -- a heap with another element at one place has a hole there
   pub hole_at_change : IsTotalOrder R → (xs : List X) (j n : ℕ) (x : X) → n ≡ length xs → IsHeap R xs → IsHeapWithHole (lt_by_cmp R) (slice_set xs j x) j n
   unfolding IsHeap

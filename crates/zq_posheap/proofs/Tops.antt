@@ -1,9 +1,10 @@
 -- The first place of a heap has the first of its pairs.
-use Rattle.std.specs.Prelude.{Bool, List, None, Option, Some, Vec, [], cond, false, get_or, option_map, slice_get, true, ℤ, suc, zero, ℕ, ◌∷◌, ◌≡◌, ◌≢◌}
+use Rattle.std.specs.Prelude.{List, None, Option, Some, Vec, false, get_or, option_map, slice_get, ℤ, ℕ, ◌≡◌, ◌≢◌}
 use Rattle.std.proofs.Common.{ap, arith, refl, subst, sym, true≢false, ◌∙◌}
 use Rattle.std.proofs.ByRecursion.{All-get_or}
 use Rattle.std.proofs.HeapSift.{greatest}
 use Rattle.std.proofs.lemmas.List.{length-map}
+use Rattle.std.proofs.lemmas.Map.Entries.{place_from_lookup}
 use Rattle.std.proofs.lemmas.Option.{none-some, same_Some, slice_get-map, slice_get_within}
 use Rattle.std.specs.BinaryHeap.{IsHeap, lt_by_cmp}
 use Rattle.std.specs.FinMap.{IsAntisymmetric, get, int_cmp-IsAntisymmetric}
@@ -23,7 +24,7 @@ use Rattle.zq_posheap.specs.declared.heap.Place.{Place}
 use Rattle.zq_posheap.specs.declared.heap.Slot.{Slot}
 
 -- pairs that tie are one
-pub scored_antisymmetric : IsAntisymmetric scored_cmp
+scored_antisymmetric : IsAntisymmetric scored_cmp
 scored_antisymmetric x y tied =
     elim (int_cmp x.0 y.0) as (λ r. int_cmp x.0 y.0 ≡ r → ordering_then r (slice_cmp nat_cmp x.1 y.1) ≡ Equal → x ≡ y) [
       | Less ↦ λ p e. absurd (true≢false (ap is_lt e))
@@ -40,21 +41,9 @@ before x y after apart =
       | Greater ↦ λ e. absurd (true≢false (sym (ap is_lt (scored_total.antisymm y x ∙ ap ordering_reverse e)) ∙ after))
     ] refl
 
--- what is first of one map is first of its equal
-pub same_first : (m m' : Scores) (x y : ℤ) (a b : List ℕ) → m ≡ m' → x ≡ y → a ≡ b → IsFirst m (x, a) → IsFirst m' (y, b)
-same_first m m' x y a b p q r first = subst (λ (t : Scores × ℤ × List ℕ). IsFirst t.0 (t.1, t.2)) (λ k. (p k, q k, r k)) first
-
--- where a look-up found its value
-pub found_by : {K X : Type 0} (test : K → Bool) (es : List (K × X)) (w : X) → lookup test es ≡ Some w →
-    (i : ℕ) × (k : K) × (slice_get es i ≡ Some (k, w)) × (test k ≡ true)
-found_by test [] w is = absurd (none-some w is)
-found_by {K} {X} test (e ∷ es) w is = by (test e.0) refl is (λ later. found_by test es w later)
-  where
-    by : (b : Bool) → test e.0 ≡ b → cond b (Some e.1) (lookup test es) ≡ Some w →
-        (lookup test es ≡ Some w → (i : ℕ) × (k : K) × (slice_get es i ≡ Some (k, w)) × (test k ≡ true)) →
-        (i : ℕ) × (k : K) × (slice_get (e ∷ es) i ≡ Some (k, w)) × (test k ≡ true)
-    by true p q later = (zero, e.0, (λ j. Some (e.0, same_Some e.1 w q j)), p)
-    by false p q later = let rest = later q in (suc rest.0, rest.1, rest.2, rest.3)
+-- what is first stays first, however it is written
+pub same_first : (m : Scores) (x y : ℤ) (a b : List ℕ) → x ≡ y → a ≡ b → IsFirst m (x, a) → IsFirst m (y, b)
+same_first m x y a b q r first = subst (λ (t : ℤ × List ℕ). IsFirst m (t.0, t.1)) (λ k. (q k, r k)) first
 
 pub option_map_some : {X Y : Type 0} (f : X → Y) (o : Option X) (y : Y) → option_map f o ≡ Some y → (x : X) × (o ≡ Some x) × (f x ≡ y)
 option_map_some f None y e = absurd (none-some y e)
@@ -66,7 +55,7 @@ module _ {Z : Type 0} (es : List (Vec ℕ Z × Place)) (slots : List Slot) (link
   pub stands : (pair : Scored) → get (scores_in es) pair.1 ≡ Some pair.0 → (p : ℕ) × (x : Slot) × (slice_get slots p ≡ Some x) × (scored_at (texts_of (keys_of es)) x ≡ pair)
   stands pair has =
       let w = option_map_some (λ v. v.score) (lookup (has_text pair.1) es) pair.0 (sym (get-scores es pair.1) ∙ has) in
-      let e = found_by (has_text pair.1) es w.0 w.1 in
+      let e = place_from_lookup (has_text pair.1) es w.0 w.1 in
       let here = linked.found e.0 w.0 (slice_get-map (λ x. x.1) es e.0 ∙ ap (option_map (λ x. x.1)) e.2) in
       (w.0.position, _, here, λ k. (w.2 k, (sym (text_there es e.0 e.1 w.0 e.2) ∙ sym (same_text pair.1 e.1.items (sym e.3))) k))
 

@@ -3,4 +3,5 @@ pub mod Order
 pub mod Moves
 pub mod Scores
 pub mod First
+pub mod Listing
 pub mod InOrder

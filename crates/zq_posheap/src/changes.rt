@@ -78,9 +78,7 @@ impl<S: BuildHasher + Drop> Heap<S> {
         let Place { score, position } = self.places[index];
         self.move_last(position);
         self.drop_last();
-        if position < self.slots.len() {
-            self.settle(position);
-        }
+        self.settle(position);
         Some(score)
     }
 

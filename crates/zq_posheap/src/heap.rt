@@ -1,9 +1,13 @@
 //! The heap and the map under a `PosHeap`, whose places know each other.
-ghost use Rattle.std.specs.Prelude.{Some, length, slice_get, slice_index_or, slice_set, [], ◌+◌, ◌*◌, ◌<◌, ◌≤◌, ◌≡◌, ◌≢◌, swap};
+ghost use Rattle.std.specs.Prelude.{IfNone, IfSome, Some, length, slice_get, slice_index_or, slice_set, [], ◌+◌, ◌*◌, ◌<◌, ◌≤◌, ◌≡◌, ◌≢◌, swap};
 ghost use Rattle.indexmap.specs.IndexMap.{index_map_len, keys, values};
 ghost use Rattle.std.specs.BinaryHeap.{IsHeap, lt_by_cmp};
 ghost use Rattle.std.specs.BinaryHeap.Sift.{ComparesAt, IsGreaterChild, IsHeapWithHole};
 ghost use Rattle.std.specs.Slice.Heapsort.{IsNotBelowChildren};
+ghost use Rattle.std.specs.FinMap.{empty};
+ghost use Rattle.zq_posheap.specs.First.{IsFirst};
+ghost use Rattle.zq_posheap.specs.Listing.{lent_pair};
+ghost use Rattle.zq_posheap.specs.Scores.{AreInRange, IsWhole, scores_map};
 ghost use Rattle.zq_posheap.specs.Moves.{IsLinkedHeap, OnlyMoves, queue_of};
 ghost use Rattle.zq_posheap.specs.Order.{texts_of, turned_cmp};
 
@@ -74,6 +78,18 @@ impl<S: BuildHasher + Drop> Heap<S> {
         }
     }
 
+    /// The first score and its member.
+    pub(crate) fn first(&self) -> Option<(i128, &[u8])>
+        requires whole { IsWhole self.now }
+        requires in_range { AreInRange (scores_map self.now) }
+        ensures none { IfNone result (scores_map self.now ≡ empty) }
+        ensures first { IfSome result (λ pair. IsFirst (scores_map self.now) (lent_pair pair)) }
+    {
+        let slot = self.slots.first()?;
+        let (member, _) = self.places.get_index(slot.index)?;
+        Some((slot.score, member.as_slice()))
+    }
+
     /// Whether the place `a` goes before the place `b`.
     fn is_before(&self, a: usize, b: usize) -> bool
         requires linked { IsLinkedHeap self.now }
@@ -106,7 +122,7 @@ impl<S: BuildHasher + Drop> Heap<S> {
         }
     }
 
-    /// Moves what is at a place down while a child goes before it, and answers where it comes to.
+    /// Moves what is at a place down to where it has no child, and answers where it comes to.
     fn sink(&mut self, mut place: usize) -> usize
         requires linked { IsLinkedHeap self.old }
         requires within { place < length self.old.slots.items }
@@ -118,9 +134,6 @@ impl<S: BuildHasher + Drop> Heap<S> {
     {
         while place < self.slots.len() / 2 {
             let child = self.first_child(place);
-            if !self.is_before(child, place) {
-                return place;
-            }
             self.swap(place, child);
             place = child;
         }
@@ -146,15 +159,17 @@ impl<S: BuildHasher + Drop> Heap<S> {
         }
     }
 
-    /// Moves what is at a place, where all else is in order, to where it belongs.
+    /// Moves what is at a place, where all else is in order, to where it belongs. Past the last place there is nothing
+    /// to move.
     pub(crate) fn settle(&mut self, place: usize)
         requires linked { IsLinkedHeap self.old }
-        requires within { place < length self.old.slots.items }
         requires hole { IsHeapWithHole (lt_by_cmp turned_cmp) (queue_of self.old) place (length self.old.slots.items) }
         ensures moves { OnlyMoves self.old self.new }
         ensures heap { IsHeap turned_cmp (queue_of self.new) }
     {
-        let place = self.sink(place);
-        self.rise(place);
+        if place < self.slots.len() {
+            let place = self.sink(place);
+            self.rise(place);
+        }
     }
 }

@@ -7,10 +7,11 @@
 
 mod changes;
 mod heap;
-mod in_order;
+pub mod laws;
+mod pairs;
 mod pos_heap;
-mod rank;
 #[cfg(test)]
 mod tests;
 
+pub use pairs::Pairs;
 pub use pos_heap::PosHeap;

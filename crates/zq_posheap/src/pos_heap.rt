@@ -1,12 +1,15 @@
 //! `PosHeap`.
-ghost use Rattle.std.specs.Prelude.{IfOk, count_by, IfSome, map, IsNone, None, OnErr, OnOk, ◌≡◌, ◌↔◌};
+ghost use Rattle.std.specs.Prelude.{List, option_map, slice_get, IfOk, count_by, IfSome, length, map, IsNone, None, OnErr, OnOk, ◌^◌, ◌<◌, ◌≡◌, ◌↔◌};
 ghost use Rattle.std.specs.Ordering.{is_lt};
-ghost use Rattle.zq_posheap.specs.Order.{scored_cmp};
+ghost use Rattle.zq_posheap.specs.Order.{Scored, scored_cmp};
 ghost use Rattle.std.specs.FinMap.{empty, entries, get, insert, len as map_len, remove};
 ghost use Rattle.zq_posheap.specs.First.{IsFirst};
-ghost use Rattle.zq_posheap.specs.InOrder.{ListsInOrder, pair_of};
+ghost use Rattle.zq_posheap.specs.InOrder.{ListsInOrder};
+ghost use Rattle.zq_posheap.specs.Listing.{IsListing, lent_pair, pair_of};
+ghost use Rattle.zq_posheap.specs.Scores.{AreInRange};
 
 use crate::heap::Heap;
+use crate::pairs::Pairs;
 use indexmap::IndexMap;
 use std::alloc::{AllocError, Global};
 use std::hash::{BuildHasher, BuildHasherDefault, FoldHasher};
@@ -77,28 +80,47 @@ impl<S: BuildHasher + Drop> PosHeap<S> {
         }
     }
 
-    /// The first score and its member.
+    /// The first score and its member: the head of `in_order`, at hand with no sort.
     pub fn top(&self) -> Option<(i128, &[u8])>
         ensures none { IsNone result ↔ (self.now ≡ empty) }
-        ensures first { IfSome result (λ pair. IsFirst self.now (pair.0, pair.1.now)) }
+        ensures first { IfSome result (λ pair. IsFirst self.now (lent_pair pair)) }
+        ensures head { (pairs : List Scored) → ListsInOrder self.now pairs → slice_get pairs 0 ≡ option_map lent_pair result }
     {
-        let slot = self.heap.slots.first()?;
-        let (member, _) = self.heap.places.get_index(slot.index)?;
-        Some((slot.score, member.as_slice()))
+        self.heap.first()
+    }
+
+    /// All scores with their members, in no order. It takes no memory.
+    pub fn iter(&self) -> Pairs<'_>
+        ensures lists { IsListing self.now result }
+        ensures fits { length result < 2 ^ 63 }
+        ensures in_range { AreInRange self.now }
+    {
+        Pairs::new(self.heap.places.iter())
     }
 
     /// All scores with their members, by score and then by bytes, in memory from `alloc`.
     pub fn in_order(&self, alloc: Global) -> Result<Vec<(i128, Vec<u8>)>, AllocError>
         ensures { IfOk result (λ pairs. ListsInOrder self.now (map pair_of pairs.items)) }
     {
-        self.heap.in_order(alloc)
+        let mut pairs = Vec::with_capacity(alloc, self.len())?;
+        for (score, member) in self.iter() {
+            pairs.push((score, member.to_vec(alloc)?))?;
+        }
+        pairs.sort_unstable();
+        Ok(pairs)
     }
 
     /// How many pairs go before this score with these bytes: at a member's own score and bytes, its rank from 0.
     pub fn count_before(&self, score: i128, member: &[u8]) -> usize
         ensures { result ≡ count_by (λ e. is_lt (scored_cmp (e.1, e.0) (score, member.now))) (entries self.now) }
     {
-        self.heap.count_before(score, member)
+        let mut count = 0;
+        for pair in self.iter() {
+            if pair.cmp(&(score, member)).is_lt() {
+                count += 1;
+            }
+        }
+        count
     }
 
     /// Gives a member a score, whether it had one or not. Where memory is refused, which is only for a member that was

@@ -82,3 +82,22 @@ fn counts_what_goes_before(rt: HostRuntime) -> Result<(), Fail> {
     assert_eq!(rt; heap.count_before(1, b"b".as_slice()), 0);
     Ok(())
 }
+
+#[test]
+fn visits_each_pair_once(rt: HostRuntime) -> Result<(), Fail> {
+    let mut heap = PosHeap::new(rt.alloc());
+    heap.set(b"a".as_slice(), 2)?;
+    heap.set(b"b".as_slice(), -1)?;
+    heap.set(b"c".as_slice(), 2)?;
+    heap.set(b"a".as_slice(), 5)?;
+    heap.remove(b"c".as_slice());
+    let mut pairs = Vec::new(rt.alloc());
+    for pair in heap.iter() {
+        pairs.push(pair)?;
+    }
+    pairs.sort_unstable();
+    assert_eq!(rt; pairs.len(), 2);
+    assert!(rt; pairs[0] == (-1, b"b".as_slice()));
+    assert!(rt; pairs[1] == (5, b"a".as_slice()));
+    Ok(())
+}

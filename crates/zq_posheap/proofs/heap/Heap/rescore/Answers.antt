@@ -31,12 +31,6 @@ settle-requires-clause-linked g c =
     let noted = ap values_of (c.set_score.ensures.noted _ c.index.ensures) ∙ set_value_at-values entries c.in-Some.index (at (to_z w128 (of_z w128 c.args.score)) place.position) in
     rw noted (rescored slots (values_of entries) c.requires.whole.linked c.in-Some.index place.position place.score (to_z w128 (of_z w128 c.args.score)) c.index.ensures)
 
-pub settle-requires-clause-within : goal.settle-requires-clause-within
-settle-requires-clause-within g c =
-    let slots = c.args.self.now.slots.items in
-    let found = c.requires.whole.linked.found c.in-Some.index _ c.index.ensures in
-    omega (arith, slice_get_within slots _ _ found, length-set slots c.index.result.now.position (slot (to_z w128 (of_z w128 c.args.score)) c.in-Some.index))
-
 pub settle-requires-clause-hole : goal.settle-requires-clause-hole
 settle-requires-clause-hole g c =
     let slots = c.args.self.now.slots.items in

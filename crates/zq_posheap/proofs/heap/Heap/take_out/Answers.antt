@@ -9,7 +9,7 @@ use Rattle.zq_posheap.proofs.Linked.{slot}
 use Rattle.zq_posheap.proofs.Moving.{long, same_scores}
 use Rattle.zq_posheap.proofs.Ordered.{turned_total}
 use Rattle.zq_posheap.proofs.Scored.{text_there}
-use Rattle.zq_posheap.proofs.Sifting.{hole_at_removal, no_hole}
+use Rattle.zq_posheap.proofs.Sifting.{hole_at_removal}
 use Rattle.zq_posheap.specs.Moves.{queue_of}
 use Rattle.zq_posheap.specs.Order.{texts_of, turned_cmp}
 use Rattle.zq_posheap.specs.Scores.{scores_map}
@@ -34,30 +34,13 @@ settle-requires-clause-hole g c =
     (λ m d apart within. c.drop_last.ensures.others m d within ∙ c.move_last.ensures.others m d apart (omega (arith, within, shorter)))
     c.requires.whole.ordered
 
-pub returns-then-position-len-clause-score : goal.returns-then-position-len-clause-score
-returns-then-position-len-clause-score g c =
+pub returns-clause-score : goal.returns-clause-score
+returns-clause-score g c =
     let is = score_is c.args.self.now.places.entries c.args.member.now c.index.result.now (sym c.index.ensures ∙ c.in_ok-index.ensures.value) in
     ap (λ score. Some score) (to_z-of_z w128 c.index.result.now.score (c.requires.in_range c.args.member.now c.index.result.now.score is)) ∙ sym is
 
-pub returns-else-position-len-clause-score : goal.returns-else-position-len-clause-score
-returns-else-position-len-clause-score g c =
-    let is = score_is c.args.self.now.places.entries c.args.member.now c.index.result.now (sym c.index.ensures ∙ c.in_ok-index.ensures.value) in
-    ap (λ score. Some score) (to_z-of_z w128 c.index.result.now.score (c.requires.in_range c.args.member.now c.index.result.now.score is)) ∙ sym is
-
-pub returns-else-position-len-clause-scores : goal.returns-else-position-len-clause-scores
-returns-else-position-len-clause-scores g c =
-    let old = c.args.self.now in
-    let place = c.index.result.now in
-    let key = found_key old.places.entries c.args.member.now c.in_ok-index.index c.in_ok-index.ensures.index in
-    let last = ap (λ n. slice_get c.move_last.new.self.slots.items (n - 1)) c.move_last.ensures.moves.len ∙ c.move_last.ensures.last
-    ∙ c.requires.whole.linked.found c.in_ok-index.index place c.index.ensures in
-    let text = ap (λ ks. get_or (texts_of ks) c.in_ok-index.index []) c.move_last.ensures.moves.members
-    ∙ sym (text_there old.places.entries c.in_ok-index.index key.0.0 key.0.1 key.1) ∙ sym key.2 in
-    c.drop_last.ensures.scores (slot place.score c.in_ok-index.index) last
-    ∙ (λ k. remove (same_scores old c.move_last.new.self c.move_last.ensures.moves k) (text k))
-
-pub returns-then-position-len-clause-scores : goal.returns-then-position-len-clause-scores
-returns-then-position-len-clause-scores g c =
+pub returns-clause-scores : goal.returns-clause-scores
+returns-clause-scores g c =
     let old = c.args.self.now in
     let place = c.index.result.now in
     let key = found_key old.places.entries c.args.member.now c.in_ok-index.index c.in_ok-index.ensures.index in
@@ -67,18 +50,3 @@ returns-then-position-len-clause-scores g c =
     ∙ sym (text_there old.places.entries c.in_ok-index.index key.0.0 key.0.1 key.1) ∙ sym key.2 in
     same_scores _ c.settle.new.self c.settle.ensures.moves ∙ c.drop_last.ensures.scores (slot place.score c.in_ok-index.index) last
     ∙ (λ k. remove (same_scores old c.move_last.new.self c.move_last.ensures.moves k) (text k))
-
-pub returns-else-position-len-clause-still_whole : goal.returns-else-position-len-clause-still_whole
-returns-else-position-len-clause-still_whole g c =
-    let old = c.args.self.now in
-    let shorter = c.drop_last.ensures.len ∙ c.move_last.ensures.moves.len in
-    let slots = c.drop_last.new.self.slots in
-    record {
-      linked = c.drop_last.ensures.still_linked;
-      ordered = no_hole turned_cmp (queue_of c.drop_last.new.self) c.index.result.now.position (length slots.items) (long c.drop_last.new.self)
-          (omega (arith, c.if-position-len.false, c.len.ensures, slots.ok.0))
-          (hole_at_removal turned_cmp turned_total (queue_of old) (queue_of c.drop_last.new.self) c.index.result.now.position (length slots.items)
-          (shorter ∙ sym (long old))
-          (λ m d apart within. c.drop_last.ensures.others m d within ∙ c.move_last.ensures.others m d apart (omega (arith, within, shorter)))
-          c.requires.whole.ordered);
-    }

@@ -1,44 +1,19 @@
-use Rattle.std.proofs.Common.{ap, sym, true≢false, ◌∙◌}
-use Rattle.std.proofs.lemmas.Int.{to_z-of_z}
-use Rattle.std.proofs.lemmas.Map.Entries.{length-values_of}
-use Rattle.std.proofs.lemmas.Option.{none-some, slice_get_within}
-use Rattle.std.specs.Cmp.Lexicographic.{slice_cmp}
-use Rattle.std.specs.FinMap.{get, get-empty}
-use Rattle.std.specs.Int.{w128}
-use Rattle.std.specs.Map.{values_of}
-use Rattle.std.specs.Ordering.{nat_cmp}
-use Rattle.std.specs.Prelude.{slice_get}
-use Rattle.std.proofs.Common.{arith}
-use Rattle.zq_posheap.proofs.Entries.{scores_in}
-use Rattle.zq_posheap.proofs.Tops.{first_is, same_first}
+use Rattle.std.proofs.Common.{subst}
+use Rattle.std.specs.FinMap.{empty}
+use Rattle.std.specs.Prelude.{IfSome, IsNone, List, option_map, slice_get, ◌↔◌, ◌≡◌}
+use Rattle.zq_posheap.proofs.Heads.{head_is, none_there}
+use Rattle.zq_posheap.specs.First.{IsFirst}
+use Rattle.zq_posheap.specs.InOrder.{ListsInOrder}
+use Rattle.zq_posheap.specs.Listing.{lent_pair}
+use Rattle.zq_posheap.specs.Order.{Scored}
 use Rattle.zq_posheap.proofs.pos_heap.PosHeap.top.Goals as goal
 
-pub returns-in_err-member-clause-none : goal.returns-in_err-member-clause-none
-returns-in_err-member-clause-none g c =
-    let heap = c.self.inside.heap in
-    let at_top = sym (c.in_ok-slot.ensures.value ∙ ap (λ xs. slice_get xs 0) c.deref.ensures.value) in
-    let within = slice_get_within (values_of heap.places.entries) _ _ (c.self.invariant.0.linked.known 0 c.in_ok-slot.slot.now at_top) in
-    absurd (true≢false (sym (c.in_err-member.ensures.found.1 (omega (arith, within, length-values_of heap.places.entries)))))
+pub returns-clause-none : goal.returns-clause-none
+returns-clause-none g c = subst (λ scores. IsNone c.first.result ↔ (scores ≡ empty)) c.self.view_is (none_there _ c.first.result c.first.ensures.none c.first.ensures.first)
 
 pub returns-clause-first : goal.returns-clause-first
-returns-clause-first g c =
-    let heap = c.self.inside.heap in
-    let slot = c.in_ok-slot.slot.now in
-    let at_top = sym (c.in_ok-slot.ensures.value ∙ ap (λ xs. slice_get xs 0) c.deref.ensures.value) in
-    let first = first_is heap.places.entries heap.slots.items c.self.invariant.0.linked c.self.invariant.0.ordered slot c.in_ok-member.member.now
-    c.in_ok-member.field-0-1.now at_top (sym c.in_ok-member.ensures.entry) c.in_ok-member.ensures.value in
-    let fits = to_z-of_z w128 slot.score (c.self.invariant.1 c.in_ok-member.member.now.items slot.score first.there) in
-    same_first (scores_in heap.places.entries) c.args.self.now slot.score _ c.in_ok-member.member.now.items c.as_slice.result.now
-    c.self.view_is (sym fits) (sym c.as_slice.ensures.value) first
+returns-clause-first g c = subst (λ scores. IfSome c.first.result (λ pair. IsFirst scores (lent_pair pair))) c.self.view_is c.first.ensures.first
 
-pub returns-clause-none : goal.returns-clause-none
-returns-clause-none g c =
-    let heap = c.self.inside.heap in
-    let slot = c.in_ok-slot.slot.now in
-    let at_top = sym (c.in_ok-slot.ensures.value ∙ ap (λ xs. slice_get xs 0) c.deref.ensures.value) in
-    let first = first_is heap.places.entries heap.slots.items c.self.invariant.0.linked c.self.invariant.0.ordered slot c.in_ok-member.member.now
-    c.in_ok-member.field-0-1.now at_top (sym c.in_ok-member.ensures.entry) c.in_ok-member.ensures.value in
-    let text = c.in_ok-member.member.now.items in (
-      λ e. absurd (true≢false e),
-      λ empty. absurd (none-some slot.score (sym (get-empty (slice_cmp nat_cmp) text) ∙ ap (λ m. get m text) (sym (c.self.view_is ∙ empty)) ∙ first.there)),
-    )
+pub returns-clause-head : goal.returns-clause-head
+returns-clause-head g c = subst (λ scores. (pairs : List Scored) → ListsInOrder scores pairs → slice_get pairs 0 ≡ option_map lent_pair c.first.result) c.self.view_is
+    (head_is _ c.first.result c.first.ensures.none c.first.ensures.first)
