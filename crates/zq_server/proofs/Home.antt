@@ -2,7 +2,7 @@
 
 use Rattle.std.proofs.Common.{ap, arith, sym, ◌∙◌}
 use Rattle.std.proofs.lemmas.Nat.{mod_below}
-use Rattle.std.specs.Prelude.{Err, List, Result, length, ℕ, ◌++◌, ◌%◌, ◌<◌, ◌≡◌, ◌≢◌}
+use Rattle.std.specs.Prelude.{Err, List, Result, ℕ, ◌%◌, ◌<◌, ◌≡◌, ◌≢◌}
 use Rattle.zq_model.specs.Heaps.{fnv1a64, heap_of, placing_bytes}
 
 pub heap_of-one : (key member : List ℕ) → heap_of key member 1 ≡ 0

@@ -2,7 +2,7 @@
 
 use Rattle.std.specs.Prelude.{List, Some, [], if◌then◌else◌, length, refl, slice_get, take, ℕ, ◌++◌, ◌+◌, ◌∷◌, ◌≡◌, ◌≤◌, drop}
 use Rattle.std.proofs.Common.{ap, arith, suc, sym, zero, zero-add, ◌∙◌}
-use Rattle.std.proofs.lemmas.List.{append-nil, append_assoc, length-append, take-append-le, take_all, take-append-drop}
+use Rattle.std.proofs.lemmas.List.{append-nil, append_assoc, length-append, take_all, take-append-drop}
 use Rattle.std.proofs.Math.Seq.{take-append_seam}
 use Rattle.zq_server.specs.Plan.{Move, Part, after, after_all, count_in_turn, moves_in_turn}
 use Rattle.zq_shard.specs.Shard.{HeapImage}

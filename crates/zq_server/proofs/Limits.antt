@@ -5,9 +5,9 @@ use Rattle.std.proofs.lemmas.Bool.{and_parts}
 use Rattle.std.proofs.lemmas.List.Elements.{All-cons, All-head, All-nil, All-tail}
 use Rattle.std.specs.List.{list_any, after_first, before_first}
 use Rattle.std.specs.Int.Signed.{le_z_yes}
-use Rattle.std.specs.Prelude.{T, int_le, All, Bool, Err, List, None, Ok, Option, Result, Some, [], cond, false, length, not, refl, suc, true, ℕ, ℤ, ◌&&◌, ◌||◌, ◌∷◌, ◌≡◌, ◌≤◌, ◌≤ℤ◌}
+use Rattle.std.specs.Prelude.{T, int_le, All, Bool, Err, List, None, Ok, Option, Some, [], cond, false, length, not, refl, true, ℤ, ◌&&◌, ◌||◌, ◌∷◌, ◌≡◌, ◌≤◌, ◌≤ℤ◌}
 use Rattle.zq_model.specs.Operation.{IsWithin, MOST}
-use Rattle.zq_server.specs.Command.{Command, Ping, Reading, Refusal, Syntax, Unknown, Zadd, Zcard, Zrem, Zscore, begins_with_flag, command, command_of, is_paired, name_of, or_else, pair_onto, pairs_of, zadd}
+use Rattle.zq_server.specs.Command.{Command, Ping, Reading, Refusal, Syntax, Unknown, Zadd, Zcard, Zrem, Zscore, begins_with_flag, command, command_of, is_paired, name_of, or_else, pair_onto, pairs_of}
 use Rattle.zq_server.specs.Plan.{IsPair, IsShort, IsWithinLimits}
 use Rattle.zq_server.specs.Words.{Word, are_all, if_passes, integer_of, is_in_range, is_point, is_zero, score_of}
 use Rattle.zq_server.specs.declared.name.Name.{Name}

@@ -1,6 +1,6 @@
 -- What a refusal comes to.
 
-use Rattle.std.proofs.Common.{arith, refl, sym, subst, ◌∙◌}
+use Rattle.std.proofs.Common.{inl, refl, sym, subst, ◌∙◌}
 use Rattle.std.specs.Fmt.{digits}
 use Rattle.std.specs.Prelude.{Err, Ok, codes, false, true, ◌∷◌, ◌≡◌}
 use Rattle.zq_resp.specs.Reply.{line}
@@ -25,5 +25,5 @@ refusal_runs Unknown reading s bytes is e = subst (λ r. RunsReading s r s bytes
 refusal_runs Words reading s bytes is e = subst (λ r. RunsReading s r s bytes) (sym is) (refl, e)
 refusal_runs Syntax reading s bytes is e = subst (λ r. RunsReading s r s bytes) (sym is) (refl, e)
 refusal_runs Score reading s bytes is e = subst (λ r. RunsReading s r s bytes) (sym is) (refl, e)
-refusal_runs NoMemory (Ok command) s bytes is e = refused 0 (omega arith) refl (e ∙ no_memory)
+refusal_runs NoMemory (Ok command) s bytes is e = refused 0 (inl refl) refl (e ∙ no_memory)
 refusal_runs NoMemory (Err refusal) s bytes is e = absurd (differ is)

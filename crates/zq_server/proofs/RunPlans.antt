@@ -1,10 +1,8 @@
 -- What a loop over the parts of a command comes to.
 
-use Rattle.std.proofs.Common.{ap, arith, refl, to_z, w64, ◌∙◌}
-use Rattle.std.specs.Prelude.{List, Some, length, pos, slice_get, slice_index, take, ℕ, ◌+◌, ◌<◌, ◌^◌, ◌∷◌, ◌≡◌, ◌≤◌}
+use Rattle.std.proofs.Common.{ap, arith, inr, refl, ◌∙◌}
+use Rattle.std.specs.Prelude.{List, Some, length, slice_get, slice_index, ℕ, ◌+◌, ◌<◌, ◌≡◌}
 use Rattle.zq_model.specs.Sets.{LAST}
-use Rattle.zq_resp.specs.Reply.{line, reply_bytes}
-use Rattle.zq_resp.specs.declared.reply.Reply.{Integer}
 use Rattle.zq_server.proofs.InTurn.{StandsAfter, stands_cut, stands_next, stands_whole}
 use Rattle.zq_server.specs.Cut.{cut_text}
 use Rattle.zq_server.specs.Plan.{Part, RunsPlan, SITE, after_all, cut_reply, in_turn, moves_in_turn, number, refused, whole, worn}
@@ -20,17 +18,18 @@ module _ {X : Type 0} (f : HeapImage → X → Part) (xs : List X) (s t : HeapIm
       let all = stands_whole f xs s t counted made here in
       whole all.0 (is ∙ ap number all.1)
 
+  -- an act was left to make where the part at i was refused
+  acts_left : (i : ℕ) (x : X) → StandsAfter f xs i s t counted made → slice_get xs i ≡ Some x → 0 < length (f t x).moves → made < length (moves_in_turn f xs s)
+  acts_left i x here at more =
+      let next = stands_next f xs i x s t (after_all (f t x).moves t) counted made _ (length (f t x).moves) here at refl refl refl in
+      let longer = (stands_cut f xs (i + 1) s (after_all (f t x).moves t) _ (made + length (f t x).moves) next).0 in
+      omega arith
+
   -- where the part at i was refused
   pub ran_cut : (fault : MakeFault) (i : ℕ) (x : X) → StandsAfter f xs i s t counted made → slice_get xs i ≡ Some x → 0 < length (f t x).moves →
       (fault ≡ WrongHeap → ⊥) → (fault ≡ Worn → slice_index t.image.vector SITE ≡ LAST) → (bytes : Word) → bytes ≡ cut_reply (cut_text fault) made → RunsPlan s (in_turn f xs s) t bytes
   ran_cut WrongHeap i x here at more home last bytes is = absurd (home refl)
   ran_cut NoMemory i x here at more home last bytes is =
-      let stands = stands_cut f xs i s t counted made here in refused made stands.0 stands.1 is
+      let stands = stands_cut f xs i s t counted made here in refused made (inr (acts_left i x here at more)) stands.1 is
   ran_cut Worn i x here at more home last bytes is =
-      let stands = stands_cut f xs i s t counted made here in worn made (one_more i x here at more) stands.1 (last refl) is
-    where
-      one_more : (i : ℕ) (x : X) → StandsAfter f xs i s t counted made → slice_get xs i ≡ Some x → 0 < length (f t x).moves → made < length (moves_in_turn f xs s)
-      one_more i x here at more =
-          let next = stands_next f xs i x s t (after_all (f t x).moves t) counted made _ (length (f t x).moves) here at refl refl refl in
-          let longer = (stands_cut f xs (i + 1) s (after_all (f t x).moves t) _ (made + length (f t x).moves) next).0 in
-          omega arith
+      let stands = stands_cut f xs i s t counted made here in worn made (acts_left i x here at more) stands.1 (last refl) is

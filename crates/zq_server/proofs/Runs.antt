@@ -1,10 +1,10 @@
 -- Runs of requests and their replies, one after the other.
-use Rattle.std.proofs.Common.{◌≡◌, ℕ, List, [], ◌∷◌, ◌++◌, refl, sym, ap, ◌∙◌, subst, append_assoc, append-nil, ◌+◌, ◌<◌, length, get_or, take, drop, take-append-drop}
+use Rattle.std.proofs.Common.{◌≡◌, ℕ, List, [], ◌∷◌, ◌++◌, refl, sym, ap, ◌∙◌, subst, append_assoc, append-nil, ◌+◌, ◌<◌, length, get_or, take, drop, take-append-drop, arith}
 use Rattle.std.proofs.lemmas.List.{take_more}
 use Rattle.zq_resp.specs.declared.reply.Reply.{Reply}
 use Rattle.zq_resp.specs.Reply.{all_bytes, reply_bytes}
 use Rattle.zq_resp.specs.Stream.{Requests}
-use Rattle.zq_server.specs.Session.{Relation, Runs, IsAnswered, IsBegun, IsClosed, closing}
+use Rattle.zq_server.specs.Session.{Relation, Runs, IsAnswered, IsBegun, IsStopped}
 
 all_bytes-append : (xs ys : List Reply) → all_bytes (xs ++ ys) ≡ all_bytes xs ++ all_bytes ys
 all_bytes-append [] ys = refl
@@ -38,15 +38,59 @@ answered-more answers a b c requests i request reply bytes h e p q =
     (answered-join answers a b c (take i requests) (request ∷ []) bytes (reply_bytes reply) p (answered-one answers b c request reply q))
 
 -- The last reply was made and not written.
-pub begun-more : {S : Type 0} (answers : Relation S) (a b c : S) (requests : Requests) (i : ℕ) (request : List (List ℕ)) (reply : Reply) (bytes : List ℕ)
+pub stopped-more : {S : Type 0} (answers : Relation S) (a b c : S) (requests : Requests) (i : ℕ) (request : List (List ℕ)) (reply : Reply) (bytes : List ℕ)
     → i < length requests → request ≡ get_or requests i request → IsAnswered answers a b (take i requests) bytes → answers b request reply c
-    → IsBegun answers a c requests bytes
-begun-more answers a b c requests i request reply bytes h e p q = (
-  take (i + 1) requests,
-  drop (i + 1) requests,
-  reply_bytes reply,
-  sym (take-append-drop (i + 1) requests),
-  answered-more answers a b c requests i request reply bytes h e p q,
+    → IsStopped answers a c requests bytes
+stopped-more answers a b c requests i request reply bytes h e p q =
+    let next : take (i + 1) requests ≡ take i requests ++ request ∷ [] = take_more requests i request h ∙ ap (λ x. take i requests ++ x ∷ []) (sym e) in
+    record {
+      first = take (i + 1) requests;
+      others = drop (i + 1) requests;
+      split = sym (take-append-drop (i + 1) requests);
+      replies = p.0;
+      unwritten = reply ∷ [];
+      runs = subst (λ front. Runs answers a front (p.0 ++ reply ∷ []) c) (sym next) (runs-join answers a b c (take i requests) (request ∷ []) p.0 (reply ∷ []) p.1 (c, q, refl));
+      at_most_one = omega arith;
+      written = p.2;
+    }
+
+-- All was written.
+pub stopped-whole : {S : Type 0} (answers : Relation S) (a b : S) (requests : Requests) (bytes : List ℕ)
+    → IsAnswered answers a b requests bytes → IsStopped answers a b requests bytes
+stopped-whole answers a b requests bytes p = record {
+  first = requests;
+  others = [];
+  split = sym (append-nil requests);
+  replies = p.0;
+  unwritten = [];
+  runs = subst (λ replies. Runs answers a requests replies b) (sym (append-nil p.0)) p.1;
+  at_most_one = omega arith;
+  written = p.2;
+}
+
+pub stopped-join : {S : Type 0} (answers : Relation S) (a b c : S) (xs ys : Requests) (first second : List ℕ)
+    → IsAnswered answers a b xs first → IsStopped answers b c ys second → IsStopped answers a c (xs ++ ys) (first ++ second)
+stopped-join answers a b c xs ys first second p q = record {
+  first = xs ++ q.first;
+  others = q.others;
+  split = ap (λ zs. xs ++ zs) q.split ∙ sym (append_assoc xs q.first q.others);
+  replies = p.0 ++ q.replies;
+  unwritten = q.unwritten;
+  runs =
+      subst (λ replies. Runs answers a (xs ++ q.first) replies c) (sym (append_assoc p.0 q.replies q.unwritten))
+      (runs-join answers a b c xs q.first p.0 (q.replies ++ q.unwritten) p.1 q.runs);
+  at_most_one = q.at_most_one;
+  written = rw (p.2, q.written) (sym (all_bytes-append p.0 q.replies));
+}
+
+pub stopped-begun : {S : Type 0} (answers : Relation S) (a b : S) (requests : Requests) (bytes : List ℕ)
+    → IsStopped answers a b requests bytes → IsBegun answers a b requests bytes
+stopped-begun answers a b requests bytes p = (
+  p.first,
+  p.others,
+  all_bytes p.unwritten,
+  p.split,
+  (p.replies ++ p.unwritten, p.runs, rw p.written (sym (all_bytes-append p.replies p.unwritten))),
 )
 
 -- What is answered whole is begun.

@@ -1,18 +1,17 @@
 -- What a session has served, with one more piece.
-use Rattle.std.proofs.Common.{◌≡◌, List, ℕ, [], ◌∷◌, ◌++◌, Option, Some, Result, Ok, Err, sym, ap, subst, ◌∙◌, append_assoc, append-nil, inl, inr, take, drop, take-append-drop}
+use Rattle.std.proofs.Common.{◌≡◌, List, ℕ, [], ◌++◌, Option, Some, Result, Ok, Err, sym, ap, subst, ◌∙◌, append_assoc, append-nil, inl, inr, take, drop, take-append-drop}
 use Rattle.std.specs.Io.KnownBytes.{IsAtEnd}
 use Rattle.std.specs.declared.alloc.AllocError.{AllocError}
-use Rattle.zq_resp.specs.declared.fault.FeedFault.{FeedFault}
-use Rattle.zq_resp.specs.Stream.{Requests, Reaches, Splits, Breaks, handed}
+use Rattle.zq_resp.specs.Stream.{Requests, Splits, handed}
 use Rattle.zq_server.specs.declared.serving.Served.{Served}
 use Rattle.zq_server.specs.declared.serving.Served.TheVariants.{More, Broken}
 use Rattle.zq_server.specs.declared.outcome.End.{End}
 use Rattle.zq_server.specs.declared.outcome.End.TheVariants.{Clean, Inside, Protocol}
 use Rattle.zq_server.specs.declared.outcome.SessionFault.{SessionFault}
 use Rattle.zq_server.specs.declared.outcome.SessionFault.TheVariants as stop
-use Rattle.zq_server.specs.Session.{Relation, IsAnswered, IsBegun, IsClosed, IsOwed, IsReadOff, Serves, closing}
+use Rattle.zq_server.specs.Session.{Relation, IsAnswered, IsBegun, IsClosed, IsOwed, IsStopped, IsReadOff, Serves, closing}
 use Rattle.zq_server.specs.Serving.{ServesPiece, GoesOn, EndsWith}
-use Rattle.zq_server.proofs.Runs.{answered-none, answered-join, begun-whole}
+use Rattle.zq_server.proofs.Runs.{answered-none, answered-join, begun-whole, stopped-whole, stopped-join, stopped-begun}
 use Rattle.zq_server.proofs.Streams.{reaches-on, splits-on, breaks-on, splits-none, handed-append}
 
 module _ {S : Type 0} (answers : Relation S) where
@@ -49,6 +48,13 @@ module _ {S : Type 0} (answers : Relation S) where
     subst (IsAnswered answers old new (handed all ++ q.0)) (sym (append_assoc written bytes q.2))
         (answered-join answers old mid new (handed all) q.0 written (bytes ++ q.2) p q.4),
   )
+
+  stopped-on : (old mid new : S) (all more : Requests) (written bytes : List ℕ)
+      → IsAnswered answers old mid (handed all) written → IsStopped answers mid new (handed more) bytes
+      → IsStopped answers old new (handed (all ++ more)) (written ++ bytes)
+  stopped-on old mid new all more written bytes p q =
+      subst (λ requests. IsStopped answers old new requests (written ++ bytes)) (sym (handed-append all more))
+      (stopped-join answers old mid new (handed all) (handed more) written bytes p q)
 
   pub stands-on : (old mid new : S) (text written had piece : List ℕ) (bytes : List ℕ) (kept : Option (List ℕ))
       → Stands old mid text written had → ServesPiece answers mid new had piece kept (Ok More) bytes
@@ -88,7 +94,8 @@ module _ {S : Type 0} (answers : Relation S) where
   serves-on old mid new text written had piece bytes (Err stop.Read) s p =
       (s.all ++ p.0, p.1, splits-on text had piece p.1 s.all p.0 s.splits p.2, answered-on old mid new s.all p.0 written bytes s.answered p.3)
   serves-on old mid new text written had piece bytes (Err stop.Write) s p = owed-on old mid new text written had piece bytes s p
-  serves-on old mid new text written had piece bytes (Err stop.NoMemory) s p = owed-on old mid new text written had piece bytes s p
+  serves-on old mid new text written had piece bytes (Err stop.NoMemory) s p =
+      (s.all ++ p.0, p.1, reaches-on text had piece p.1 s.all p.0 s.splits.reaches p.2, stopped-on old mid new s.all p.0 written bytes s.answered p.3)
 
   -- what a piece is answered with is owed
   pub owed-whole : (old new : S) (had piece bytes : List ℕ) (kept : Option (List ℕ)) (result : Result Served AllocError)
@@ -96,7 +103,7 @@ module _ {S : Type 0} (answers : Relation S) where
   owed-whole old new had piece bytes kept (Ok More) p = inl (p.0, p.1, p.3.reaches, begun-whole answers old new (handed p.0) bytes p.4)
   owed-whole old new had piece bytes kept (Ok Broken) p =
       inr (p.0, p.1, [], p.2, subst (IsClosed answers old new (handed p.0)) (sym (append-nil bytes)) p.3)
-  owed-whole old new had piece bytes kept (Err error) p = inl (p.0, p.1, p.2, p.3)
+  owed-whole old new had piece bytes kept (Err error) p = inl (p.0, p.1, p.2, stopped-begun answers old new (handed p.0) bytes p.3)
 
   -- A front of what is owed is owed.
   owed-front : (old new : S) (text front back : List ℕ) → IsOwed answers old new text (front ++ back) → IsOwed answers old new text front
@@ -131,7 +138,7 @@ module _ {S : Type 0} (answers : Relation S) where
   serves-to-end old new text written had Protocol s e = absurd e
 
   pub serves-nothing : (s : S) → Serves answers s s [] [] (Err stop.NoMemory)
-  serves-nothing s = inl ([], [], splits-none.reaches, begun-whole answers s s [] [] (answered-none answers s))
+  serves-nothing s = ([], [], splits-none.reaches, stopped-whole answers s s [] [] (answered-none answers s))
 
 pub read-off : (end : End) (remaining : Option (List ℕ)) → IsAtEnd remaining → IsReadOff (Ok end) remaining
 read-off Clean remaining h = h

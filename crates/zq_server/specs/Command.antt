@@ -1,5 +1,5 @@
 -- Commands, and the command or the first refusal of a request's words.
-use Rattle.std.specs.Prelude.{◌==◌, ◌%◌, nat_le, ◌&&◌, ◌||◌, not, Bool, true, false, List, ℕ, ℤ, [], ◌∷◌, length, codes, Option, None, Some, Result, Ok, Err, if◌then◌else◌}
+use Rattle.std.specs.Prelude.{◌==◌, ◌%◌, nat_le, ◌&&◌, ◌||◌, not, Bool, false, List, ℤ, [], ◌∷◌, length, codes, Option, None, Some, Result, Ok, Err, if◌then◌else◌}
 use Rattle.std.specs.List.{find}
 use Rattle.std.specs.Option.{option_map}
 use Rattle.zq_server.specs.declared.name.Name.{Name}

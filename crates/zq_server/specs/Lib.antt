@@ -6,3 +6,4 @@ pub mod Serving
 pub mod Session
 pub mod Plan
 pub mod Cut
+pub mod Piped

@@ -4,13 +4,14 @@ use Rattle.zq_model.specs.Score.{score_of}
 use Rattle.std.specs.FinMap as map
 use Rattle.std.specs.Fmt.{signed_decimal}
 use Rattle.zq_model.specs.Operation as model
-use Rattle.std.specs.Prelude.{All, Bool, Err, List, None, Ok, Option, Some, [], codes, decimal, false, if◌then◌else◌, is_none, is_some, length, slice_index, take, true, ℕ, ℤ, ◌++◌, ◌+◌, ◌<◌, ◌∷◌, ◌≡◌, ◌≤◌}
+use Rattle.std.specs.Prelude.{All, Bool, Err, List, None, Ok, Option, Some, [], codes, decimal, false, if◌then◌else◌, is_none, is_some, length, slice_index, take, true, ℕ, ℤ, ◌++◌, ◌+◌, ◌<◌, ◌∷◌, ◌≡◌, ◌≤◌, ◌⊎◌}
 use Rattle.zq_dots.specs.Placed.{LONGEST}
-use Rattle.zq_model.specs.Image.{entry_at, image_after}
+use Rattle.zq_model.specs.Image.{empty_image, entry_at, image_after}
 use Rattle.zq_model.specs.Rule.{Greatest}
 use Rattle.zq_model.specs.Sets.{LAST}
-use Rattle.zq_resp.specs.Reply.{after_text, bulk, line}
-use Rattle.zq_server.specs.Command.{Command, Ping, Reading, Refusal, Score, Syntax, Unknown, Words, Zadd, Zcard, Zrem, Zscore}
+use Rattle.zq_resp.specs.Reply.{after_text, bulk, line, reply_bytes}
+use Rattle.zq_resp.specs.declared.reply.Reply.{Reply}
+use Rattle.zq_server.specs.Command.{Command, Ping, Reading, Refusal, Score, Syntax, Unknown, Words, Zadd, Zcard, Zrem, Zscore, command_of}
 use Rattle.zq_server.specs.Words.{Word}
 use Rattle.zq_shard.specs.Queues.{entries_at}
 use Rattle.zq_shard.specs.Shard.{HeapImage, next_operation}
@@ -24,6 +25,10 @@ pub record Move : Type 0 where
 -- the site of a server with one heap
 abbrev pub SITE : ℕ
 SITE = 0
+
+-- the one heap of a server that has taken nothing
+abbrev pub no_keys : HeapImage
+no_keys = record { heap = 0; heaps = 1; image = empty_image }
 
 -- the score of a member of a key
 abbrev pub score_in : HeapImage → Word → Word → Option ℤ
@@ -97,10 +102,11 @@ plan_of (Zcard key) s = reading (number (map.len (entries_at s.image.members key
 abbrev pub cut_reply : Word → ℕ → Word
 cut_reply text k = 45 ∷ line (text ++ after_text (Some k))
 
--- the heap and the reply after a plan: all of it; or its first acts, where memory was refused or the site's counter was at its last value
+-- the heap and the reply after a plan: all of it; or its first acts and not all, where memory was refused or the site's counter was at its last value;
+-- or nothing, where there was no memory for the reply
 pub data RunsPlan (s : HeapImage) (plan : Plan) (t : HeapImage) (reply : Word) : Type 0 where
   whole : t ≡ after_all plan.moves s → reply ≡ plan.reply → RunsPlan s plan t reply
-  refused : (k : ℕ) → k ≤ length plan.moves → t ≡ after_all (take k plan.moves) s → reply ≡ cut_reply (codes "OOM after") k → RunsPlan s plan t reply
+  refused : (k : ℕ) → (k ≡ 0) ⊎ (k < length plan.moves) → t ≡ after_all (take k plan.moves) s → reply ≡ cut_reply (codes "OOM after") k → RunsPlan s plan t reply
   worn : (k : ℕ) → k < length plan.moves → t ≡ after_all (take k plan.moves) s → slice_index t.image.vector SITE ≡ LAST → reply ≡ cut_reply (codes "ERR worn after") k → RunsPlan s plan t reply
 
 abbrev pub refusal_text : Refusal → Word
@@ -113,6 +119,10 @@ refusal_text Score = codes "ERR score is not a whole number in range"
 abbrev pub RunsReading : HeapImage → Reading → HeapImage → Word → Type 0
 RunsReading s (Ok command) t reply = RunsPlan s (plan_of command s) t reply
 RunsReading s (Err refusal) t reply = (t ≡ s) × (reply ≡ 45 ∷ line (refusal_text refusal))
+
+-- how a server with one heap answers: the heap before, the request's words, the reply, the heap after
+abbrev pub AnswersByPlan : HeapImage → List Word → Reply → HeapImage → Type 0
+AnswersByPlan old words reply new = RunsReading old (command_of words) new (reply_bytes reply)
 
 -- the words of a command are no longer than a key and a member may be, and no more than a request has
 abbrev pub IsShort : Word → Type 0

@@ -13,7 +13,7 @@ use Rattle.zq_server.specs.declared.outcome.End.TheVariants.{Clean, Inside}
 use Rattle.zq_server.specs.declared.outcome.End.TheVariants as end
 use Rattle.zq_server.specs.declared.outcome.SessionFault.{SessionFault}
 use Rattle.zq_server.specs.declared.outcome.SessionFault.TheVariants as stop
-use Rattle.zq_server.specs.Session.{Relation, IsAnswered, IsClosed, IsBegun, IsOwed}
+use Rattle.zq_server.specs.Session.{Relation, IsAnswered, IsClosed, IsStopped, IsOwed}
 
 -- One request: its reply stands behind what was there, or nothing does.
 abbrev pub AnswersOne : {S : Type 0} → Relation S → S → S → List (List ℕ) → Result (Unit {0}) AllocError → List ℕ → List ℕ → Type 0
@@ -22,7 +22,7 @@ AnswersOne answers old new request (Err error) before after = (reply : Reply) ×
 
 abbrev pub AnswersAll : {S : Type 0} → Relation S → S → S → Requests → Result (Unit {0}) AllocError → List ℕ → Type 0
 AnswersAll answers old new requests (Ok done) bytes = IsAnswered answers old new requests bytes
-AnswersAll answers old new requests (Err error) bytes = IsBegun answers old new requests bytes
+AnswersAll answers old new requests (Err error) bytes = IsStopped answers old new requests bytes
 
 -- a fault for which the input is closed
 abbrev pub IsBreak : FeedFault → Type 0
@@ -35,7 +35,7 @@ IsBreak NoMemory = ⊥
 abbrev pub ServesLast : {S : Type 0} → Relation S → S → S → FeedFault → Requests → Result Served AllocError → List ℕ → Type 0
 ServesLast answers old new why requests (Ok More) bytes = ⊥
 ServesLast answers old new why requests (Ok Broken) bytes = IsBreak why × IsClosed answers old new requests bytes
-ServesLast answers old new why requests (Err error) bytes = IsBegun answers old new requests bytes
+ServesLast answers old new why requests (Err error) bytes = IsStopped answers old new requests bytes
 
 -- a piece that follows the bytes of an unfinished request
 abbrev pub ServesPiece : {S : Type 0} → Relation S → S → S → List ℕ → List ℕ → Option (List ℕ) → Result Served AllocError → List ℕ → Type 0
@@ -44,15 +44,16 @@ ServesPiece answers old new had piece kept (Ok More) bytes =
 ServesPiece answers old new had piece kept (Ok Broken) bytes =
     (all : Requests) × (why : FeedFault) × Breaks (had ++ piece) all why × IsClosed answers old new (handed all) bytes
 ServesPiece answers old new had piece kept (Err error) bytes =
-    (all : Requests) × (rest : List ℕ) × Reaches (had ++ piece) all rest × IsBegun answers old new (handed all) bytes
+    (all : Requests) × (rest : List ℕ) × Reaches (had ++ piece) all rest × IsStopped answers old new (handed all) bytes
 
--- the same, written: after a fault of the writer, and where memory is refused, a front of what is owed
+-- the same, written: after a fault of the writer a front of what is owed
 abbrev pub GoesOn : {S : Type 0} → Relation S → S → S → List ℕ → List ℕ → Option (List ℕ) → List ℕ → Result Served SessionFault → Type 0
 GoesOn answers old new had piece kept bytes (Ok More) = ServesPiece answers old new had piece kept (Ok More) bytes
 GoesOn answers old new had piece kept bytes (Ok Broken) = ServesPiece answers old new had piece kept (Ok Broken) bytes
 GoesOn answers old new had piece kept bytes (Err stop.Read) = ⊥
 GoesOn answers old new had piece kept bytes (Err stop.Write) = IsOwed answers old new (had ++ piece) bytes
-GoesOn answers old new had piece kept bytes (Err stop.NoMemory) = IsOwed answers old new (had ++ piece) bytes
+GoesOn answers old new had piece kept bytes (Err stop.NoMemory) =
+    (all : Requests) × (rest : List ℕ) × Reaches (had ++ piece) all rest × IsStopped answers old new (handed all) bytes
 
 -- how input ends that ends with these bytes of a request
 abbrev pub EndsWith : List ℕ → End → Type 0

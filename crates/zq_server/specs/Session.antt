@@ -1,15 +1,10 @@
 -- What a session answers to a text.
-use Rattle.std.specs.Prelude.{◌≡◌, ◌≢◌, ◌⊎◌, ℕ, List, [], ◌∷◌, ◌++◌, codes, Option, Some, Result, Ok, Err}
+use Rattle.std.specs.Prelude.{◌≡◌, ◌≢◌, ◌≤◌, ◌⊎◌, ℕ, List, [], ◌∷◌, ◌++◌, length, codes, Option, Result, Ok, Err}
 use Rattle.std.specs.Io.KnownBytes.{IsAtEnd}
-use Rattle.std.specs.declared.alloc.AllocError.{AllocError}
 use Rattle.zq_resp.specs.declared.reply.Reply.{Reply}
 use Rattle.zq_resp.specs.declared.fault.FeedFault.{FeedFault}
-use Rattle.zq_resp.specs.Front.{Wrong}
-use Rattle.zq_resp.specs.Grammar.{request_at}
 use Rattle.zq_resp.specs.Reply.{all_bytes}
 use Rattle.zq_resp.specs.Stream.{Requests, Reaches, Splits, Breaks, handed}
-use Rattle.zq_server.specs.declared.serving.Served.{Served}
-use Rattle.zq_server.specs.declared.serving.Served.TheVariants.{More, Broken}
 use Rattle.zq_server.specs.declared.outcome.End.{End}
 use Rattle.zq_server.specs.declared.outcome.End.TheVariants.{Clean, Inside, Protocol}
 use Rattle.zq_server.specs.declared.outcome.SessionFault.{SessionFault}
@@ -49,6 +44,17 @@ abbrev pub IsBegun : {S : Type 0} → Relation S → S → S → Requests → Li
 IsBegun answers old new requests bytes =
     (first others : Requests) × (unwritten : List ℕ) × (requests ≡ first ++ others) × IsAnswered answers old new first (bytes ++ unwritten)
 
+-- The bytes are the replies to the first of the requests, but for at most the last reply.
+pub record IsStopped {S : Type 0} (answers : Relation S) (old new : S) (requests : Requests) (bytes : List ℕ) : Type 0 where
+  pub first : Requests
+  pub others : Requests
+  pub split : requests ≡ first ++ others
+  pub replies : List Reply
+  pub unwritten : List Reply
+  pub runs : Runs answers old first (replies ++ unwritten) new
+  pub at_most_one : length unwritten ≤ 1
+  pub written : bytes ≡ all_bytes replies
+
 -- The bytes are the front of what the text is owed.
 abbrev pub IsOwed : {S : Type 0} → Relation S → S → S → List ℕ → List ℕ → Type 0
 IsOwed answers old new text bytes =
@@ -65,7 +71,8 @@ Serves answers old new text bytes (Ok Protocol) =
 Serves answers old new text bytes (Err Read) =
     (all : Requests) × (rest : List ℕ) × Splits text all rest × IsAnswered answers old new (handed all) bytes
 Serves answers old new text bytes (Err Write) = IsOwed answers old new text bytes
-Serves answers old new text bytes (Err NoMemory) = IsOwed answers old new text bytes
+Serves answers old new text bytes (Err NoMemory) =
+    (all : Requests) × (rest : List ℕ) × Reaches text all rest × IsStopped answers old new (handed all) bytes
 
 -- An end that is no fault of the protocol comes where the reader has no more.
 abbrev pub IsReadOff : Result End SessionFault → Option (List ℕ) → Type 0

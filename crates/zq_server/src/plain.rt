@@ -1,9 +1,8 @@
 //! A server with one heap.
 
 ghost use Rattle.std.specs.Prelude.{IsTrue, length, ◌≡◌, ◌≤◌};
-ghost use Rattle.zq_model.specs.Image.{empty_image};
 ghost use Rattle.zq_resp.specs.Reply.{is_writable, reply_bytes};
-ghost use Rattle.zq_server.specs.Plan.{IsWithinLimits, RunsPlan, plan_of};
+ghost use Rattle.zq_server.specs.Plan.{IsWithinLimits, RunsPlan, no_keys, plan_of};
 
 use crate::command::{Command, Kind};
 use crate::moves::{drop_members, put_pairs};
@@ -38,8 +37,7 @@ impl Model for Plain {
 impl Plain {
     /// A server with no keys.
     pub fn new(alloc: Global) -> Plain
-        ensures image { result.image ≡ empty_image }
-        ensures heaps { result.heaps ≡ 1 }
+        ensures { result ≡ no_keys }
     {
         match SiteNo::new(0) {
             Some(site) => Plain {
@@ -72,11 +70,9 @@ impl Plain {
 }
 
 impl Answers for Plain {
-    ghost use Rattle.zq_resp.specs.Reply.{reply_bytes};
-    ghost use Rattle.zq_server.specs.Command.{command_of};
-    ghost use Rattle.zq_server.specs.Plan.{RunsReading};
+    ghost use Rattle.zq_server.specs.Plan.{AnswersByPlan};
 
-    ghost answers = { λ old words reply new. RunsReading old (command_of words) new (reply_bytes reply) };
+    ghost answers = { AnswersByPlan };
 
     fn answer(&mut self, alloc: Global, request: &Request) -> Reply {
         let _limits = request.words();

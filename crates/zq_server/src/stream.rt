@@ -21,8 +21,9 @@ const PIECE: usize = 65_536;
 /// Input that ends after a request, or before the first, is `Clean`, and input that ends in a request
 /// `Inside`. Bytes that begin no request, and a request past the limits, are answered by
 /// `-ERR Protocol error`, once, and the session ends with `Protocol`. After a fault of the reader all
-/// replies to what was read are written; after one of the writer, or where memory is refused, the
-/// front of them.
+/// replies to what was read are written, and after one of the writer their front. Where memory is
+/// refused, the replies to the first requests are written, but for at most the last of these replies;
+/// the other requests are not answered.
 pub fn session<A: Answers, R: Read, W: Write>(
     alloc: Global,
     answerer: &mut A,

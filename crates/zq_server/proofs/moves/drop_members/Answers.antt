@@ -1,4 +1,4 @@
-use Rattle.std.proofs.Common.{Err, List, Some, Vec, ap, arith, length, map, refl, slice_get, subst, sym, ◌<◌, ◌∙◌, ◌≡◌, ℕ}
+use Rattle.std.proofs.Common.{Err, List, Some, Vec, ap, arith, length, slice_get, subst, sym, ◌<◌, ◌∙◌, ◌≡◌, ℕ}
 use Rattle.std.proofs.lemmas.List.{length-map}
 use Rattle.std.proofs.lemmas.List.Elements.{All-get_or}
 use Rattle.std.proofs.lemmas.Option.{get_or_from_slice_get, slice_get-get_or, slice_get-map}

@@ -1,7 +1,5 @@
-use Rattle.std.proofs.Common.{◌≡◌, ◌++◌, [], Ok, Err, take, refl, sym, subst}
+use Rattle.std.proofs.Common.{◌≡◌, ◌++◌, [], Ok, Err, take}
 use Rattle.std.proofs.lemmas.Result.{err_from_is_err_and}
-use Rattle.std.specs.Io.KnownBytes.{Consumes}
-use Rattle.zq_server.specs.Serving.{GoesOn}
 use Rattle.zq_server.specs.declared.outcome.End.TheVariants.{Protocol}
 use Rattle.zq_server.specs.declared.outcome.SessionFault.TheVariants as stop
 use Rattle.zq_server.proofs.KnownBytes.{appends-none, appends-join, consumes-none, consumes-join, consumes-kept, consumes-no-more}

@@ -1,6 +1,5 @@
-use Rattle.std.proofs.Common.{◌≡◌, Err, take, sym, subst}
+use Rattle.std.proofs.Common.{◌≡◌, Err, take}
 use Rattle.std.proofs.lemmas.Result.{err_from_is_err_and}
-use Rattle.zq_server.specs.Serving.{GoesOn}
 use Rattle.zq_server.specs.declared.outcome.SessionFault.TheVariants as stop
 use Rattle.zq_server.proofs.Served.{owed-whole, owed-cut, goes-on}
 use Rattle.zq_server.proofs.stream.write_replies.Goals as goal

@@ -1,7 +1,5 @@
-use Rattle.std.proofs.Common.{ap, arith, inl, inr, map, refl, subst, sym, ◌∙◌, ◌≡◌}
-use Rattle.std.specs.Option.{option_map}
+use Rattle.std.proofs.Common.{ap, inl, inr, map, refl, subst, sym, ◌∙◌}
 use Rattle.zq_resp.specs.Reply.{reply_bytes}
-use Rattle.zq_server.specs.Command.{Command, Ping, Zadd, Zrem, Zscore}
 use Rattle.zq_server.specs.Plan.{RunsPlan, in_turn, plan_of, refused, whole, zadd_part, zrem_part}
 use Rattle.zq_server.specs.Plan as plan
 use Rattle.zq_server.specs.Shown.{pair_shown, shown, views}
@@ -12,7 +10,7 @@ returns-in-Ping-clause-ran c =
     let s = c.args.self.now in
     let bytes = reply_bytes c.message_reply.result in
     subst (λ d. RunsPlan s (plan_of d s) s bytes) (ap shown (sym c.in-Ping.is) ∙ c.command.view_is)
-    (elim c.message_reply.ensures.bytes [ inl e ↦ whole refl e | inr e ↦ refused 0 (omega arith) refl e ])
+    (elim c.message_reply.ensures.bytes [ inl e ↦ whole refl e | inr e ↦ refused 0 (inl refl) refl e ])
 
 pub returns-in-Zadd-clause-ran : goal.returns-in-Zadd-clause-ran
 returns-in-Zadd-clause-ran c =
@@ -36,4 +34,4 @@ returns-in-Zscore-clause-ran c =
     let bytes = reply_bytes c.score_reply.result in
     let read = c.score.ensures.image ∙ ap (λ t. plan.score_in t c.in-Zscore.key.now c.in-Zscore.member.now) c.self.view_is in
     subst (λ d. RunsPlan s (plan_of d s) s bytes) (ap shown (sym c.in-Zscore.is) ∙ c.command.view_is)
-    (elim c.score_reply.ensures.bytes [ inl e ↦ whole refl (e ∙ ap plan.score_reply read) | inr e ↦ refused 0 (omega arith) refl e ])
+    (elim c.score_reply.ensures.bytes [ inl e ↦ whole refl (e ∙ ap plan.score_reply read) | inr e ↦ refused 0 (inl refl) refl e ])

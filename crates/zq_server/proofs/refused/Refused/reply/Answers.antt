@@ -1,5 +1,5 @@
-use Rattle.std.proofs.Common.{◌≡◌, ◌∙◌, refl, codes}
-use Rattle.std.specs.Fmt.{digits, decimal}
+use Rattle.std.proofs.Common.{◌∙◌, refl}
+use Rattle.std.specs.Fmt.{digits}
 use Rattle.zq_resp.proofs.Replies.{error_bytes}
 use Rattle.zq_server.proofs.refused.Refused.reply.Goals as goal
 
