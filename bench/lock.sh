@@ -4,4 +4,4 @@ set -euo pipefail
 root=$(cd "$(dirname "$0")/.." && pwd)
 rt=$("$root/tools/find-rt")
 cd "$root/crates/lock_bench"
-exec "$rt" run -- "${1:-300000}"
+exec "$rt" run -- "${1:-1000000}"

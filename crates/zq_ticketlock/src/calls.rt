@@ -12,8 +12,9 @@ use std::hint::spin_loop;
 use std::sync::Wait;
 use std::sync::atomic::Ordering::SeqCst;
 
-// How often a thread with a ticket looks before it sleeps.
-const SPINS: u32 = 100;
+// How often a thread with a ticket looks before each sleep. That takes about as long as a sleeper takes to wake up: with
+// far fewer looks, one that sleeps has all behind it asleep before it is served.
+const SPINS: u32 = 400;
 
 impl<T: Keeps> TicketLock<T> {
     // Draws a ticket.
@@ -39,7 +40,7 @@ impl<T: Keeps> TicketLock<T> {
         unreachable!()
     }
 
-    // Looks until the ticket is served: a few times at once, and then after sleeping.
+    // Looks until the ticket is served, and sleeps after every [`SPINS`] looks.
     fn wait_for<R: Wait>(&self, rt: &R, mut ticket: Ticket<T>) -> Held<T>
         requires own { ticket_lock ticket ≡ id_of self.now }
         ensures lock { held_lock result ≡ ticket_lock ticket }
@@ -58,6 +59,7 @@ impl<T: Keeps> TicketLock<T> {
                         spin_loop();
                     } else {
                         self.sleep_while(rt, serving);
+                        spins = SPINS;
                     }
                 }
             }
