@@ -10,7 +10,7 @@ use Rattle.zq_model.specs.Image.{join_vector}
 use Rattle.zq_model.specs.Sets.{IsCounters, LAST, SITES, by_site}
 
 -- the code's numbers
-pub sites_is : SITES ≡ 8
+pub sites_is : SITES ≡ 64
 unfolding SITES
 sites_is = refl
 

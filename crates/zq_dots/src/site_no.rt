@@ -4,7 +4,7 @@ ghost use Rattle.zq_model.specs.Sets as sets;
 use std::marker::Model;
 
 /// The number of sites.
-pub const SITES: usize = 8;
+pub const SITES: usize = 64;
 
 /// The number of a site, from 0 up to below [`SITES`].
 #[derive(Clone, Copy, Debug, PartialEq, Eq)]

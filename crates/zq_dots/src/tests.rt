@@ -27,8 +27,8 @@ fn members_lie_where_their_hash_says(rt: HostRuntime) {
 
 #[test]
 fn numbers_out_of_range_are_refused(rt: HostRuntime) -> Result<(), Fail> {
-    assert_eq!(rt; site(7)?.value(), 7);
-    assert!(rt; SiteNo::new(8).is_none());
+    assert_eq!(rt; site(63)?.value(), 63);
+    assert!(rt; SiteNo::new(64).is_none());
     let least = Score::new(-9_007_199_254_740_992).ok_or("a score")?;
     assert_eq!(rt; least.value(), -9_007_199_254_740_992);
     assert!(rt; Score::new(9_007_199_254_740_993).is_none());
@@ -38,7 +38,7 @@ fn numbers_out_of_range_are_refused(rt: HostRuntime) -> Result<(), Fail> {
 #[test]
 #[tactic(auto, unfolding(zq_model::specs::Sets::LAST))]
 fn vectors_join_and_cover(rt: HostRuntime) -> Result<(), Fail> {
-    let (a, b) = (site(0)?, site(7)?);
+    let (a, b) = (site(0)?, site(63)?);
     let mut mine = Vector::new();
     mine.set(a, 3);
     let mut other = Vector::new();

@@ -1,12 +1,12 @@
 -- Some sets of operations, and what a member's score is where they meet. There are two heaps; the site 0 and the site 1 act on members of the key `q`.
 
-use Rattle.std.specs.Prelude.{List, None, Option, Some, [], pos, slice_index, ℕ, ℤ, ◌+◌, ◌++◌, ◌∷◌, ◌≡◌}
+use Rattle.std.specs.Prelude.{List, None, Option, Some, [], if◌then◌else◌, pos, slice_index, ℕ, ℤ, ◌+◌, ◌++◌, ◌==◌, ◌∷◌, ◌≡◌}
 use Rattle.zq_model.specs.Image.{Image, entry_at, image_of, join}
 use Rattle.zq_model.specs.Meaning.{IsLive, IsScore}
 use Rattle.zq_model.specs.Operation.{Act, Operation, Put}
 use Rattle.zq_model.specs.Rule.{Greatest}
 use Rattle.zq_model.specs.Score.{score_of}
-use Rattle.zq_model.specs.Sets.{IsClosed, IsWorld}
+use Rattle.zq_model.specs.Sets.{IsClosed, IsWorld, by_site}
 
 abbrev pub HEAPS : ℕ
 HEAPS = 2
@@ -26,7 +26,7 @@ member_y = 121 ∷ []
 
 -- the vector with the first i dots of the site 0 and the first j of the site 1
 abbrev pub vector_with : ℕ → ℕ → List ℕ
-vector_with i j = i ∷ j ∷ 0 ∷ 0 ∷ 0 ∷ 0 ∷ 0 ∷ 0 ∷ []
+vector_with i j = by_site (λ t. if t == 0 then i else if t == 1 then j else 0)
 
 -- a site's act on a member, which lies in this heap, where the site had seen i dots of the site 0 and j of the site 1
 abbrev pub made : ℕ → List ℕ → ℕ → ℕ → ℕ → Act → Operation

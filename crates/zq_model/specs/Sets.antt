@@ -7,7 +7,7 @@ use Rattle.zq_model.specs.Operation.{IsAct, Operation, has}
 
 -- the number of sites
 unfoldable pub SITES : ℕ
-SITES = 8
+SITES = 64
 
 -- the last counter
 unfoldable pub LAST : ℕ
