@@ -1,3 +1,4 @@
 pub mod Act
+pub mod Rule
 pub mod Placed
 pub mod OpView

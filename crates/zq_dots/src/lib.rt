@@ -1,4 +1,4 @@
-//! The words of replication: site numbers, scores, dots, version vectors, acts and operations, and
+//! The words of replication: site numbers, scores, the rule of scores, dots, version vectors, acts and operations, and
 //! the hash that says in which heap a member lies.
 #![tactic(auto)]
 
@@ -6,6 +6,7 @@ mod act;
 mod dot;
 mod heaps;
 mod op;
+mod rule;
 mod score;
 mod site_no;
 mod vector;
@@ -14,6 +15,7 @@ pub use act::Act;
 pub use dot::Dot;
 pub use heaps::{fnv1a64, heap_of};
 pub use op::Op;
+pub use rule::Rule;
 pub use score::Score;
 pub use site_no::{SITES, SiteNo};
 pub use vector::{Vector, Worn};

@@ -1,0 +1,8 @@
+/// Which of the values of a member's live additions is its score.
+#[derive(Clone, Copy, Debug, PartialEq, Eq)]
+pub enum Rule {
+    /// The greatest.
+    High,
+    /// The least.
+    Low,
+}
