@@ -1,2 +1,6 @@
 pub mod Steps
 pub mod NewRecords
+mod Tails
+mod Kept
+mod Sets
+mod Reached

@@ -1,7 +1,7 @@
 -- A book: the image of one heap, with the records that lead from an older image to it.
 
 use Rattle.std.specs.Cmp.Lexicographic.{pointwise}
-use Rattle.std.specs.Prelude.{Bool, List, [], length, map, nat_eq, nat_le, nat_lt, not, slice_index, true, ℕ, ◌&&◌, ◌++◌, ◌+◌, ◌==◌, ◌∷◌, ◌≡◌, ◌≤◌}
+use Rattle.std.specs.Prelude.{Bool, List, [], drop, length, map, nat_eq, nat_le, nat_lt, not, slice_index, take, true, ℕ, ◌&&◌, ◌++◌, ◌+◌, ◌==◌, ◌∷◌, ◌≡◌, ◌≤◌}
 use Rattle.zq_model.specs.Image.{Image, image_after, join}
 use Rattle.zq_model.specs.Operation.{Operation, has}
 use Rattle.zq_model.specs.Sets.{SITES, covers}
@@ -102,12 +102,28 @@ recorded b stamp change = record {
   count = b.count + 1;
 }
 
+-- the book with another image merged in: nothing is left to replay
+abbrev pub merged : Book → ℕ → Image → Book
+merged b stamp other = record {
+  heap = b.heap;
+  heaps = b.heaps;
+  base = join b.state other;
+  state = join b.state other;
+  tail = [];
+  stamp = stamp;
+  count = b.count + 1;
+}
+
 abbrev pub touched : Book → ℕ → Book
 touched b stamp = record b { stamp = stamp }
 
 -- the image that a tail makes of its base
 abbrev pub replayed : List Record → Image → Image
 replayed tail base = steps_image (steps_of tail) base
+
+-- the book whose base was moved over the n oldest records
+abbrev pub advanced : ℕ → Book → Book
+advanced n b = record b { base = replayed (take n b.tail) b.base; tail = drop n b.tail }
 
 -- the operations of a tail, the oldest first
 abbrev pub operations_of : List Record → List Operation

@@ -1,1 +1,4 @@
 pub mod Books
+pub mod Reach
+pub mod Undoing
+pub mod Gathered

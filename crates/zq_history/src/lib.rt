@@ -1,28 +1,13 @@
-// The history of a book: what its records make of its base.
+//! The history of a book: what records and merges make of its base, what undoing them gives back, and when one book is
+//! reached from another.
+//!
+//! The definitions are in `specs/`. Each law of them is the contract of a public function with an empty body.
 #![tactic(auto)]
 
-ghost use Rattle.std.specs.Prelude.{List, true, ℕ, ◌++◌, ◌≡◌, ◌≤◌};
-ghost use Rattle.zq_history.specs.Books.{Book, Change, IsBook, is_change_over, operations_of, recorded, touched};
-ghost use Rattle.zq_model.specs.Image.{Image, image_of, join};
-ghost use Rattle.zq_model.specs.Operation.{Operation};
-ghost use Rattle.zq_model.specs.Sets.{IsClosed, IsWorld, covers, vector_of};
-ghost use Rattle.zq_model.specs.Tail.{AreNew, image_after_all, lacking, tail_set};
+mod books;
+mod reach;
+mod undo;
 
-/// What each call of a book keeps.
-pub fn keeping()
-    ensures touch { (b : Book) (stamp : ℕ) → b.stamp ≤ stamp → IsBook b → IsBook (touched b stamp) }
-    ensures recording { (b : Book) (stamp : ℕ) (c : Change) → b.stamp ≤ stamp → is_change_over b.heap b.state.vector c ≡ true → IsBook b → IsBook (recorded b stamp c) }
-{}
-
-/// Where a book's base is the image of a closed set of a world, its state is the image of that set with the operations of its tail.
-/// A peer of the same world whose vector covers the base's lacks nothing but operations of the tail: those that it lacks, taken in
-/// the tail's order, are each new to it where they come, and they give what merging the whole state gives.
-pub fn telling()
-    ensures state { (K : ℕ) (b : Book) (S : List Operation) → IsBook b → IsWorld K (tail_set S (operations_of b.tail)) → IsClosed S → b.base ≡ image_of S b.heap →
-        b.state ≡ image_of (tail_set S (operations_of b.tail)) b.heap }
-    ensures new { (K : ℕ) (b : Book) (S T : List Operation) → IsBook b → IsWorld K (tail_set S (operations_of b.tail) ++ T) → IsClosed S → IsClosed T →
-        b.base ≡ image_of S b.heap → covers (vector_of T b.heap) b.base.vector ≡ true → AreNew (lacking (vector_of T b.heap) (operations_of b.tail)) (image_of T b.heap) }
-    ensures merges { (K : ℕ) (b : Book) (S T : List Operation) → IsBook b → IsWorld K (tail_set S (operations_of b.tail) ++ T) → IsClosed S → IsClosed T →
-        b.base ≡ image_of S b.heap → covers (vector_of T b.heap) b.base.vector ≡ true →
-        image_after_all (lacking (vector_of T b.heap) (operations_of b.tail)) (image_of T b.heap) ≡ join (image_of T b.heap) b.state }
-{}
+pub use books::{gathering, keeping, telling};
+pub use reach::{reaching, working};
+pub use undo::undoing;

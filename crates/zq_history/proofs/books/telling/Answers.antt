@@ -10,7 +10,7 @@ use Rattle.zq_model.specs.Image.{image_of, join}
 use Rattle.zq_model.specs.Operation.{Operation}
 use Rattle.zq_model.specs.Sets.{IsClosed, IsWorld, covers, vector_of}
 use Rattle.zq_model.specs.Tail.{IsTail, image_after_all, lacking, tail_set}
-use Rattle.zq_history.proofs.telling.Goals as goal
+use Rattle.zq_history.proofs.books.telling.Goals as goal
 
 -- the operations of a book's tail are a tail over the set of its base
 tail_is : (K : ℕ) (b : Book) (S : List Operation) → IsBook b → IsWorld K (tail_set S (operations_of b.tail)) → IsClosed S → b.base ≡ image_of S b.heap → IsTail b.heap S (operations_of b.tail)

@@ -1,0 +1,9 @@
+use Rattle.std.specs.Prelude.{◌++◌}
+use Rattle.zq_history.proofs.Reached.{reached_through, worked_reaches}
+use Rattle.zq_history.proofs.reach.reaching.Goals as goal
+
+pub returns-clause-through : goal.returns-clause-through
+returns-clause-through k = λ c b a second first. (first.0 ++ second.0, reached_through c b a first.0 second.0 second.1 first.1)
+
+pub returns-clause-works : goal.returns-clause-works
+returns-clause-works c = worked_reaches

@@ -1,0 +1,17 @@
+use Rattle.zq_history.proofs.Kept.{after_more, after_parts, kept_cut, kept_longer, undone_is}
+use Rattle.zq_history.proofs.undo.undoing.Goals as goal
+
+pub returns-clause-back : goal.returns-clause-back
+returns-clause-back c = undone_is
+
+pub returns-clause-longer : goal.returns-clause-longer
+returns-clause-longer c = kept_longer
+
+pub returns-clause-cut : goal.returns-clause-cut
+returns-clause-cut c = kept_cut
+
+pub returns-clause-parts : goal.returns-clause-parts
+returns-clause-parts c = after_parts
+
+pub returns-clause-more : goal.returns-clause-more
+returns-clause-more c = after_more
