@@ -1,12 +1,9 @@
 -- An operation of a site with some number of heaps.
 
 use Rattle.std.specs.Prelude.{length, slice_index, ℕ, ◌+◌, ◌<◌, ◌≡◌, ◌≤◌}
+pub use Rattle.zq_model.specs.Operation.{LONGEST}
 use Rattle.zq_model.specs.Operation.{IsAct, Operation}
 use Rattle.zq_model.specs.Sets.{IsCounters, IsHeaps, LAST, SITES}
-
--- the most bytes of a key and of a member
-abbrev pub LONGEST : ℕ
-LONGEST = 1048576
 
 -- an operation, and the number of heaps of the site that made it
 pub record Placed : Type 0 where

@@ -1,5 +1,6 @@
 ghost use Rattle.std.specs.Prelude.{◌≡◌, ◌≤◌, ◌<◌, fold, length};
 ghost use Rattle.zq_model.specs.Heaps as place;
+ghost use Rattle.zq_model.specs.Operation.{LONGEST};
 
 /// The hash of no bytes.
 const OFFSET_BASIS: u64 = 14_695_981_039_346_656_037;
@@ -17,10 +18,11 @@ pub fn fnv1a64(bytes: &[u8]) -> u64
 }
 
 /// The heap of a member of a key, of this number of heaps: the FNV-1a hash of the key's length in
-/// four bytes, the highest first, the key and the member, modulo the number of heaps.
+/// four bytes, the highest first, the key and the member, modulo the number of heaps. There are 1
+/// to 16 heaps, and the key has at most `LONGEST` bytes.
 pub fn heap_of(key: &[u8], member: &[u8], heaps: u8) -> u8
     requires heaps { (1 ≤ heaps) × (heaps ≤ 16) }
-    requires key { length key.now ≤ 1048576 }
+    requires key { length key.now ≤ LONGEST }
     ensures heap { result ≡ place.heap_of key.now member.now heaps }
     ensures below { result < heaps }
 {

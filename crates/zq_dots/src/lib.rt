@@ -14,11 +14,11 @@ mod vector;
 pub use act::Act;
 pub use dot::Dot;
 pub use heaps::{fnv1a64, heap_of};
-pub use op::Op;
+pub use op::{LONGEST, Op};
 pub use rule::Rule;
-pub use score::Score;
+pub use score::{GREATEST, Score};
 pub use site_no::{SITES, SiteNo};
-pub use vector::{Vector, Worn};
+pub use vector::{LAST_COUNTER, Vector, Worn};
 
 #[cfg(test)]
 mod tests;

@@ -10,6 +10,9 @@ use crate::vector::Vector;
 use std::alloc::{AllocError, Global};
 use std::marker::Model;
 
+/// The most bytes of a key and of a member.
+pub const LONGEST: usize = 1_048_576;
+
 /// An operation of a site: what it does to one member of one key, its dot in its heap, and the
 /// vector that its site had there before it, so that its counter is the next of its site.
 #[derive(Debug, Drop)]

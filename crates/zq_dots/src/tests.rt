@@ -13,16 +13,37 @@ fn hashes_are_those_of_fnv_1a(rt: HostRuntime) {
 
 #[test]
 fn members_lie_where_their_hash_says(rt: HostRuntime) {
-    for member in [b"a", b"c", b"y", b"m"] {
-        assert_eq!(rt; heap_of(b"q", member, 2), 0);
+    let placed: [(&[u8], &[u8], u8, u8); 17] = [
+        (b"q", b"a", 2, 0),
+        (b"q", b"c", 2, 0),
+        (b"q", b"y", 2, 0),
+        (b"q", b"m", 2, 0),
+        (b"q", b"b", 2, 1),
+        (b"q", b"d", 2, 1),
+        (b"q", b"x", 2, 1),
+        (b"q", b"a", 3, 1),
+        (b"q", b"b", 3, 1),
+        (b"q", b"c", 3, 0),
+        (b"q", b"d", 3, 0),
+        (b"q", b"a", 4, 0),
+        (b"q", b"b", 4, 1),
+        (b"q", b"c", 4, 2),
+        (b"q", b"d", 4, 3),
+        // Only the key's length tells these apart.
+        (b"pq", b"a", 15, 9),
+        (b"p", b"qa", 15, 7),
+    ];
+    for (key, member, heaps, heap) in placed {
+        assert_eq!(rt; heap_of(key, member, heaps), heap);
     }
-    for member in [b"b", b"d", b"x"] {
-        assert_eq!(rt; heap_of(b"q", member, 2), 1);
-    }
-    assert_eq!(rt; heap_of(b"q", b"a", 4), 0);
-    assert_eq!(rt; heap_of(b"q", b"b", 4), 1);
-    assert_eq!(rt; heap_of(b"q", b"c", 4), 2);
-    assert_eq!(rt; heap_of(b"q", b"d", 4), 3);
+}
+
+#[test]
+fn limits_are_these_numbers(rt: HostRuntime) {
+    assert_eq!(rt; SITES, 64);
+    assert_eq!(rt; GREATEST, 9_007_199_254_740_992);
+    assert_eq!(rt; LAST_COUNTER, 281_474_976_710_655);
+    assert_eq!(rt; LONGEST, 1_048_576);
 }
 
 #[test]
@@ -31,7 +52,10 @@ fn numbers_out_of_range_are_refused(rt: HostRuntime) -> Result<(), Fail> {
     assert!(rt; SiteNo::new(64).is_none());
     let least = Score::new(-9_007_199_254_740_992).ok_or("a score")?;
     assert_eq!(rt; least.value(), -9_007_199_254_740_992);
+    let greatest = Score::new(9_007_199_254_740_992).ok_or("a score")?;
+    assert_eq!(rt; greatest.value(), 9_007_199_254_740_992);
     assert!(rt; Score::new(9_007_199_254_740_993).is_none());
+    assert!(rt; Score::new(-9_007_199_254_740_993).is_none());
     Ok(())
 }
 
@@ -50,6 +74,14 @@ fn vectors_join_and_cover(rt: HostRuntime) -> Result<(), Fail> {
     assert!(rt; mine.covers(&other));
     assert_eq!(rt; (mine.get(a), mine.get(b)), (3, 5));
     assert_eq!(rt; mine.next(b), Ok(Dot { site: b, n: 6 }));
+    mine.set(b, 281_474_976_710_654);
+    assert_eq!(rt;
+        mine.next(b),
+        Ok(Dot {
+            site: b,
+            n: 281_474_976_710_655
+        })
+    );
     mine.set(b, 281_474_976_710_655);
     assert_eq!(rt; mine.next(b), Err(Worn));
     Ok(())

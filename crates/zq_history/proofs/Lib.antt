@@ -1,3 +1,4 @@
+pub mod Dates
 pub mod Steps
 pub mod NewRecords
 mod Tails

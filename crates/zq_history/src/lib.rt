@@ -6,8 +6,10 @@
 
 mod books;
 mod reach;
+mod stamps;
 mod undo;
 
 pub use books::{gathering, keeping, telling};
 pub use reach::{reaching, working};
+pub use stamps::dating;
 pub use undo::undoing;

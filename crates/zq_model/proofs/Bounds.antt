@@ -1,5 +1,5 @@
 -- A site's sum is at most the greatest increment times its counter.
-use Rattle.std.proofs.Common.{◌≡◌, ◌*◌, ◌+◌, ◌<◌, ℕ, ℤ, pos, ◌+ℤ◌, zero, suc, cond, true, false, List, None, Some, refl, subst, sym, arith, mul-suc, ◌&&◌, slice_index}
+use Rattle.std.proofs.Common.{◌≡◌, ◌*◌, ◌+◌, ◌<◌, ◌≤◌, ℕ, ℤ, pos, ◌+ℤ◌, zero, suc, cond, true, false, List, None, Some, refl, subst, sym, arith, mul-suc, ◌&&◌, slice_index}
 use Rattle.std.proofs.lemmas.Int.{ints}
 use Rattle.zq_model.proofs.Kept.{kept_from, kept_of}
 use Rattle.zq_model.proofs.Sites.{by_site-at}
@@ -10,11 +10,14 @@ use Rattle.zq_model.specs.Joining.{HasAddition}
 use Rattle.zq_model.specs.Operation.{Act, Bump, Drop, IsAct, IsWithin, MOST, Operation, Put, has, increment_of, is_on}
 use Rattle.zq_model.specs.Sets.{IsWorld, SITES, at, last}
 
-within_zero : (b : ℕ) → IsWithin b (pos 0)
+pub within_zero : (b : ℕ) → IsWithin b (pos 0)
 within_zero b = omega (arith, ints)
 
-within_add : (b c : ℕ) (x y : ℤ) → IsWithin b x → IsWithin c y → IsWithin (b + c) (x +ℤ y)
+pub within_add : (b c : ℕ) (x y : ℤ) → IsWithin b x → IsWithin c y → IsWithin (b + c) (x +ℤ y)
 within_add b c x y p q = omega (arith, ints)
+
+pub within_more : (b c : ℕ) (x : ℤ) → b ≤ c → IsWithin b x → IsWithin c x
+within_more b c x le p = omega (arith, ints)
 
 -- a sum of n numbers of an amount up to b has an amount up to b * n
 within_sum_upto : (b : ℕ) (f : ℕ → ℤ) → ((i : ℕ) → IsWithin b (f i)) → (n : ℕ) → IsWithin (b * n) (sum_upto f n)

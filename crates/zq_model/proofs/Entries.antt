@@ -1,8 +1,9 @@
 -- Entries: bare ones, and what an image has at a place.
 
-use Rattle.std.proofs.Common.{List, None, Option, Some, [], ap, ap₂, cond, false, is_none, length, map, refl, suc, sym, true, true≢false, unwrap_or, zero, ℕ, ◌++◌, ◌<◌, ◌∙◌, ◌∷◌, ◌≡◌}
-use Rattle.std.proofs.lemmas.Bool.{cond-true, or_parts}
+use Rattle.std.proofs.Common.{List, None, Option, Some, [], ap, ap₂, cond, false, is_none, length, map, refl, subst, suc, sym, true, true≢false, unwrap_or, zero, ℕ, ◌++◌, ◌<◌, ◌∙◌, ◌∷◌, ◌≡◌}
+use Rattle.std.proofs.lemmas.Bool.{cond-true, cond_both, or_parts}
 use Rattle.std.proofs.lemmas.List.Folds.{list_any-append}
+use Rattle.std.proofs.lemmas.Option.{none-some, same_Some}
 use Rattle.std.specs.FinMap.{get, get-insert, get-remove, insert, keys, remove, same_map}
 use Rattle.std.specs.List.{list_all, list_any, range_with_len}
 use Rattle.std.specs.Ordering.{eq_by_cmp}
@@ -12,11 +13,12 @@ use Rattle.zq_model.proofs.Places.{is_on_parts, is_put_of_parts}
 use Rattle.zq_model.proofs.Sites.{by_site-at, by_site-same, by_site_from, length-by_site}
 use Rattle.zq_model.proofs.Standing.{addition_none}
 use Rattle.zq_model.specs.Entry.{Addition, addition_of, join_site}
-use Rattle.zq_model.specs.Image.{Entry, Image, Members, Place, addition_at, entry_at, entry_of, image_of, is_bare, join, join_entry, no_additions, place_cmp, place_of, put_entry, unless_bare}
+use Rattle.zq_model.specs.Image.{Entry, Image, Members, Place, addition_at, entry_after, entry_at, entry_of, image_after, image_of, is_bare, join, join_entry, no_additions, place_cmp, place_of, put_entry, unless_bare}
 use Rattle.zq_model.specs.Operation.{Operation}
+use Rattle.zq_model.specs.Rows.{AreEntries}
 use Rattle.zq_model.specs.Sets.{SITES, by_site, vector_of}
 
-none_at : (e : Entry) (s : ℕ) → is_bare e ≡ true → addition_at e s ≡ None
+pub none_at : (e : Entry) (s : ℕ) → is_bare e ≡ true → addition_at e s ≡ None
 none_at [] s bare = refl
 none_at (None ∷ e) zero bare = refl
 none_at (None ∷ e) (suc s) bare = none_at e s bare
@@ -48,6 +50,17 @@ entry_unless_bare e wide =
       | true ↦ λ bare. sym (bare_is e wide bare)
       | false ↦ λ _. refl
     ] refl
+
+-- an entry that is kept is not bare
+pub unless_bare_some : (d e : Entry) → unless_bare d ≡ Some e → (d ≡ e) × (is_bare e ≡ false)
+unless_bare_some d e is =
+    elim (is_bare d) as (λ b. is_bare d ≡ b → cond b None (Some d) ≡ Some e → (d ≡ e) × (is_bare e ≡ false)) [
+      | true ↦ λ bare f. absurd (none-some e f)
+      | false ↦ λ some f. let same : d ≡ e = same_Some d e f in (same, subst (λ x. is_bare x ≡ false) same some)
+    ] refl is
+
+pub kept_entry : (d e : Entry) → length d ≡ SITES → unless_bare d ≡ Some e → (length e ≡ SITES) × (is_bare e ≡ false)
+kept_entry d e wide is = let some : (d ≡ e) × (is_bare e ≡ false) = unless_bare_some d e is in (ap length (sym some.0) ∙ wide, some.1)
 
 pub entry_at-get : (members : Members) (q : Place) (e : Entry) → length e ≡ SITES → get members q ≡ unless_bare e → entry_at members q ≡ e
 entry_at-get members q e wide is = ap (λ r. unwrap_or r no_additions) is ∙ entry_unless_bare e wide
@@ -95,3 +108,17 @@ get-put_entry members p e q =
       | true ↦ get-remove place_total members p q
       | false ↦ get-insert place_total members p e q
     ]
+
+-- ---- each entry has a place for each site, and an addition
+
+pub set_entries : (S : List Operation) (h : ℕ) → AreEntries (image_of S h).members
+set_entries S h k m e got = kept_entry (entry_of S h (k, m)) e (length-by_site _) (sym (get-image_of S h (k, m)) ∙ got)
+
+pub join_entries : (a b : Image) → AreEntries (join a b).members
+join_entries a b k m e got = kept_entry _ e (length-by_site _) (sym (get-join a b (k, m)) ∙ got)
+
+pub step_entries : (o : Operation) (a : Image) → AreEntries a.members → AreEntries (image_after o a).members
+step_entries o a are k m e got =
+    let after = entry_after o.act o.site o.n o.seen (entry_at a.members (place_of o)) in
+    cond_both (eq_by_cmp place_cmp (k, m) (place_of o)) (unless_bare after) (get a.members (k, m)) (λ r. r ≡ Some e → (length e ≡ SITES) × (is_bare e ≡ false))
+    (λ _. kept_entry after e (length-by_site _)) (λ _. are k m e) (sym (get-put_entry a.members (place_of o) after (k, m)) ∙ got)

@@ -1,18 +1,18 @@
 -- The image of a set is its image in plain words, and no other image is.
-use Rattle.std.proofs.Common.{◌≡◌, ℕ, ◌<◌, ◌≤◌, true, false, true≢false, cond, suc, unwrap_or, [], ◌∷◌, List, length, None, Option, Some, inl, inr, refl, subst, sym, ap, ◌∙◌, arith, slice_index}
+use Rattle.std.proofs.Common.{◌≡◌, ℕ, ◌<◌, ◌≤◌, false, true≢false, suc, unwrap_or, [], ◌∷◌, List, None, Option, Some, inl, inr, refl, subst, sym, ap, ◌∙◌, arith, slice_index}
 use Rattle.std.specs.FinMap.{get, same_map}
 use Rattle.std.proofs.lemmas.Bool.{cases_lt}
 use Rattle.std.proofs.lemmas.List.{ext_get_or}
-use Rattle.std.proofs.lemmas.Option.{none-some, same_Some}
+use Rattle.std.proofs.lemmas.Option.{none-some}
 use Rattle.zq_model.proofs.Dots.{last_above, last_reached}
-use Rattle.zq_model.proofs.Entries.{addition_at-no_additions, get-image_of}
+use Rattle.zq_model.proofs.Entries.{addition_at-no_additions, set_entries}
 use Rattle.zq_model.proofs.Kept.{kept_from, kept_means, kept_of, kept_there}
 use Rattle.zq_model.proofs.Living.{live_stands, standing_lives}
 use Rattle.zq_model.proofs.Maps.{place_exact, place_total}
 use Rattle.zq_model.proofs.Sites.{by_site-at, by_site-past, length-by_site}
 use Rattle.zq_model.proofs.Standing.{standing_heap, standing_site}
 use Rattle.zq_model.specs.Entry.{Addition}
-use Rattle.zq_model.specs.Image.{Entry, Image, Members, Place, addition_at, entry_at, entry_of, image_of, is_bare, no_additions, unless_bare}
+use Rattle.zq_model.specs.Image.{Entry, Image, Members, Place, addition_at, entry_at, image_of, is_bare, no_additions}
 use Rattle.zq_model.specs.Joining.{HasAddition, IsAdditionOf, IsImageOf}
 use Rattle.zq_model.specs.Meaning.{IsVectorOf}
 use Rattle.zq_model.specs.Operation.{Operation}
@@ -33,13 +33,6 @@ vector_means K S h world = record {
   ];
 }
 
-unless_bare_some : (f e : Entry) → unless_bare f ≡ Some e → (f ≡ e) × (is_bare f ≡ false)
-unless_bare_some f e is =
-    elim (is_bare f) as (λ b. is_bare f ≡ b → cond b None (Some f) ≡ Some e → (f ≡ e) × (is_bare f ≡ false)) [
-      | true ↦ λ bare none. absurd (none-some e none)
-      | false ↦ λ full some. (same_Some f e some, full)
-    ] refl is
-
 pub image_means : (K : ℕ) (S : List Operation) (h : ℕ) → IsWorld K S → IsImageOf S h (image_of S h)
 image_means K S h world = record {
   vector = vector_means K S h world;
@@ -49,9 +42,7 @@ image_means K S h world = record {
   all = λ k m p live a.
       let stands = live_stands S h k m p.site p live a refl in
       (kept_of S h k m p.site p, kept_there K S h k m p.site p world stands, kept_means K S h k m p.site p world stands);
-  entries = λ k m e is.
-      let some = unless_bare_some (entry_of S h (k, m)) e (sym (get-image_of S h (k, m)) ∙ is) in
-      (ap length (sym some.0) ∙ length-by_site _, ap is_bare (sym some.0) ∙ some.1);
+  entries = set_entries S h;
 }
 
 -- ---- no other image

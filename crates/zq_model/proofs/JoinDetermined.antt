@@ -1,6 +1,6 @@
 -- The join of two sound images is determined by what stands in it.
 
-use Rattle.std.proofs.Common.{ℕ, suc, [], ◌∷◌, arith, ◌<◌, ◌≡◌, Bool, true, false, cond, List, get_or, length, Option, Some, None, refl, sym, ap, ◌∙◌, subst, inl, inr}
+use Rattle.std.proofs.Common.{ℕ, suc, [], ◌∷◌, arith, ◌<◌, ◌≡◌, true, false, List, get_or, length, Option, Some, None, refl, sym, ap, ◌∙◌, subst, inl, inr}
 use Rattle.std.specs.Prelude.{is_none, pos, slice_index, unwrap_or}
 use Rattle.std.specs.FinMap.{get, same_map}
 use Rattle.std.proofs.lemmas.Bool.{and_from, cases_lt}
@@ -9,7 +9,7 @@ use Rattle.zq_model.specs.Entry.{Addition}
 use Rattle.zq_model.specs.Image.{Entry, Image, addition_at, is_bare, join, no_additions}
 use Rattle.zq_model.specs.Joining.{HasAddition, IsJoined, IsJoinOf, IsKnown, IsSound}
 use Rattle.zq_model.specs.Sets.{SITES}
-use Rattle.zq_model.proofs.Entries.{addition_at-no_additions, get-join}
+use Rattle.zq_model.proofs.Entries.{addition_at-no_additions, join_entries}
 use Rattle.zq_model.proofs.Maps.{place_exact, place_total}
 use Rattle.zq_model.proofs.Sites.{length-by_site}
 use Rattle.zq_model.proofs.JoinKeeps.{join_both, join_first, join_second, join_stands, join_vector_at}
@@ -85,10 +85,6 @@ module _ (a b : Image) where
       let m = same_members c d p q in
       λ i. record { vector = v i; members = m i }
 
-  unless_bare-some : (d e : Entry) (t : Bool) → is_bare d ≡ t → length d ≡ SITES → cond t None (Some d) ≡ Some e → (length e ≡ SITES) × (is_bare e ≡ false)
-  unless_bare-some d e true h w g = cc
-  unless_bare-some d e false h w g = let is : d ≡ e = cc in (subst (λ x. length x ≡ SITES) is w, subst (λ x. is_bare x ≡ false) is h)
-
   pub join_is : IsSound a → IsSound b → IsJoinOf a b (join a b)
   join_is p q = record {
     wide = length-by_site _;
@@ -97,5 +93,5 @@ module _ (a b : Image) where
     both = join_both a b;
     first = λ k m s x. join_first a b k m s x p q;
     second = λ k m s y. join_second a b k m s y p q;
-    entries = λ k m e h. unless_bare-some _ e _ refl (length-by_site _) (sym (get-join a b (k, m)) ∙ h);
+    entries = join_entries a b;
   }

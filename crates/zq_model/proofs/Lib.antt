@@ -1,4 +1,5 @@
 pub mod Agreeing
+pub mod BoundedImages
 pub mod Bounds
 pub mod CatchingUp
 pub mod Counters
@@ -27,10 +28,15 @@ pub mod Places
 pub mod Preferred
 pub mod Queued
 pub mod Rising
+pub mod KeptRuns
+pub mod RowLists
+pub mod RunMeanings
+pub mod RunSites
 pub mod Same
 pub mod SetTests
 pub mod Sites
 pub mod SoundImages
+pub mod SparseEntries
 pub mod Standing
 pub mod StepImages
 pub mod StepSites

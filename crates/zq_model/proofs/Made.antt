@@ -20,7 +20,7 @@ made_new K S o world made = record {
       let next : o.n ≡ get_or o.seen o.site 0 + 1 = made.n in omega arith;
 }
 
-last_bounded : (K : ℕ) (S : List Operation) (h t : ℕ) → IsWorld K S → last S h t ≤ LAST
+pub last_bounded : (K : ℕ) (S : List Operation) (h t : ℕ) → IsWorld K S → last S h t ≤ LAST
 last_bounded K S h t world = last_below S h t LAST (λ o i _ _. (world.each o i).bounded)
 
 pub made_operation : (K : ℕ) (S : List Operation) (o : Operation) → IsWorld K S → IsMade K S o → IsOperation K o

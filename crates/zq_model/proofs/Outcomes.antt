@@ -3,6 +3,7 @@
 use Rattle.std.proofs.Common.{ℕ, ◌≤◌, ◌≡◌, Bool, true, false, eqb, List, Option, Some, None, refl, sym, ap, ◌∙◌, subst, inl, inr, arith}
 use Rattle.std.specs.Prelude.{pos, slice_index, ◌⊎◌}
 use Rattle.std.proofs.lemmas.Bool.{cond-false, cond-true, eq-eqb, false_from_ne_true, lt-ltb, le-ltb, ne_eqb, cases_Bool, cases_lt, eqb-true}
+use Rattle.std.proofs.lemmas.Option.{same_Some}
 use Rattle.zq_model.specs.Entry.{Addition, join_site, joined, or_else, unless_known}
 use Rattle.zq_model.specs.Joining.{IsJoined, IsKnown}
 use Rattle.zq_model.specs.Operation.{has}
@@ -23,9 +24,6 @@ HasCounter o n = (x : Addition) × (o ≡ Some x) × (x.n ≡ n)
 abbrev pub AreKnown : List ℕ → ℕ → Option Addition → Type 0
 AreKnown v s o = (x : Addition) → o ≡ Some x → IsKnown v s x.n
 
-the_same : (x y : Addition) → Some x ≡ Some y → x ≡ y
-the_same x y e = cc
-
 -- an addition of one side alone stands where the other does not know it
 unless_known-alone : (v : List ℕ) (s : ℕ) (x : Addition) → (IsKnown v s x.n → ⊥) → unless_known v s x ≡ Some x
 unless_known-alone v s x h = cond-false _ _ _ (not_has v s x.n h)
@@ -35,7 +33,7 @@ unless_known-known v s x h = cond-true _ _ _ (has_from v s x.n h.0 h.1)
 
 unless_known-some : (v : List ℕ) (s : ℕ) (x z : Addition) (b : Bool) → has v s x.n ≡ b → unless_known v s x ≡ Some z → (x ≡ z) × (IsKnown v s x.n → ⊥)
 unless_known-some v s x z true h e = cc (cond-true _ None (Some x) h)
-unless_known-some v s x z false h e = (the_same x z (sym (cond-false _ None (Some x) h) ∙ e), not_known v s x.n h)
+unless_known-some v s x z false h e = (same_Some x z (sym (cond-false _ None (Some x) h) ∙ e), not_known v s x.n h)
 
 or_else-some : (x y : Option Addition) (z : Addition) → or_else x y ≡ Some z → (x ≡ Some z) ⊎ (y ≡ Some z)
 or_else-some None y z e = inr e
@@ -55,7 +53,7 @@ joined-IsJoined u v x y = record {
 }
 
 pub site-both : (u v : List ℕ) (s : ℕ) (x y z : Addition) → x.n ≡ y.n → join_site u v s (Some x) (Some y) ≡ Some z → IsJoined u v x y z
-site-both u v s x y z e h = subst (IsJoined u v x y) (the_same _ z (sym (joined-both u v s x y e) ∙ h)) (joined-IsJoined u v x y)
+site-both u v s x y z e h = subst (IsJoined u v x y) (same_Some _ z (sym (joined-both u v s x y e) ∙ h)) (joined-IsJoined u v x y)
 
 pub site-first : (u v : List ℕ) (s : ℕ) (x : Addition) (r : Option Addition) → AreKnown v s r → (IsKnown v s x.n → ⊥) → join_site u v s (Some x) r ≡ Some x
 site-first u v s x None sound h = unless_known-alone v s x h
@@ -94,7 +92,7 @@ site-outcome u v s z None (Some y) e =
 site-outcome u v s z (Some x) (Some y) e = elim (cases_Bool (eqb x.n y.n)) [
   | inl t ↦
       let m : x.n ≡ y.n = eqb-true x.n y.n t in
-      let j : x.n ≡ z.n = ap (λ a. a.n) (the_same _ z (sym (joined-both u v s x y m) ∙ e)) in
+      let j : x.n ≡ z.n = ap (λ a. a.n) (same_Some _ z (sym (joined-both u v s x y m) ∙ e)) in
       inl ((x, refl, j), (y, refl, sym m ∙ j))
   | inr t ↦ elim (or_else-some (unless_known v s x) (unless_known u s y) z (sym (cond-false _ _ _ t) ∙ e)) [
     | inl f ↦

@@ -50,7 +50,7 @@ pub is_true : (b : Bool) → T b → b ≡ true
 is_true true holds = refl
 is_true false holds = absurd holds
 
-less_from : (r : Ordering) → is_lt r ≡ true → r ≡ Less
+pub less_from : (r : Ordering) → is_lt r ≡ true → r ≡ Less
 less_from Less e = refl
 less_from Equal e = absurd (cc)
 less_from Greater e = absurd (cc)

@@ -11,6 +11,7 @@ use Rattle.zq_model.specs.Examples.{HasScore}
 use Rattle.zq_model.specs.Heaps.{heap_of}
 use Rattle.zq_model.specs.Meaning.{IsLive, has_seen, is_of, is_same, value_of_put}
 use Rattle.zq_model.specs.Operation.{Act, Bump, Drop, IsAct, IsWithin, MOST, Operation, Put, is_put, is_removal}
+use Rattle.zq_model.specs.Rule.{Greatest, IsNoWorse, Least, Rule}
 use Rattle.zq_model.specs.Sets.{IsClosed, IsCounters, IsIn, IsOperation, IsWorld, LAST, SITES, is_dot}
 use Rattle.zq_model.proofs.Dots.{has_parts}
 use Rattle.zq_model.proofs.EachOnce.{is_same_equal}
@@ -162,30 +163,39 @@ none_test S k m = not (list_any (live_test S k m) S)
 no_live : (S : List Operation) (k m : List ℕ) → none_test S k m ≡ true → (p : Operation) → IsLive S k m p → ⊥
 no_live S k m e p live = cc (any_none (live_test S k m) S p (not-true _ e) live.here, live_passes S k m p live)
 
--- a live Put is worth x, and none is worth more
+-- x is no worse than y
+abbrev pub no_worse_test : Rule → ℤ → ℤ → Bool
+no_worse_test Greatest x y = int_le y x
+no_worse_test Least x y = int_le x y
+
+IsNoWorse-from_test : (rule : Rule) (x y : ℤ) → no_worse_test rule x y ≡ true → IsNoWorse rule x y
+IsNoWorse-from_test Greatest x y e = le_from y x e
+IsNoWorse-from_test Least x y e = le_from x y e
+
+-- a live Put is worth x, and none is worth a better score
 abbrev pub is_reached : List Operation → List ℕ → List ℕ → ℤ → Operation → Bool
 is_reached S k m x p = live_test S k m p && int_eq (value_of_put S p) x
 
-abbrev pub is_best : List Operation → List ℕ → List ℕ → ℤ → Operation → Bool
-is_best S k m x p = not (live_test S k m p) || int_le (value_of_put S p) x
+abbrev pub is_best : Rule → List Operation → List ℕ → List ℕ → ℤ → Operation → Bool
+is_best rule S k m x p = not (live_test S k m p) || no_worse_test rule x (value_of_put S p)
 
-abbrev pub score_test : List Operation → List ℕ → List ℕ → Option ℤ → Bool
-score_test S k m None = none_test S k m
-score_test S k m (Some x) = list_any (is_reached S k m x) S && list_all (is_best S k m x) S
+abbrev pub score_test : Rule → List Operation → List ℕ → List ℕ → Option ℤ → Bool
+score_test rule S k m None = none_test S k m
+score_test rule S k m (Some x) = list_any (is_reached S k m x) S && list_all (is_best rule S k m x) S
 
-no_more : (S : List Operation) (k m : List ℕ) (x : ℤ) (p : Operation) → is_best S k m x p ≡ true → IsLive S k m p → value_of_put S p ≤ℤ x
-no_more S k m x p e live = elim (or_cases (not (live_test S k m p)) _ e) [
+no_better : (rule : Rule) (S : List Operation) (k m : List ℕ) (x : ℤ) (p : Operation) → is_best rule S k m x p ≡ true → IsLive S k m p → IsNoWorse rule x (value_of_put S p)
+no_better rule S k m x p e live = elim (or_cases (not (live_test S k m p)) _ e) [
   | inl f ↦ cc (not-true _ f, live_passes S k m p live)
-  | inr f ↦ le_from _ x f
+  | inr f ↦ IsNoWorse-from_test rule x _ f
 ]
 
-pub HasScore-from_test : (S : List Operation) (k m : List ℕ) (score : Option ℤ) → score_test S k m score ≡ true → HasScore S k m score
-HasScore-from_test S k m None e = no_live S k m e
-HasScore-from_test S k m (Some x) e =
+pub HasScore-from_test : (rule : Rule) (S : List Operation) (k m : List ℕ) (score : Option ℤ) → score_test rule S k m score ≡ true → HasScore rule S k m score
+HasScore-from_test rule S k m None e = no_live S k m e
+HasScore-from_test rule S k m (Some x) e =
     let h = and_parts (list_any (is_reached S k m x) S) _ e in
     let p = any_some (is_reached S k m x) S h.0 in
     let f = and_parts (live_test S k m p.0) _ p.2 in
     record {
       reached = (p.0, IsLive-from_test S k m p.0 p.1 f.0, (Decides-int_eq _ x).0 f.1);
-      best = λ r live. no_more S k m x r (all_in (is_best S k m x) S r h.1 live.here) live;
+      best = λ r live. no_better rule S k m x r (all_in (is_best rule S k m x) S r h.1 live.here) live;
     }

@@ -8,7 +8,7 @@ use Rattle.std.specs.Prelude.{Bool, List, None, Option, Some, [], if◌then◌el
 use Rattle.std.specs.declared.cmp.Ordering.{Ordering}
 use Rattle.zq_model.specs.Entry.{Addition, addition_of, after_act, join_site}
 use Rattle.zq_model.specs.Operation.{Act, Operation}
-use Rattle.zq_model.specs.Sets.{by_site, vector_of}
+use Rattle.zq_model.specs.Sets.{Early, Known, New, Taken, by_site, taken_of, vector_of}
 
 -- a key and a member, in the order of their bytes
 abbrev pub Place : Type 0
@@ -96,3 +96,12 @@ image_after o a = record {
   vector = slice_set a.vector o.site o.n;
   members = put_entry a.members (place_of o) (entry_after o.act o.site o.n o.seen (entry_at a.members (place_of o)));
 }
+
+abbrev pub image_when : Taken → Operation → Image → Image
+image_when New o a = image_after o a
+image_when Known o a = a
+image_when Early o a = a
+
+-- the image after an operation that is handed to it: what is known or early changes nothing
+abbrev pub image_taken : Operation → Image → Image
+image_taken o a = image_when (taken_of a.vector o) o a

@@ -9,4 +9,11 @@ pub mod Score
 pub mod Queue
 pub mod Joining
 pub mod Tail
+pub mod Sparse
+pub mod Rows
+pub mod Bounded
+pub mod Runs
+pub mod Codes
 pub mod Examples
+pub mod Cases
+pub mod WorkedRun

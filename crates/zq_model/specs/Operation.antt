@@ -28,6 +28,11 @@ is_put (Put score) = true
 is_put (Bump increment) = false
 is_put Drop = false
 
+abbrev pub is_bump : Act → Bool
+is_bump (Put score) = false
+is_bump (Bump increment) = true
+is_bump Drop = false
+
 -- whether the act takes away what it has seen
 abbrev pub is_removal : Act → Bool
 is_removal (Put score) = true
@@ -53,6 +58,10 @@ is_on h k m o = (o.heap == h) && (pointwise nat_eq o.key k && pointwise nat_eq o
 -- the amount of a score or an increment is at most this
 abbrev pub MOST : ℕ
 MOST = 9007199254740992
+
+-- the most bytes of a key and of a member
+abbrev pub LONGEST : ℕ
+LONGEST = 1048576
 
 -- the amount of x is at most b
 abbrev pub IsWithin : ℕ → ℤ → Type 0

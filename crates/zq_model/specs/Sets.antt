@@ -97,11 +97,6 @@ pub data Taken : Type 0 where
 abbrev pub taken_of : List ℕ → Operation → Taken
 taken_of v o = if has v o.site o.n then Known else if covers v o.seen then New else Early
 
--- no operation stands twice in the list
-abbrev pub IsOnce : List Operation → Type 0
-IsOnce [] = Unit {0}
-IsOnce (o ∷ S) = (IsIn o S → ⊥) × IsOnce S
-
 -- o is what its site makes over this set, where its counter is not at its last value
 pub record IsMade (K : ℕ) (S : List Operation) (o : Operation) : Type 0 where
   pub heaps : IsHeaps K

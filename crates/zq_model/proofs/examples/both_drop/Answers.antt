@@ -1,13 +1,14 @@
 use Rattle.std.proofs.Common.{refl}
 use Rattle.zq_model.specs.Heaps.{fnv1a64, heap_of}
+use Rattle.zq_model.specs.Rule.{Greatest, Least}
 use Rattle.zq_model.specs.Sets.{LAST, SITES}
-use Rattle.zq_model.proofs.ExampleTests.{MeetAt-from_test, StandsAt-from_test}
+use Rattle.zq_model.specs.Cases.{two_drops}
+use Rattle.zq_model.proofs.ExampleTests.{Holds-from_test}
 use Rattle.zq_model.proofs.examples.both_drop.Goals as goal
 
 pub returns : goal.returns
 unfolding SITES LAST heap_of fnv1a64
 returns c = record {
-  first = StandsAt-from_test _ 1 _ _ _ refl refl;
-  second = StandsAt-from_test _ 1 _ _ _ refl refl;
-  met = MeetAt-from_test _ _ 1 _ _ _ refl refl refl refl;
+  greatest = Holds-from_test Greatest two_drops refl refl;
+  least = Holds-from_test Least two_drops refl refl;
 }

@@ -10,10 +10,20 @@ returns c = record {
   early = refl;
   new = refl;
   new_then = refl;
-  member_a = StandsAt-from_test _ 0 _ _ _ refl refl;
-  member_y = StandsAt-from_test _ 0 _ _ _ refl refl;
   known = refl;
   known_then = refl;
-  merged_a = MeetAt-from_test _ _ 0 _ _ _ refl refl refl refl;
-  merged_y = MeetAt-from_test _ _ 0 _ _ _ refl refl refl refl;
+  far_early = refl;
+  far_new_then = refl;
+  greatest = record {
+    score_a = StandsAt-from_test _ _ 0 _ _ _ refl;
+    score_y = StandsAt-from_test _ _ 0 _ _ _ refl;
+    merged_a = MeetAt-from_test _ _ _ 0 _ _ _ refl;
+    merged_y = MeetAt-from_test _ _ _ 0 _ _ _ refl;
+  };
+  least = record {
+    score_a = StandsAt-from_test _ _ 0 _ _ _ refl;
+    score_y = StandsAt-from_test _ _ 0 _ _ _ refl;
+    merged_a = MeetAt-from_test _ _ _ 0 _ _ _ refl;
+    merged_y = MeetAt-from_test _ _ _ 0 _ _ _ refl;
+  };
 }

@@ -1,4 +1,4 @@
-use Rattle.std.proofs.Common.{Bool, sym, arith, false, get_or, inl, inr, true, ◌≡◌}
+use Rattle.std.proofs.Common.{sym, arith, inl, inr}
 use Rattle.std.proofs.lemmas.Bool.{cases_Bool}
 use Rattle.zq_model.proofs.Taken.{covers_at, covers_from}
 use Rattle.zq_model.specs.Sets.{covers}
