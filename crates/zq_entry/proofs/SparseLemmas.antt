@@ -3,54 +3,47 @@
 use Rattle.std.proofs.Common.{inl, inr, ap, arith, cond, eqb, get_or, leb, length, ltb, set, sym, refl, zero, suc, ◌∙◌, ◌≡◌, ◌≢◌, true, false}
 use Rattle.std.proofs.lemmas.Bool.{cases_Bool, cases_eq, cases_lt, cases_order}
 use Rattle.std.proofs.lemmas.Bool.Decides.{nat_tests}
-use Rattle.std.proofs.lemmas.List.FromFn.{get_or-map-range_with_len}
 use Rattle.std.proofs.lemmas.List.Sums.{prefix_len-le-length}
 use Rattle.std.specs.List.{filter, insert, range_with_len}
-use Rattle.std.specs.Prelude.{Bool, List, None, Option, Some, [], map, nat_le, not, slice_index_or, unwrap_or, ℕ, ◌+◌, ◌<◌, ◌≤◌, ◌∷◌}
+use Rattle.std.specs.Prelude.{Bool, List, None, Option, Some, [], map, nat_le, not, unwrap_or, ℕ, ◌+◌, ◌<◌, ◌≤◌, ◌∷◌}
 use Rattle.zq_model.specs.Sets.{SITES, by_site}
-use Rattle.zq_entry.specs.Sparse.{IsRising, found, place_in, placed}
+use Rattle.zq_entry.specs.Sparse.{place_in, placed, sparse_from}
+use Rattle.zq_model.specs.Sparse.{AreBySite, found}
 
 -- ---- a value for each site
 
-map_range-same : {X : Type 0} (f g : ℕ → X) (a n : ℕ) → ((s : ℕ) → a ≤ s → s < a + n → f s ≡ g s) → map f (range_with_len a n) ≡ map g (range_with_len a n)
+pub map_range-same : {X : Type 0} (f g : ℕ → X) (a n : ℕ) → ((s : ℕ) → a ≤ s → s < a + n → f s ≡ g s) → map f (range_with_len a n) ≡ map g (range_with_len a n)
 map_range-same f g a zero h = refl
 map_range-same f g a (suc n) h =
     let here = h a (omega arith) (omega arith) in
     let rest = map_range-same f g (a + 1) n (λ s l u. h s (omega arith) (omega arith)) in
     ap (λ x. x ∷ map f (range_with_len (a + 1) n)) here ∙ ap (λ xs. g a ∷ xs) rest
 
--- lists of what two functions give of each site are one where the functions agree
-pub by_site-same : {X : Type 0} (f g : ℕ → X) → ((s : ℕ) → s < SITES → f s ≡ g s) → by_site f ≡ by_site g
-by_site-same f g h = map_range-same f g 0 SITES (λ s _ u. h s (omega arith))
-
-pub at_by_site : {X : Type 0} (f : ℕ → X) (s : ℕ) (d : X) → s < SITES → slice_index_or (by_site f) s d ≡ f s
-at_by_site f s d h = get_or-map-range_with_len f 0 SITES s s d h (omega arith)
-
 -- ---- look-ups
 
-found-here : {X : Type 0} (s : ℕ) (p : ℕ × X) (items : List (ℕ × X)) → p.0 ≡ s → found s (p ∷ items) ≡ Some p.1
+pub found-here : {X : Type 0} (s : ℕ) (p : ℕ × X) (items : List (ℕ × X)) → p.0 ≡ s → found s (p ∷ items) ≡ Some p.1
 found-here s p items h =
     let test : eqb p.0 s ≡ true = grind (arith, nat_tests) in
     ap (λ b. cond b (Some p.1) (found s items)) test
 
-found-past : {X : Type 0} (s : ℕ) (p : ℕ × X) (items : List (ℕ × X)) → p.0 ≢ s → found s (p ∷ items) ≡ found s items
+pub found-past : {X : Type 0} (s : ℕ) (p : ℕ × X) (items : List (ℕ × X)) → p.0 ≢ s → found s (p ∷ items) ≡ found s items
 found-past s p items h =
     let test : eqb p.0 s ≡ false = grind (arith, nat_tests) in
     ap (λ b. cond b (Some p.1) (found s items)) test
 
 -- ---- rising sites
 
-pub rising_from : {X : Type 0} (low lower high : ℕ) (items : List (ℕ × X)) → lower ≤ low → IsRising low high items → IsRising lower high items
+pub rising_from : {X : Type 0} (low lower high : ℕ) (items : List (ℕ × X)) → lower ≤ low → AreBySite low high items → AreBySite lower high items
 rising_from low lower high [] h r = tt
 rising_from low lower high (p ∷ items) h r = (omega (arith, r.0), r.1, r.2)
 
 -- as many values as sites, at most
-pub rising-length : {X : Type 0} (low high : ℕ) (items : List (ℕ × X)) → low ≤ high → IsRising low high items → low + length items ≤ high
+pub rising-length : {X : Type 0} (low high : ℕ) (items : List (ℕ × X)) → low ≤ high → AreBySite low high items → low + length items ≤ high
 rising-length low high [] h r = omega arith
 rising-length low high (p ∷ items) h r = omega (arith, r.0, r.1, rising-length (p.0 + 1) high items (omega (arith, r.1)) r.2)
 
 -- no value stands below the lowest site
-pub found_below : {X : Type 0} (s low high : ℕ) (items : List (ℕ × X)) → s < low → IsRising low high items → found s items ≡ None
+pub found_below : {X : Type 0} (s low high : ℕ) (items : List (ℕ × X)) → s < low → AreBySite low high items → found s items ≡ None
 found_below s low high [] h r = refl
 found_below s low high (p ∷ items) h r =
     found-past s p items (λ e. omega (arith, e, r.0)) ∙ found_below s (p.0 + 1) high items (omega (arith, r.0)) r.2
@@ -63,17 +56,17 @@ spread h a n items = map (λ s. h (found s items)) (range_with_len a n)
 
 -- the first of these sites has the first value, or none
 pub data Step {X Y : Type 0} (h : Option X → Y) (a n high : ℕ) (items : List (ℕ × X)) : Type 0 where
-  Here : (x : X) (rest : List (ℕ × X)) → items ≡ (a, x) ∷ rest → IsRising (a + 1) high rest → spread h a (suc n) items ≡ h (Some x) ∷ spread h (a + 1) n rest → Step h a n high items
-  Later : IsRising (a + 1) high items → spread h a (suc n) items ≡ h None ∷ spread h (a + 1) n items → Step h a n high items
+  Here : (x : X) (rest : List (ℕ × X)) → items ≡ (a, x) ∷ rest → AreBySite (a + 1) high rest → spread h a (suc n) items ≡ h (Some x) ∷ spread h (a + 1) n rest → Step h a n high items
+  Later : AreBySite (a + 1) high items → spread h a (suc n) items ≡ h None ∷ spread h (a + 1) n items → Step h a n high items
 
-step-here : {X Y : Type 0} (h : Option X → Y) (a n high : ℕ) (p : ℕ × X) (items : List (ℕ × X)) → IsRising a high (p ∷ items) → p.0 ≡ a → Step h a n high (p ∷ items)
+step-here : {X Y : Type 0} (h : Option X → Y) (a n high : ℕ) (p : ℕ × X) (items : List (ℕ × X)) → AreBySite a high (p ∷ items) → p.0 ≡ a → Step h a n high (p ∷ items)
 step-here h a n high p items r same =
     let rest = map_range-same (λ s. h (found s (p ∷ items))) (λ s. h (found s items)) (a + 1) n (λ s l u. ap h (found-past s p items (λ e. omega (arith, e, same)))) in
     let front = ap h (found-here a p items same) in
     Here p.1 items (ap (λ s. (s, p.1) ∷ items) same) (rising_from (p.0 + 1) (a + 1) high items (omega (arith, same)) r.2)
     (ap (λ y. y ∷ spread h (a + 1) n (p ∷ items)) front ∙ ap (λ ys. h (Some p.1) ∷ ys) rest)
 
-pub spread-step : {X Y : Type 0} (h : Option X → Y) (a n high : ℕ) (items : List (ℕ × X)) → IsRising a high items → Step h a n high items
+pub spread-step : {X Y : Type 0} (h : Option X → Y) (a n high : ℕ) (items : List (ℕ × X)) → AreBySite a high items → Step h a n high items
 spread-step h a n high [] r = Later tt refl
 spread-step h a n high (p ∷ items) r =
     elim (cases_order a p.0) [
@@ -83,7 +76,7 @@ spread-step h a n high (p ∷ items) r =
     ]
 
 -- no value has a site, where there is none
-pub rising-none : {X : Type 0} (a high : ℕ) (items : List (ℕ × X)) → high ≤ a → IsRising a high items → items ≡ []
+pub rising-none : {X : Type 0} (a high : ℕ) (items : List (ℕ × X)) → high ≤ a → AreBySite a high items → items ≡ []
 rising-none a high [] h r = refl
 rising-none a high (p ∷ items) h r = absurd (omega (arith, r.0, r.1))
 
@@ -124,7 +117,7 @@ found-placed_other t s x (p ∷ items) h =
       | inr (inr more) ↦ ap (found t) (placed-after s x p items more) ∙ found-past t (s, x) (p ∷ items) h
     ]
 
-pub rising-placed : {X : Type 0} (low high s : ℕ) (x : X) (items : List (ℕ × X)) → low ≤ s → s < high → IsRising low high items → IsRising low high (placed s x items)
+pub rising-placed : {X : Type 0} (low high s : ℕ) (x : X) (items : List (ℕ × X)) → low ≤ s → s < high → AreBySite low high items → AreBySite low high (placed s x items)
 rising-placed low high s x [] l u r = (l, u, tt)
 rising-placed low high s x (p ∷ items) l u r =
     elim (cases_order p.0 s) [
@@ -135,13 +128,13 @@ rising-placed low high s x (p ∷ items) l u r =
 
 -- ---- where a value has its place
 
-place-past : {X : Type 0} (s : ℕ) (p : ℕ × X) (items : List (ℕ × X)) → p.0 < s → place_in s (p ∷ items) ≡ suc (place_in s items)
+pub place-past : {X : Type 0} (s : ℕ) (p : ℕ × X) (items : List (ℕ × X)) → p.0 < s → place_in s (p ∷ items) ≡ suc (place_in s items)
 place-past s p items h =
     let test : leb s p.0 ≡ false = grind (arith, nat_tests) in
     let one : 1 + place_in s items ≡ suc (place_in s items) = omega arith in
     ap (λ b. cond (not b) (1 + place_in s items) 0) test ∙ one
 
-place-here : {X : Type 0} (s : ℕ) (p : ℕ × X) (items : List (ℕ × X)) → s ≤ p.0 → place_in s (p ∷ items) ≡ 0
+pub place-here : {X : Type 0} (s : ℕ) (p : ℕ × X) (items : List (ℕ × X)) → s ≤ p.0 → place_in s (p ∷ items) ≡ 0
 place-here s p items h =
     let test : leb s p.0 ≡ true = grind (arith, nat_tests) in
     ap (λ b. cond (not b) (1 + place_in s items) 0) test
@@ -218,7 +211,7 @@ abbrev pub kept : {X : Type 0} → (ℕ × X → Bool) → ℕ → Option X → 
 kept keep s None = None
 kept keep s (Some x) = cond (keep (s, x)) (Some x) None
 
-pub rising-filter : {X : Type 0} (keep : ℕ × X → Bool) (low high : ℕ) (items : List (ℕ × X)) → IsRising low high items → IsRising low high (filter keep items)
+pub rising-filter : {X : Type 0} (keep : ℕ × X → Bool) (low high : ℕ) (items : List (ℕ × X)) → AreBySite low high items → AreBySite low high (filter keep items)
 rising-filter keep low high [] r = tt
 rising-filter keep low high (p ∷ items) r =
     elim (cases_Bool (keep p)) [
@@ -226,7 +219,7 @@ rising-filter keep low high (p ∷ items) r =
       | inr fails ↦ rw fails (rising_from (p.0 + 1) low high (filter keep items) (omega (arith, r.0)) (rising-filter keep (p.0 + 1) high items r.2))
     ]
 
-kept-filter_at : {X : Type 0} (keep : ℕ × X → Bool) (s high : ℕ) (p : ℕ × X) (items : List (ℕ × X)) → IsRising (p.0 + 1) high items → p.0 ≡ s → found s (filter keep (p ∷ items)) ≡ kept keep s (Some p.1)
+kept-filter_at : {X : Type 0} (keep : ℕ × X → Bool) (s high : ℕ) (p : ℕ × X) (items : List (ℕ × X)) → AreBySite (p.0 + 1) high items → p.0 ≡ s → found s (filter keep (p ∷ items)) ≡ kept keep s (Some p.1)
 kept-filter_at {X} keep s high p items r same =
     let again : ◌≡◌ {A = ℕ × X} p (s, p.1) = ap (λ t. (t, p.1)) same in
     elim (cases_Bool (keep p)) [
@@ -242,7 +235,7 @@ kept-filter_past keep s p items other =
     ]
 
 -- a filter leaves of a site its value, where the value passes
-pub found-filter : {X : Type 0} (keep : ℕ × X → Bool) (s low high : ℕ) (items : List (ℕ × X)) → IsRising low high items → found s (filter keep items) ≡ kept keep s (found s items)
+pub found-filter : {X : Type 0} (keep : ℕ × X → Bool) (s low high : ℕ) (items : List (ℕ × X)) → AreBySite low high items → found s (filter keep items) ≡ kept keep s (found s items)
 found-filter keep s low high [] r = refl
 found-filter keep s low high (p ∷ items) r =
     elim (cases_eq p.0 s) [
@@ -252,16 +245,10 @@ found-filter keep s low high (p ∷ items) r =
 
 -- ---- the values of a list with a place for each site
 
--- the values that stand, each with its site, of sites from s on
-abbrev pub sparse_from : {X : Type 0} → ℕ → List (Option X) → List (ℕ × X)
-sparse_from s [] = []
-sparse_from s (None ∷ places) = sparse_from (s + 1) places
-sparse_from s (Some x ∷ places) = (s, x) ∷ sparse_from (s + 1) places
-
 abbrev as_it_is : {X : Type 0} → Option X → Option X
 as_it_is value = value
 
-sparse-spread : {X : Type 0} (n a high : ℕ) (items : List (ℕ × X)) → a + n ≡ high → IsRising a high items → sparse_from a (spread as_it_is a n items) ≡ items
+sparse-spread : {X : Type 0} (n a high : ℕ) (items : List (ℕ × X)) → a + n ≡ high → AreBySite a high items → sparse_from a (spread as_it_is a n items) ≡ items
 sparse-spread zero a high items e r = sym (rising-none a high items (omega arith) r)
 sparse-spread (suc n) a high items e r =
     elim (spread-step as_it_is a n high items r) [
@@ -269,7 +256,11 @@ sparse-spread (suc n) a high items e r =
       | Later rising front ↦ ap (sparse_from a) front ∙ sparse-spread n (a + 1) high items (omega arith) rising
     ]
 
+-- what stands in the places of a rising list is the list
+pub sparse-dense : {X : Type 0} (items : List (ℕ × X)) → AreBySite 0 SITES items → sparse_from 0 (by_site (λ s. found s items)) ≡ items
+sparse-dense items r = sparse-spread SITES 0 SITES items (omega arith) r
+
 -- rising lists of which the same is found at each site are one
-pub rising-same : {X : Type 0} (xs ys : List (ℕ × X)) → IsRising 0 SITES xs → IsRising 0 SITES ys → by_site (λ s. found s xs) ≡ by_site (λ s. found s ys) → xs ≡ ys
+pub rising-same : {X : Type 0} (xs ys : List (ℕ × X)) → AreBySite 0 SITES xs → AreBySite 0 SITES ys → by_site (λ s. found s xs) ≡ by_site (λ s. found s ys) → xs ≡ ys
 rising-same xs ys r q h =
-    sym (sparse-spread SITES 0 SITES xs (omega arith) r) ∙ (ap (sparse_from 0) h ∙ sparse-spread SITES 0 SITES ys (omega arith) q)
+    sym (sparse-dense xs r) ∙ (ap (sparse_from 0) h ∙ sparse-dense ys q)

@@ -1,12 +1,11 @@
-ghost use Rattle.std.specs.Prelude.{◌≡◌, ◌+◌, ◌*◌, ◌↔◌, IfOk, IsTrue};
-ghost use Rattle.zq_model.specs.Operation.{IsWithin, MOST};
-ghost use Rattle.zq_model.specs.Score.{value_of};
+ghost use Rattle.std.specs.Prelude.{◌≡◌, ◌<◌, IfSome};
 ghost use Rattle.zq_model.specs.Sets as sets;
-ghost use Rattle.zq_entry.specs.Placed.{addition_of_put};
-ghost use Rattle.zq_entry.specs.Sums.{AreSums, MOST_SUM, nonzero_sums};
+ghost use Rattle.zq_entry.specs.Lent.{lent};
+ghost use Rattle.zq_entry.specs.Placed.{addition_of_put, placed_from};
+ghost use Rattle.zq_entry.specs.Sums.{AreSums};
 
+use crate::addition_ref::AdditionRef;
 use crate::sums::Sums;
-use std::alloc::{AllocError, Global};
 use std::marker::Model;
 use zq_dots::{Dot, Score, SiteNo};
 
@@ -21,23 +20,30 @@ pub struct Addition {
 
 // The site, and what the model keeps in the site's place.
 impl Model for Addition {
-    ghost use Rattle.zq_entry.specs.Placed.{Placed};
+    ghost use Rattle.zq_entry.specs.Lent.{lent};
+    ghost use Rattle.zq_model.specs.Rows.{OfSite};
 
-    ghost Value = { Placed };
+    ghost Value = { OfSite };
 
     ghost view = { λ a. (a.dot.site, record { n = a.dot.n; score = a.score; sums = a.sums }) };
 }
 
 impl Addition {
-    /// What a Put makes: no Bump has seen it.
-    pub(crate) fn new(alloc: Global, dot: Dot, score: Score) -> Addition
-        ensures { result ≡ (dot.site, addition_of_put dot.n score) }
+    /// The addition of these parts. The sums are by rising site, none is 0, and the amount of each
+    /// is at most 9007199254740992 times 281474976710655.
+    pub fn of(dot: Dot, score: Score, sums: Vec<(SiteNo, i128)>) -> Addition
+        requires { AreSums sums.items }
+        ensures parts { result ≡ placed_from dot.site dot.n score sums.items }
+        ensures site { result.0 < sets.SITES }
     {
-        Addition {
-            dot,
-            score,
-            sums: Sums::new(alloc),
-        }
+        Addition::with_sums(dot, score, Sums::of(sums))
+    }
+
+    /// The addition of these parts.
+    pub(crate) fn with_sums(dot: Dot, score: Score, sums: Sums) -> Addition
+        ensures { result ≡ (dot.site, record { n = dot.n; score = score; sums = sums }) }
+    {
+        Addition { dot, score, sums }
     }
 
     /// The dot of the Put.
@@ -48,45 +54,26 @@ impl Addition {
         self.dot
     }
 
-    /// The score of the Put.
-    pub fn score(&self) -> Score
-        ensures { result ≡ self.now.1.score }
+    /// Its dot and its score, where all its sums are 0.
+    pub(crate) fn bare(&self) -> Option<(Dot, Score)>
+        ensures { IfSome result (λ parts. self.now ≡ (parts.0.site, addition_of_put parts.0.n parts.1)) }
     {
-        self.score
+        if self.sums.as_slice().is_empty() {
+            Some((self.dot, self.score))
+        } else {
+            None
+        }
     }
 
-    /// The sums that are not 0, by rising site. The amount of each is at most 9007199254740992
-    /// times 281474976710655.
-    pub fn sums(&self) -> &[(SiteNo, i128)]
-        ensures kept { result.now ≡ nonzero_sums self.now.1.sums }
-        ensures within { AreSums result.now }
+    /// Lends its parts.
+    pub fn lend(&self) -> AdditionRef<'_>
+        ensures same { lent result ≡ self.now }
+        ensures sums { AreSums result.sums.now }
     {
-        self.sums.as_slice()
-    }
-
-    /// The score and all the sums.
-    pub(crate) fn value(&self) -> i128
-        ensures value { result ≡ value_of self.now.1 }
-        ensures within { IsWithin (MOST + sets.SITES * MOST_SUM) result }
-    {
-        i128::from(self.score.value()) + self.sums.total()
-    }
-
-    /// Whether this is the same addition.
-    pub(crate) fn same(&self, other: &Addition) -> bool
-        ensures { IsTrue result ↔ (self.now ≡ other.now) }
-    {
-        self.dot == other.dot && self.score == other.score && self.sums.same(&other.sums)
-    }
-
-    /// The same addition.
-    pub(crate) fn copy(&self, alloc: Global) -> Result<Addition, AllocError>
-        ensures { IfOk result (λ copy. copy ≡ self.now) }
-    {
-        Ok(Addition {
+        AdditionRef {
             dot: self.dot,
             score: self.score,
-            sums: self.sums.copy(alloc)?,
-        })
+            sums: self.sums.as_slice(),
+        }
     }
 }

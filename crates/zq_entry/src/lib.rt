@@ -4,11 +4,17 @@
 #![tactic(auto)]
 
 mod addition;
+mod addition_ref;
+mod additions;
 mod entry;
+mod held;
+mod lower;
+mod merge;
 mod places;
 mod sums;
 
 pub use addition::Addition;
+pub use addition_ref::AdditionRef;
 pub use entry::Entry;
 
 #[cfg(test)]

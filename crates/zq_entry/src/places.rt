@@ -2,7 +2,7 @@
 
 ghost use Rattle.std.specs.Prelude.{◌≡◌, ◌≢◌, ◌<◌, IsTrue, OnErr, OnOk, false, length, slice_index_or};
 ghost use Rattle.zq_model.specs.Sets as sets;
-ghost use Rattle.zq_entry.specs.Placed.{Placed};
+ghost use Rattle.zq_model.specs.Rows.{OfSite};
 ghost use Rattle.zq_entry.specs.Sparse.{place_in, placed};
 
 use crate::addition::Addition;
@@ -23,8 +23,8 @@ fn place_of(additions: &[Addition], site: SiteNo) -> usize
 
 /// Whether the addition of this site is at this place.
 fn is_at(additions: &[Addition], at: usize, site: SiteNo) -> bool
-    ensures there { IsTrue result → (at < length additions.now) × ((d : Placed) → (slice_index_or additions.now at d).0 ≡ site) }
-    ensures not_there { result ≡ false → at < length additions.now → (d : Placed) → (slice_index_or additions.now at d).0 ≢ site }
+    ensures there { IsTrue result → (at < length additions.now) × ((d : OfSite) → (slice_index_or additions.now at d).0 ≡ site) }
+    ensures not_there { result ≡ false → at < length additions.now → (d : OfSite) → (slice_index_or additions.now at d).0 ≢ site }
 {
     additions
         .get(at)

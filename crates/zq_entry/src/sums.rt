@@ -1,12 +1,15 @@
-ghost use Rattle.std.specs.Prelude.{◌≡◌, ◌*◌, ◌↔◌, IfOk, IsTrue, pos};
-ghost use Rattle.zq_model.specs.Operation.{IsWithin};
+ghost use Rattle.std.specs.Prelude.{◌≡◌, ◌*◌, ◌-◌, ◌≤◌, ◌+ℤ◌, IfOk, pos, slice_index_or, unwrap_or};
+ghost use Rattle.zq_model.specs.Entry.{sums_joined};
+ghost use Rattle.zq_model.specs.Operation.{IsWithin, MOST};
 ghost use Rattle.zq_model.specs.Score.{total};
 ghost use Rattle.zq_model.specs.Sets as sets;
-ghost use Rattle.zq_entry.specs.Sums.{AreSums, MOST_SUM, nonzero_sums};
+ghost use Rattle.zq_entry.specs.Sparse.{first_at, head_of, place_in, rest_at};
+ghost use Rattle.zq_entry.specs.Sums.{AreSums, MOST_SUM, dense_sums, nonzero_sums, sum_joined, sums_bumped};
 
+use crate::lower::lower_site;
 use std::alloc::{AllocError, Global};
 use std::marker::Model;
-use zq_dots::SiteNo;
+use zq_dots::{Dot, Score, SiteNo, Vector};
 
 /// For each site the sum of the increments of its Bumps. The sums that are not 0 are kept, by
 /// rising site, and the amount of each is at most 9007199254740992 times 281474976710655.
@@ -17,6 +20,7 @@ pub struct Sums {
 
 impl Model for Sums {
     ghost use Rattle.std.specs.Prelude.{List, ℤ};
+    ghost use Rattle.zq_entry.specs.Sparse.{first_at, head_of, place_in, rest_at};
     ghost use Rattle.zq_entry.specs.Sums.{AreSums, dense_sums};
 
     ghost Value = { List ℤ };
@@ -27,48 +31,148 @@ impl Model for Sums {
 }
 
 impl Sums {
-    /// No Bump has been seen.
-    pub fn new(alloc: Global) -> Sums
-        ensures { result ≡ sets.by_site (λ _. pos 0) }
+    /// These sums.
+    pub fn of(items: Vec<(SiteNo, i128)>) -> Sums
+        requires { AreSums items.items }
+        ensures { result ≡ dense_sums items.items }
     {
-        Sums {
-            items: Vec::new(alloc),
-        }
+        Sums { items }
+    }
+
+    /// A copy of these sums.
+    pub fn from_slice(alloc: Global, items: &[(SiteNo, i128)]) -> Result<Sums, AllocError>
+        requires { AreSums items.now }
+        ensures { IfOk result (λ copy. copy ≡ dense_sums items.now) }
+    {
+        Ok(Sums {
+            items: Vec::from_slice(alloc, items)?,
+        })
     }
 
     /// The sums that are not 0, by rising site.
     pub fn as_slice(&self) -> &[(SiteNo, i128)]
         ensures kept { result.now ≡ nonzero_sums self.now }
+        ensures same { dense_sums result.now ≡ self.now }
         ensures within { AreSums result.now }
     {
         &self.items
     }
+}
 
-    /// What all the sums come to.
-    pub fn total(&self) -> i128
-        ensures value { result ≡ total self.now }
-        ensures within { IsWithin (sets.SITES * MOST_SUM) result }
-    {
-        let mut total = 0;
-        for (_, sum) in &self.items {
-            total += *sum;
+/// What all the sums come to.
+pub fn total(sums: &[(SiteNo, i128)]) -> i128
+    requires { AreSums sums.now }
+    ensures value { result ≡ total (dense_sums sums.now) }
+    ensures within { IsWithin (sets.SITES * MOST_SUM) result }
+{
+    let mut total = 0;
+    for (_, sum) in sums {
+        total += *sum;
+    }
+    total
+}
+
+/// Each site's sum from the side whose vector knows more of the site, and mine where they know the
+/// same.
+pub fn joined_sums(
+    alloc: Global,
+    mine: &Vector,
+    my_sums: &[(SiteNo, i128)],
+    theirs: &Vector,
+    their_sums: &[(SiteNo, i128)],
+) -> Result<Sums, AllocError>
+    requires mine { AreSums my_sums.now }
+    requires theirs { AreSums their_sums.now }
+    ensures { IfOk result (λ new. new ≡ sums_joined mine.now theirs.now (dense_sums my_sums.now) (dense_sums their_sums.now)) }
+{
+    let mut items = Vec::new(alloc);
+    let (mut my_rest, mut their_rest) = (my_sums, their_sums);
+    while let Some(site) = lower_site(head_site(my_rest), head_site(their_rest)) {
+        let (my_sum, my_others) = cut(my_rest, site);
+        let (their_sum, their_others) = cut(their_rest, site);
+        if let Some(sum) = joined_sum(site, mine, my_sum, theirs, their_sum) {
+            items.push((site, sum))?;
         }
-        total
+        my_rest = my_others;
+        their_rest = their_others;
     }
+    Ok(Sums { items })
+}
 
-    /// Whether these are the same sums.
-    pub fn same(&self, other: &Sums) -> bool
-        ensures { IsTrue result ↔ (self.now ≡ other.now) }
-    {
-        self.items == other.items
+/// The sum of this site from the side whose vector knows more of the site, and mine where they know
+/// the same.
+fn joined_sum(
+    site: SiteNo,
+    mine: &Vector,
+    my_sum: Option<i128>,
+    theirs: &Vector,
+    their_sum: Option<i128>,
+) -> Option<i128>
+    ensures { result ≡ sum_joined mine.now theirs.now site my_sum their_sum }
+{
+    if mine.get(site) < theirs.get(site) {
+        their_sum
+    } else {
+        my_sum
     }
+}
 
-    /// The same sums.
-    pub fn copy(&self, alloc: Global) -> Result<Sums, AllocError>
-        ensures { IfOk result (λ copy. copy ≡ self.now) }
-    {
-        Ok(Sums {
-            items: Vec::from_slice(alloc, &self.items)?,
-        })
+/// The sums after the Bump with this dot.
+pub fn bumped_sums(
+    alloc: Global,
+    sums: &[(SiteNo, i128)],
+    dot: Dot,
+    increment: Score,
+) -> Result<Sums, AllocError>
+    requires sums { AreSums sums.now }
+    requires counter { (1 ≤ dot.n) × (dot.n ≤ sets.LAST) }
+    requires room { IsWithin (MOST * (dot.n - 1)) (slice_index_or (dense_sums sums.now) dot.site (pos 0)) }
+    ensures { IfOk result (λ new. new ≡ sums_bumped dot.site increment (dense_sums sums.now)) }
+{
+    let (before, rest) = sums.split_at(place_of(sums, dot.site));
+    let (old, after) = cut(rest, dot.site);
+    let sum = added(old, increment);
+    let mut items = Vec::with_capacity(alloc, sums.len() + 1)?;
+    items.extend_from_slice(before)?;
+    if sum != 0 {
+        items.push((dot.site, sum))?;
     }
+    items.extend_from_slice(after)?;
+    Ok(Sums { items })
+}
+
+/// A site's sum and one more increment.
+fn added(sum: Option<i128>, increment: Score) -> i128
+    requires { IsWithin MOST_SUM (unwrap_or sum (pos 0) +ℤ increment) }
+    ensures { result ≡ unwrap_or sum (pos 0) +ℤ increment }
+{
+    sum.unwrap_or(0) + i128::from(increment.value())
+}
+
+/// The site of the first sum.
+fn head_site(sums: &[(SiteNo, i128)]) -> Option<SiteNo>
+    ensures { result ≡ head_of sums.now }
+{
+    sums.first().map(|(site, _)| *site)
+}
+
+/// The first sum, where it is this site's, and what is left after it.
+fn cut(sums: &[(SiteNo, i128)], site: SiteNo) -> (Option<i128>, &[(SiteNo, i128)])
+    ensures first { result.0 ≡ first_at site sums.now }
+    ensures rest { result.1.now ≡ rest_at site sums.now }
+{
+    match sums {
+        [(first, sum), others @ ..] if *first == site => (Some(*sum), others),
+        _ => (None, sums),
+    }
+}
+
+/// The place of the first sum of this site or a later one, or the length.
+fn place_of(sums: &[(SiteNo, i128)], site: SiteNo) -> usize
+    ensures { result ≡ place_in site sums.now }
+{
+    let number = site.value();
+    sums.iter()
+        .position(|(other, _)| number <= other.value())
+        .unwrap_or(sums.len())
 }

@@ -1,12 +1,12 @@
 use Rattle.std.proofs.Common.{ap, arith, get_or, length, rules, sym, ℕ, List, ◌<◌, ◌∙◌, ◌≡◌}
 use Rattle.std.specs.Vec.{vec_len}
-use Rattle.zq_entry.specs.Placed.{Placed}
+use Rattle.zq_model.specs.Rows.{OfSite}
 use Rattle.zq_entry.specs.Sparse.{place_in}
 use Rattle.zq_entry.proofs.SparseLemmas.{insert-placed, place-within, set-placed}
 use Rattle.zq_entry.proofs.places.place.Goals as goal
 
 -- where the addition goes
-place : (site : ℕ) (p : Placed) (seen items : List Placed) (at : ℕ) → at ≡ place_in site seen → site ≡ p.0 → seen ≡ items → at ≡ place_in p.0 items
+place : (site : ℕ) (p : OfSite) (seen items : List OfSite) (at : ℕ) → at ≡ place_in site seen → site ≡ p.0 → seen ≡ items → at ≡ place_in p.0 items
 place site p seen items at is same list = is ∙ (ap (λ s. place_in s seen) same ∙ ap (place_in p.0) list)
 
 pub insert-requires : goal.insert-requires

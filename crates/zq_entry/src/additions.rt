@@ -1,0 +1,151 @@
+ghost use Rattle.std.specs.Prelude.{◌≡◌, ◌<◌, ◌^◌, ◌++◌, ◌∷◌, [], IfSome, OnErr, OnOk, OnSome, drop, length, option_map, slice_index_or};
+ghost use Rattle.std.specs.List.{filter, list_all};
+ghost use Rattle.zq_entry.specs.Changes.{goes, is_unseen, stays};
+ghost use Rattle.zq_entry.specs.Lent.{lent};
+ghost use Rattle.zq_entry.specs.Placed.{addition_of_put};
+ghost use Rattle.zq_model.specs.Rows.{OfSite};
+ghost use Rattle.zq_entry.specs.Sparse.{first_at, head_of, placed};
+ghost use Rattle.zq_entry.specs.Sums.{AreSums};
+
+use crate::addition::Addition;
+use crate::addition_ref::AdditionRef;
+use crate::held::Held;
+use std::alloc::{AllocError, Global};
+use std::marker::Model;
+use zq_dots::{Dot, Score, SiteNo, Vector};
+
+/// A list of additions.
+#[derive(Debug, Drop)]
+pub struct Additions {
+    held: Held,
+}
+
+impl Model for Additions {
+    ghost use Rattle.std.specs.Prelude.{List};
+    ghost use Rattle.zq_model.specs.Rows.{OfSite};
+
+    ghost Value = { List OfSite };
+
+    ghost use Rattle.zq_entry.specs.Held.{listed};
+
+    ghost view = { λ a. listed a.held };
+}
+
+impl Additions {
+    /// None.
+    pub fn new() -> Additions
+        ensures { result ≡ [] }
+    {
+        Additions {
+            held: Held::Nothing,
+        }
+    }
+
+    /// One, without sums. It takes no memory.
+    pub fn of(dot: Dot, score: Score) -> Additions
+        ensures { result ≡ (dot.site, addition_of_put dot.n score) ∷ [] }
+    {
+        Additions {
+            held: Held::One(dot, score),
+        }
+    }
+
+    /// How many there are.
+    pub fn len(&self) -> usize
+        ensures { result ≡ length self.now }
+    {
+        match &self.held {
+            Held::Nothing => 0,
+            Held::One(..) => 1,
+            Held::Many(list) => list.len(),
+        }
+    }
+
+    /// The one at this place.
+    pub fn at(&self, place: usize) -> AdditionRef<'_>
+        requires { place < length self.now }
+        ensures addition { (d : OfSite) → lent result ≡ slice_index_or self.now place d }
+        ensures sums { AreSums result.sums.now }
+    {
+        match &self.held {
+            Held::Nothing => unreachable!(),
+            Held::One(dot, score) => AdditionRef {
+                dot: *dot,
+                score: *score,
+                sums: &[],
+            },
+            Held::Many(list) => list[place].lend(),
+        }
+    }
+
+    /// The site of the one at this place, if there is one.
+    pub fn site_at(&self, place: usize) -> Option<SiteNo>
+        ensures { result ≡ head_of (drop place self.now) }
+    {
+        if place < self.len() {
+            Some(self.at(place).dot.site)
+        } else {
+            None
+        }
+    }
+
+    /// The one at this place, where it is this site's.
+    pub fn get(&self, place: usize, site: SiteNo) -> Option<AdditionRef<'_>>
+        ensures first { option_map (λ a. (lent a).1) result ≡ first_at site (drop place self.now) }
+        ensures site { IfSome result (λ a. a.dot.site ≡ site) }
+        ensures sums { IfSome result (λ a. AreSums a.sums.now) }
+        ensures inside { OnSome result ((place < length self.now) × (length self.now < 2 ^ 64)) }
+    {
+        if place < self.len() {
+            let addition = self.at(place);
+            if addition.dot.site == site {
+                return Some(addition);
+            }
+        }
+        None
+    }
+
+    /// Puts one at the end. The first, where it has no sums, takes no memory.
+    pub fn push(&mut self, alloc: Global, addition: Addition) -> Result<(), AllocError>
+        ensures pushed { OnOk result (self.new ≡ self.old ++ addition ∷ []) }
+        ensures refused { OnErr result (self.new ≡ self.old) }
+    {
+        if let (Held::Nothing, Some((dot, score))) = (&self.held, addition.bare()) {
+            self.held = Held::One(dot, score);
+            return Ok(());
+        }
+        self.held.widen(alloc)?;
+        self.held.push(addition)
+    }
+
+    /// Whether a Put with this dot that has seen this vector takes all of them away.
+    pub fn all_go(&self, dot: &Dot, seen: &Vector) -> bool
+        ensures { result ≡ list_all (goes dot.now.site seen.now) self.now }
+    {
+        self.held.all_go(dot, seen)
+    }
+
+    /// Takes a Put: its addition is the site's, and the others that it had seen go.
+    pub fn put(
+        &mut self,
+        alloc: Global,
+        dot: &Dot,
+        score: Score,
+        seen: &Vector,
+    ) -> Result<(), AllocError>
+        ensures put { OnOk result (self.new ≡ filter (stays dot.now.site seen.now) (placed dot.now.site (addition_of_put dot.now.n score) self.old)) }
+        ensures refused { OnErr result (self.new ≡ self.old) }
+    {
+        self.held.widen(alloc)?;
+        self.held.place(Addition::of(*dot, score, Vec::new(alloc)))?;
+        self.held.retain_beside(dot, seen);
+        Ok(())
+    }
+
+    /// Leaves those that the vector has not seen.
+    pub fn drop_seen(&mut self, seen: &Vector)
+        ensures { self.new ≡ filter (is_unseen seen.now) self.old }
+    {
+        self.held.retain_unseen(seen);
+    }
+}
