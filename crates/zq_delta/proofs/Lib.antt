@@ -1,3 +1,2 @@
-mod Dense
 pub mod Again
 mod Answered

@@ -1,4 +1,5 @@
 pub mod Version
 pub mod Spelling
+pub mod Fields
 pub mod Reading
 pub mod Answer

@@ -1,20 +1,18 @@
 -- The one spelling of each operation in each version.
 
-use Rattle.std.specs.Int.{to_be_bytes, w64}
-use Rattle.std.specs.Prelude.{List, [], flat_map, ℕ, ◌++◌, ◌∷◌}
+use Rattle.std.specs.Int.{w64}
+use Rattle.std.specs.Prelude.{List, [], ℕ, ◌++◌, ◌∷◌}
 use Rattle.zq_delta.specs.declared.version.Version.{Version}
-use Rattle.zq_delta.specs.declared.version.Version.TheVariants.{One}
+use Rattle.zq_delta.specs.declared.version.Version.TheVariants.{One, Two}
 use Rattle.zq_delta.specs.Version.{version_byte}
 use Rattle.zq_dots.specs.Placed.{Placed}
 use Rattle.zq_fields.specs.Fields.{signed, text}
 use Rattle.zq_model.specs.Operation.{Act, Bump, Drop, Put}
-
--- each site's counter, site 0 first
-abbrev pub dense : List ℕ → List ℕ
-dense counters = flat_map (to_be_bytes w64) counters
+use Rattle.zq_parts.specs.Spelling.{dense, sparse}
 
 abbrev pub vector : Version → List ℕ → List ℕ
 vector One counters = dense counters
+vector Two counters = sparse counters
 
 abbrev pub act_bytes : Act → List ℕ
 act_bytes (Put score) = 0 ∷ signed w64 score
@@ -29,5 +27,5 @@ fields v o =
     (vector v o.operation.seen ++ (act_bytes o.operation.act ++ (text o.operation.key ++ text o.operation.member)))
 
 -- the version, and the fields
-abbrev pub spelling : Version → Placed → List ℕ
-spelling v o = version_byte v ∷ fields v o
+abbrev pub op_spelling : Version → Placed → List ℕ
+op_spelling v o = version_byte v ∷ fields v o

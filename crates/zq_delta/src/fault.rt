@@ -1,4 +1,5 @@
 use std::alloc::AllocError;
+use zq_parts::PartFault;
 
 /// Why bytes are not read as an operation: the first field from the left that is missing or wrong.
 #[derive(Clone, Copy, Debug, PartialEq, Eq)]
@@ -25,5 +26,21 @@ impl From<AllocError> for OpFault {
 
     fn from(_error: AllocError) -> OpFault {
         OpFault::NoMemory
+    }
+}
+
+impl From<PartFault> for OpFault {
+    ghost use Rattle.std.specs.Prelude.{◌≡◌};
+    ghost use Rattle.zq_delta.specs.Reading.{fault_of};
+
+    ghost from_gives = { λ part e. e ≡ fault_of part };
+
+    fn from(part: PartFault) -> OpFault {
+        match part {
+            PartFault::Short => OpFault::Short,
+            PartFault::Field(place) => OpFault::Field(place),
+            PartFault::Length => OpFault::Length,
+            PartFault::Score => OpFault::Score,
+        }
     }
 }

@@ -27,7 +27,7 @@ u32_read n rest fits = number_read w32 n (to_be_bytes w32 n) rest refl (from_be_
 pub u64_read : (n : ℕ) (rest : List ℕ) → n < 2 ^ 64 → number_field w64 (to_be_bytes w64 n ++ rest) ≡ Some (n, rest)
 u64_read n rest fits = number_read w64 n (to_be_bytes w64 n) rest refl (from_be_bytes-to_be_bytes_8 n fits)
 
-signed_read : (w : Width) (z : ℤ) (x rest : List ℕ) → length x ≡ byte_len w → from_be_bytes w x ≡ cast_unsigned w z → cast_signed w (cast_unsigned w z) ≡ z → signed_field w (x ++ rest) ≡ Some (z, rest)
+pub signed_read : (w : Width) (z : ℤ) (x rest : List ℕ) → length x ≡ byte_len w → from_be_bytes w x ≡ cast_unsigned w z → cast_signed w (cast_unsigned w z) ≡ z → signed_field w (x ++ rest) ≡ Some (z, rest)
 signed_read w z x rest size is back =
     rw (long (byte_len w) x rest size, take_at x rest (byte_len w) size, drop_at x rest (byte_len w) size, is, back) refl
 

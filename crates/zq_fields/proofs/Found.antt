@@ -10,7 +10,7 @@ use Rattle.std.specs.Int.{from_be_bytes, to_be_bytes, w32, w64}
 abbrev pub AreBytes : List ℕ → Type 0
 AreBytes bytes = (i : ℕ) → Fits w8 (get_or bytes i 0)
 
-front_bytes : (k : ℕ) (bytes : List ℕ) → AreBytes bytes → (i : ℕ) → get_or (take k bytes) i 0 < 256
+pub front_bytes : (k : ℕ) (bytes : List ℕ) → AreBytes bytes → (i : ℕ) → get_or (take k bytes) i 0 < 256
 front_bytes k bytes small i = elim (cases_lt i k) [
   | inl below ↦ rw (get_or-take k bytes i 0 below) (small i).fits
   | inr past ↦ rw (get_or_past (take k bytes) i 0 (omega (arith, length-take k bytes))) (omega arith)
@@ -23,7 +23,7 @@ pub record IsFront (k : ℕ) (bytes front rest : List ℕ) : Type 0 where
   pub long : length rest + k ≡ length bytes
 
 -- where the first k bytes are those that a number writes, the number's bytes and the rest make the whole
-whole : (k : ℕ) (bytes front rest written : List ℕ) → IsFront k bytes front rest → written ≡ take k bytes → bytes ≡ written ++ rest
+pub whole : (k : ℕ) (bytes front rest written : List ℕ) → IsFront k bytes front rest → written ≡ take k bytes → bytes ≡ written ++ rest
 whole k bytes front rest written f is = rw (is, f.rest_is) (sym (take-append-drop k bytes))
 
 pub found_4 : (bytes front rest : List ℕ) (n : ℕ) → AreBytes bytes → IsFront 4 bytes front rest → n ≡ from_be_bytes w32 front → bytes ≡ to_be_bytes w32 n ++ rest

@@ -1,4 +1,5 @@
--- The fields that frames are made of. A field is read from the front of the bytes: its value comes with the bytes after it, and None where bytes of it are missing.
+-- The fields that frames are made of. Reading takes a field from the front of the bytes. It gives the value and the bytes
+-- after it, or None where bytes of the field are missing.
 
 use Rattle.std.specs.Int.{Width, byte_len, cast_signed, cast_unsigned, from_be_bytes, to_be_bytes, w32}
 use Rattle.std.specs.Prelude.{List, None, Option, Some, [], drop, if◌then◌else◌, length, nat_lt, take, ℕ, ℤ, ◌++◌, ◌∷◌, ◌≡◌}
@@ -29,7 +30,7 @@ signed w z = to_be_bytes w (cast_unsigned w z)
 abbrev pub text : List ℕ → List ℕ
 text bytes = to_be_bytes w32 (length bytes) ++ bytes
 
--- what a reader returned, seen by view, is what reading gives
+-- The code's answer, seen through view, is the answer of the definition.
 abbrev pub Gives : {X Y : Type 0} → (X → Y) → Option X → Option Y → Type 0
 Gives view (Some x) read = read ≡ Some (view x)
 Gives view None read = read ≡ None

@@ -5,7 +5,7 @@ ghost use Rattle.zq_fields.specs.Fields.{signed};
 
 use std::alloc::AllocError;
 
-/// Appends a byte. Where memory is refused nothing is written; it is refused only where room was missing.
+/// Appends a byte. An error comes only where `out` had no room left and memory was refused; then nothing is written.
 pub fn write_byte(out: &mut Vec<u8>, byte: u8) -> Result<(), AllocError>
     ensures written { OnOk result (out.new.items ≡ out.old.items ++ byte ∷ []) }
     ensures refused { OnErr result (out.new.items ≡ out.old.items) }
@@ -16,7 +16,8 @@ pub fn write_byte(out: &mut Vec<u8>, byte: u8) -> Result<(), AllocError>
     Ok(())
 }
 
-/// Appends the bytes. Where memory is refused nothing is written; it is refused only where room was missing.
+/// Appends the bytes. An error comes only where `out` had too little room left and memory was refused; then nothing is
+/// written.
 pub fn write_bytes(out: &mut Vec<u8>, bytes: &[u8]) -> Result<(), AllocError>
     ensures written { OnOk result (out.new.items ≡ out.old.items ++ bytes.now) }
     ensures refused { OnErr result (out.new.items ≡ out.old.items) }
@@ -26,8 +27,7 @@ pub fn write_bytes(out: &mut Vec<u8>, bytes: &[u8]) -> Result<(), AllocError>
     out.extend_from_slice(bytes)
 }
 
-/// Appends a number's four bytes, the highest first. Where memory is refused nothing is written; it is refused only
-/// where room was missing.
+/// Appends a number's four bytes, the highest first. An error is that of `write_bytes`.
 pub fn write_u32(out: &mut Vec<u8>, number: u32) -> Result<(), AllocError>
     ensures written { OnOk result (out.new.items ≡ out.old.items ++ to_be_bytes w32 number) }
     ensures refused { OnErr result (out.new.items ≡ out.old.items) }
@@ -38,8 +38,7 @@ pub fn write_u32(out: &mut Vec<u8>, number: u32) -> Result<(), AllocError>
     write_bytes(out, &four)
 }
 
-/// Appends a number's eight bytes, the highest first. Where memory is refused nothing is written; it is refused only
-/// where room was missing.
+/// Appends a number's eight bytes, the highest first. An error is that of `write_bytes`.
 pub fn write_u64(out: &mut Vec<u8>, number: u64) -> Result<(), AllocError>
     ensures written { OnOk result (out.new.items ≡ out.old.items ++ to_be_bytes w64 number) }
     ensures refused { OnErr result (out.new.items ≡ out.old.items) }
@@ -50,8 +49,7 @@ pub fn write_u64(out: &mut Vec<u8>, number: u64) -> Result<(), AllocError>
     write_bytes(out, &eight)
 }
 
-/// Appends a number's eight bytes in two's complement, the highest first. Where memory is refused nothing is written;
-/// it is refused only where room was missing.
+/// Appends a number's eight bytes in two's complement, the highest first. An error is that of `write_bytes`.
 pub fn write_i64(out: &mut Vec<u8>, number: i64) -> Result<(), AllocError>
     ensures written { OnOk result (out.new.items ≡ out.old.items ++ signed w64 number) }
     ensures refused { OnErr result (out.new.items ≡ out.old.items) }

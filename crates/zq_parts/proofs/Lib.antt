@@ -1,0 +1,4 @@
+pub mod Again
+pub mod Counters
+pub mod Entries
+pub mod Written
