@@ -22,7 +22,7 @@ pub fn draw_delay<R: Rng>(draws: &mut R) -> i128
     i128::from(draws.next_u32())
 }
 
-// `member:` and the last eight decimal digits of a number.
+/// `member:` and the last eight decimal digits of a number.
 fn member_of(number: u32) -> [u8; LENGTH] {
     let mut text = *b"member:00000000";
     let mut rest = number;

@@ -1,4 +1,4 @@
--- What the map's entries say of the members' scores.
+-- What the map's entries say of what is seen of the members.
 use Rattle.std.specs.Prelude.{Bool, ◌<◌, get_or, is_some, length, position, List, Vec, None, Option, Some, [], false, map, option_map, slice_get, true, zip, ℕ, ◌∷◌, ◌≡◌, cond, nat_eq}
 use Rattle.std.proofs.Common.{ap, arith, refl, sym, true≢false, ◌∙◌}
 use Rattle.std.proofs.lemmas.List.{length-map}
@@ -9,25 +9,23 @@ use Rattle.std.proofs.lemmas.Cmp.{nat_list_cmp_total, nat_list_eq_equiv, on_equi
 use Rattle.std.proofs.lemmas.Map.Text.{is_eq-slice_cmp}
 use Rattle.std.specs.Cmp.{IsEquivalence}
 use Rattle.std.specs.Cmp.Lexicographic.{pointwise, same_text, slice_cmp}
-use Rattle.std.specs.FinMap.{IsAntisymmetric, from_entries, get, get-from_entries, get-insert, get-remove, insert, nat_cmp-IsAntisymmetric, remove, same_map, slice_cmp-IsAntisymmetric}
+use Rattle.std.specs.FinMap.{FinMap, IsAntisymmetric, from_entries, get, get-from_entries, get-insert, get-remove, insert, nat_cmp-IsAntisymmetric, remove, same_map, slice_cmp-IsAntisymmetric}
 use Rattle.std.specs.FinMap.Entries.{find}
 use Rattle.std.specs.Map.{KeepsOthers, keys_of, lookup, values_of}
 use Rattle.std.specs.Ordering.{eq_by_cmp, nat_cmp}
 use Rattle.indexmap.proofs.CallerLemmas.{updates-with_value_at}
 use Rattle.indexmap.specs.IndexMap.{IndexMap, IsUnique, Updates, set_value_at, with_value_at}
-use Rattle.zq_posheap.specs.Order.{texts_of}
-use Rattle.zq_posheap.specs.Scores.{Scores}
-use Rattle.zq_posheap.specs.declared.heap.Place.{Place}
+use Rattle.zq_posheap.specs.Order.{same_key, texts_of}
 
 -- members are told apart by their bytes
 pub bytes_antisymmetric : IsAntisymmetric (slice_cmp nat_cmp)
 bytes_antisymmetric = slice_cmp-IsAntisymmetric nat_cmp-IsAntisymmetric
 
-option_map-cond : {X Y : Type 0} (f : X → Y) (b : Bool) (x y : Option X) → option_map f (cond b x y) ≡ cond b (option_map f x) (option_map f y)
+pub option_map-cond : {X Y : Type 0} (f : X → Y) (b : Bool) (x y : Option X) → option_map f (cond b x y) ≡ cond b (option_map f x) (option_map f y)
 option_map-cond f true x y = refl
 option_map-cond f false x y = refl
 
-none_of : {X : Type 0} (o : Option X) → false ≡ is_some o → o ≡ None
+pub none_of : {X : Type 0} (o : Option X) → false ≡ is_some o → o ≡ None
 none_of None e = refl
 none_of (Some x) e = absurd (true≢false (sym e))
 
@@ -40,28 +38,33 @@ module _ {Z : Type 0} where
   abbrev pub has_text : List ℕ → Vec ℕ Z → Bool
   has_text q key = pointwise nat_eq q key.items
 
-  -- keys are equal where their bytes are
-  abbrev pub same_key : Vec ℕ Z → Vec ℕ Z → Bool
-  same_key x y = pointwise nat_eq x.items y.items
-
-  same_key_laws : IsEquivalence same_key
+  pub same_key_laws : IsEquivalence (same_key {Z = Z})
   same_key_laws = on_equiv (λ key. key.items) nat_list_eq_equiv
 
-  -- the scores of the entries
-  abbrev pub scores_in : List (Vec ℕ Z × Place) → Scores
-  scores_in es = from_entries (zip (texts_of (keys_of es)) (map (λ w. w.score) (values_of es)))
+  -- the entry that a search by a member's bytes found
+  pub found_key : {W : Type 0} (es : List (Vec ℕ Z × W)) (q : List ℕ) (i : ℕ) → Some i ≡ position (has_text q) (keys_of es) →
+      (e : Vec ℕ Z × W) × (slice_get es i ≡ Some e) × (q ≡ e.0.items)
+  found_key es q i is =
+      let e = there_is es i (omega (arith, found_within (has_text q) (keys_of es) i is, length-map es (λ x. x.0))) in
+      let passes = (position-Some (has_text q) (keys_of es) i e.0.0 (sym is)).1 in
+      let key : get_or (keys_of es) i e.0.0 ≡ e.0.0 = get_or_from_slice_get (keys_of es) i e.0.0 e.0.0 (slice_get-map (λ x. x.0) es i ∙ ap (option_map (λ x. x.0)) e.1) in
+      (e.0, e.1, same_text q e.0.0.items (sym passes ∙ ap (has_text q) key))
 
-  find-scores : (es : List (Vec ℕ Z × Place)) (q : List ℕ) →
-      find (slice_cmp nat_cmp) q (zip (texts_of (keys_of es)) (map (λ w. w.score) (values_of es))) ≡ option_map (λ w. w.score) (lookup (has_text q) es)
-  find-scores [] q = refl
-  find-scores (e ∷ es) q = (λ k. cond (is_eq-slice_cmp q e.0.items k) (Some e.1.score) (find-scores es q k))
-      ∙ sym (option_map-cond (λ w. w.score) (has_text q e.0) (Some e.1) (lookup (has_text q) es))
+module _ {Z W Y : Type 0} (f : W → Y) where
+  -- what `f` sees of each member
+  abbrev pub seen_in : List (Vec ℕ Z × W) → FinMap (slice_cmp nat_cmp) Y
+  seen_in es = from_entries (zip (texts_of (keys_of es)) (map f (values_of es)))
 
-  -- a member's score is that of its entry
-  pub get-scores : (es : List (Vec ℕ Z × Place)) (q : List ℕ) → get (scores_in es) q ≡ option_map (λ w. w.score) (lookup (has_text q) es)
-  get-scores es q = get-from_entries nat_list_cmp_total _ q ∙ find-scores es q
+  find-seen : (es : List (Vec ℕ Z × W)) (q : List ℕ) → find (slice_cmp nat_cmp) q (zip (texts_of (keys_of es)) (map f (values_of es))) ≡ option_map f (lookup (has_text q) es)
+  find-seen [] q = refl
+  find-seen (e ∷ es) q = (λ k. cond (is_eq-slice_cmp q e.0.items k) (Some (f e.1)) (find-seen es q k))
+      ∙ sym (option_map-cond f (has_text q e.0) (Some e.1) (lookup (has_text q) es))
 
-  module _ {S : Type 0} (m n : IndexMap (Vec ℕ Z) Place S) (key : Vec ℕ Z) (w : Option Place) (updates : Updates same_key m n key w) where
+  -- what is seen of a member is seen of its entry
+  pub get-seen : (es : List (Vec ℕ Z × W)) (q : List ℕ) → get (seen_in es) q ≡ option_map f (lookup (has_text q) es)
+  get-seen es q = get-from_entries nat_list_cmp_total _ q ∙ find-seen es q
+
+  module _ {S : Type 0} (m n : IndexMap (Vec ℕ Z) W S) (key : Vec ℕ Z) (w : Option W) (updates : Updates same_key m n key w) where
     updated_by : (q : List ℕ) (b : Bool) → b ≡ pointwise nat_eq q key.items → lookup (has_text q) n.entries ≡ cond b w (lookup (has_text q) m.entries)
     unfolding KeepsOthers
     updated_by q true e = ap (λ t. lookup (has_text t) n.entries) (same_text q key.items e) ∙ updates.1
@@ -69,51 +72,39 @@ module _ {Z : Type 0} where
         (λ x y h. ap (λ t. pointwise nat_eq t y.items) (same_text q x.items (sym h)))
         (λ x h. ap (pointwise nat_eq q) (sym (same_text key.items x.items (sym h))) ∙ sym e)
 
-    get_updated : (q : List ℕ) → get (scores_in n.entries) q ≡ cond (eq_by_cmp (slice_cmp nat_cmp) q key.items) (option_map (λ v. v.score) w) (get (scores_in m.entries) q)
+    get_updated : (q : List ℕ) → get (seen_in n.entries) q ≡ cond (eq_by_cmp (slice_cmp nat_cmp) q key.items) (option_map f w) (get (seen_in m.entries) q)
     get_updated q =
         let same = is_eq-slice_cmp q key.items in
-        get-scores n.entries q ∙ ap (option_map (λ v. v.score)) (updated_by q _ same)
-        ∙ option_map-cond (λ v. v.score) (eq_by_cmp (slice_cmp nat_cmp) q key.items) w (lookup (has_text q) m.entries)
-        ∙ ap (cond (eq_by_cmp (slice_cmp nat_cmp) q key.items) (option_map (λ v. v.score) w)) (sym (get-scores m.entries q))
+        get-seen n.entries q ∙ ap (option_map f) (updated_by q _ same)
+        ∙ option_map-cond f (eq_by_cmp (slice_cmp nat_cmp) q key.items) w (lookup (has_text q) m.entries)
+        ∙ ap (cond (eq_by_cmp (slice_cmp nat_cmp) q key.items) (option_map f w)) (sym (get-seen m.entries q))
 
-  module _ {S : Type 0} (m n : IndexMap (Vec ℕ Z) Place S) (key : Vec ℕ Z) where
-    -- a key taken out of the map takes its member out of the scores
-    pub removed : Updates same_key m n key None → scores_in n.entries ≡ remove (scores_in m.entries) key.items
+  module _ {S : Type 0} (m n : IndexMap (Vec ℕ Z) W S) (key : Vec ℕ Z) where
+    -- a key taken out of the map takes its member out of what is seen
+    pub removed : Updates same_key m n key None → seen_in n.entries ≡ remove (seen_in m.entries) key.items
     removed updates = same_map nat_list_cmp_total bytes_antisymmetric _ _ (λ q. get_updated m n key None updates q ∙ sym (get-remove nat_list_cmp_total _ key.items q))
 
-    -- a key's new value is its member's new score
-    pub inserted : (w : Place) → Updates same_key m n key (Some w) → scores_in n.entries ≡ insert (scores_in m.entries) key.items w.score
-    inserted w updates = same_map nat_list_cmp_total bytes_antisymmetric _ _ (λ q. get_updated m n key (Some w) updates q ∙ sym (get-insert nat_list_cmp_total _ key.items w.score q))
+    -- a key's new value is what is seen of its member
+    pub inserted : (w : W) → Updates same_key m n key (Some w) → seen_in n.entries ≡ insert (seen_in m.entries) key.items (f w)
+    inserted w updates = same_map nat_list_cmp_total bytes_antisymmetric _ _ (λ q. get_updated m n key (Some w) updates q ∙ sym (get-insert nat_list_cmp_total _ key.items (f w) q))
 
-  -- a write at an index gives the member there a score
-  pub scored_at_index : {S : Type 0} (m n : IndexMap (Vec ℕ Z) Place S) (i : ℕ) (key : Vec ℕ Z) (v w : Place) → IsUnique same_key m →
-      slice_get m.entries i ≡ Some (key, v) → n.entries ≡ set_value_at m.entries i w → scores_in n.entries ≡ insert (scores_in m.entries) key.items w.score
-  scored_at_index m n i key v w unique at is = ap scores_in is ∙ inserted m (with_value_at m i w) key w (updates-with_value_at m i w same_key_laws unique key v at)
+  -- a write at an index is a write of the member there
+  pub seen_at_index : {S : Type 0} (m n : IndexMap (Vec ℕ Z) W S) (i : ℕ) (key : Vec ℕ Z) (v w : W) → IsUnique same_key m →
+      slice_get m.entries i ≡ Some (key, v) → n.entries ≡ set_value_at m.entries i w → seen_in n.entries ≡ insert (seen_in m.entries) key.items (f w)
+  seen_at_index m n i key v w unique at is = ap seen_in is ∙ inserted m (with_value_at m i w) key w (updates-with_value_at m i w same_key_laws unique key v at)
 
-  -- whether a member has a score
-  pub is_scored : (es : List (Vec ℕ Z × Place)) (q : List ℕ) → is_some (get (scores_in es) q) ≡ is_some (lookup (has_text q) es)
-  is_scored es q = ap is_some (get-scores es q) ∙ is_some-map (λ w. w.score) (lookup (has_text q) es)
+  -- whether a member is seen
+  pub is_seen : (es : List (Vec ℕ Z × W)) (q : List ℕ) → is_some (get (seen_in es) q) ≡ is_some (lookup (has_text q) es)
+  is_seen es q = ap is_some (get-seen es q) ∙ is_some-map f (lookup (has_text q) es)
 
-  pub unscored : (es : List (Vec ℕ Z × Place)) (q : List ℕ) → false ≡ is_some (lookup (has_text q) es) → get (scores_in es) q ≡ None
-  unscored es q none = none_of (get (scores_in es) q) (none ∙ sym (is_scored es q))
+  pub no_entry : (es : List (Vec ℕ Z × W)) (q : List ℕ) → get (seen_in es) q ≡ None → lookup (has_text q) es ≡ None
+  no_entry es q none = none_of (lookup (has_text q) es) (ap is_some (sym none) ∙ is_seen es q)
 
-  pub no_entry : (es : List (Vec ℕ Z × Place)) (q : List ℕ) → get (scores_in es) q ≡ None → lookup (has_text q) es ≡ None
-  no_entry es q none = none_of (lookup (has_text q) es) (ap is_some (sym none) ∙ is_scored es q)
-
-  pub score_is : (es : List (Vec ℕ Z × Place)) (q : List ℕ) (w : Place) → Some w ≡ lookup (has_text q) es → get (scores_in es) q ≡ Some w.score
-  score_is es q w is = get-scores es q ∙ ap (option_map (λ v. v.score)) (sym is)
-
-  -- the entry that a search by a member's bytes found
-  pub found_key : (es : List (Vec ℕ Z × Place)) (q : List ℕ) (i : ℕ) → Some i ≡ position (has_text q) (keys_of es) →
-      (e : Vec ℕ Z × Place) × (slice_get es i ≡ Some e) × (q ≡ e.0.items)
-  found_key es q i is =
-      let e = there_is es i (omega (arith, found_within (has_text q) (keys_of es) i is, length-map es (λ x. x.0))) in
-      let passes = (position-Some (has_text q) (keys_of es) i e.0.0 (sym is)).1 in
-      let key : get_or (keys_of es) i e.0.0 ≡ e.0.0 = get_or_from_slice_get (keys_of es) i e.0.0 e.0.0 (slice_get-map (λ x. x.0) es i ∙ ap (option_map (λ x. x.0)) e.1) in
-      (e.0, e.1, same_text q e.0.0.items (sym passes ∙ ap (has_text q) key))
+  pub seen_is : (es : List (Vec ℕ Z × W)) (q : List ℕ) (w : W) → Some w ≡ lookup (has_text q) es → get (seen_in es) q ≡ Some (f w)
+  seen_is es q w is = get-seen es q ∙ ap (option_map f) (sym is)
 
 -- a member that is not there is not taken out
-pub remove_absent : (m : Scores) (k : List ℕ) → get m k ≡ None → m ≡ remove m k
+pub remove_absent : {X : Type 0} (m : FinMap (slice_cmp nat_cmp) X) (k : List ℕ) → get m k ≡ None → m ≡ remove m k
 remove_absent m k none = same_map nat_list_cmp_total bytes_antisymmetric m (remove m k)
     (λ q. by q (eq_by_cmp (slice_cmp nat_cmp) q k) refl ∙ sym (get-remove nat_list_cmp_total m k q))
   where

@@ -7,9 +7,14 @@ pub mod Moving
 pub mod Entries
 pub mod Dropped
 pub mod Removal
+pub mod Told
 pub mod DropLast
-pub mod InRange
+pub mod Results
+pub mod Places
+pub mod ScoresOf
 pub mod Tops
+pub mod Heads
+pub mod InRange
 pub mod Listings
 pub mod Listed
-pub mod Heads
+pub mod Firsts

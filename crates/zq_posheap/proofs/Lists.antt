@@ -1,6 +1,6 @@
 -- Look-ups in a list with an element written.
 
-use Rattle.std.proofs.lemmas.Option.{get_or_from_slice_get, slice_get-get_or, slice_get-map, unwrap_or-slice_get}
+use Rattle.std.proofs.lemmas.Option.{get_or_from_slice_get, none-some, same_Some, slice_get-get_or, slice_get-map, unwrap_or-slice_get}
 use Rattle.indexmap.specs.Layout.{set_value_at}
 use Rattle.std.specs.Map.{values_of}
 use Rattle.std.proofs.Common.{ap, ◌∙◌, arith, sym}
@@ -93,3 +93,16 @@ last_is xs len r x some long gives is = slice_get-get_or xs (length xs - 1) x (o
   where
     long' : length xs - 1 ≡ len - 1
     long' = omega arith
+
+-- what an option holds, behind what is seen of it
+pub option_map_some : {X Y : Type 0} (f : X → Y) (o : Option X) (y : Y) → option_map f o ≡ Some y → (x : X) × (o ≡ Some x) × (f x ≡ y)
+option_map_some f None y e = absurd (none-some y e)
+option_map_some f (Some x) y e = (x, refl, same_Some (f x) y e)
+
+-- what stands at an index, seen through a function
+pub mapped_at : {X Y : Type 0} (f : X → Y) (xs : List X) (i : ℕ) (x : X) → slice_get xs i ≡ Some x → slice_get (map f xs) i ≡ Some (f x)
+mapped_at f xs i x at = slice_get-map f xs i ∙ ap (option_map f) at
+
+-- and what is behind what is seen
+pub behind : {X Y : Type 0} (f : X → Y) (xs : List X) (i : ℕ) (y : Y) → slice_get (map f xs) i ≡ Some y → (x : X) × (slice_get xs i ≡ Some x) × (f x ≡ y)
+behind f xs i y at = option_map_some f (slice_get xs i) y (sym (slice_get-map f xs i) ∙ at)

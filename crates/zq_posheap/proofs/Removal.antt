@@ -1,5 +1,5 @@
 -- The map's entries without one, in whose place the last came.
-use Rattle.std.specs.Prelude.{IfSome, List, Option, Some, Vec, [], get_or, length, option_map, slice_get, swap_remove, ℕ, ◌+◌, ◌-◌, ◌<◌, ◌≡◌, ◌≢◌}
+use Rattle.std.specs.Prelude.{IfSome, List, Option, Some, Vec, [], get_or, length, map, option_map, slice_get, swap_remove, ℕ, ◌+◌, ◌-◌, ◌<◌, ◌≡◌, ◌≢◌}
 use Rattle.std.proofs.Common.{ap, arith, subst, sym, ◌∙◌}
 use Rattle.std.proofs.lemmas.List.{length-map, length-set, length-take-le}
 use Rattle.std.proofs.lemmas.Option.{slice_get-map}
@@ -30,14 +30,20 @@ module _ {Z W : Type 0} (es es' : List (Vec ℕ Z × W)) (i n : ℕ) (r : Option
       let put = length-set es i (get_or es (length es - 1) gone.0) in
       ap length is ∙ length-take-le (length es - 1) _ (omega (arith, put)) ∙ (let last : length es - 1 ≡ n = omega arith in last)
 
-  pub values_left : length (values_of es') ≡ n
-  values_left = length-map es' (λ e. e.1) ∙ one_less
+  module _ {Y : Type 0} (f : W → Y) where
+    pub seen_left : length (map f (values_of es')) ≡ n
+    seen_left = length-map (values_of es') f ∙ length-map es' (λ e. e.1) ∙ one_less
 
-  pub other_values : (j : ℕ) → j ≢ i → j < n → slice_get (values_of es') j ≡ slice_get (values_of es) j
-  other_values j apart inside = slice_get-map (λ e. e.1) es' j ∙ ap (option_map (λ e. e.1)) (others j apart inside) ∙ sym (slice_get-map (λ e. e.1) es j)
+    same_seen : (j k : ℕ) → slice_get es' j ≡ slice_get es k → slice_get (map f (values_of es')) j ≡ slice_get (map f (values_of es)) k
+    same_seen j k same =
+        slice_get-map f (values_of es') j ∙ ap (option_map f) (slice_get-map (λ e. e.1) es' j ∙ ap (option_map (λ e. e.1)) same ∙ sym (slice_get-map (λ e. e.1) es k))
+        ∙ sym (slice_get-map f (values_of es) k)
 
-  pub value_here : i < n → slice_get (values_of es') i ≡ slice_get (values_of es) n
-  value_here inside = slice_get-map (λ e. e.1) es' i ∙ ap (option_map (λ e. e.1)) (here inside) ∙ sym (slice_get-map (λ e. e.1) es n)
+    pub other_seen : (j : ℕ) → j ≢ i → j < n → slice_get (map f (values_of es')) j ≡ slice_get (map f (values_of es)) j
+    other_seen j apart inside = same_seen j j (others j apart inside)
+
+    pub seen_here : i < n → slice_get (map f (values_of es')) i ≡ slice_get (map f (values_of es)) n
+    seen_here inside = same_seen i n (here inside)
 
   text_map : (fs : List (Vec ℕ Z × W)) (j : ℕ) → slice_get (texts_of (keys_of fs)) j ≡ option_map (λ key. key.items) (option_map (λ e. e.0) (slice_get fs j))
   text_map fs j = slice_get-map (λ key. key.items) (keys_of fs) j ∙ ap (option_map (λ key. key.items)) (slice_get-map (λ e. e.0) fs j)

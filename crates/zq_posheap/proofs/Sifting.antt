@@ -76,3 +76,9 @@ module _ {X : Type 0} (R : X → X → Ordering) where
       (r ≡ false → IsGreaterChild R xs j (c + 1) n) × (r ≡ true → IsGreaterChild R xs j c n)
   first_child_is o xs j c n true e compares = (λ f. absurd (true≢false f), λ _. let same : c + 0 ≡ c = omega arith in rw same at (either_child R o xs j c n true e compares).1)
   first_child_is o xs j c n false e compares = (λ _. (either_child R o xs j c n false e compares).1, λ f. absurd (true≢false (sym f)))
+
+  -- what no child goes before is not below its children
+  pub rests : IsTotalOrder R → (xs : List X) (j c n : ℕ) → ((d : X) → lt_by_cmp R (get_or xs j d) (get_or xs c d) ≡ false) → IsGreaterChild R xs j c n →
+      IsNotBelowChildren (lt_by_cmp R) xs j j n
+  unfolding IsGreaterChild
+  rests o xs j c n stops best = λ k d from to within. (ranks o).chain _ _ _ (stops d) (best k d from to within)

@@ -2,8 +2,8 @@
 use Rattle.std.specs.Prelude.{Some, ◌≡◌, ◌≢◌}
 use Rattle.std.specs.FinMap.{get}
 use Rattle.std.specs.declared.cmp.Ordering.TheVariants.{Less}
+use Rattle.zq_posheap.specs.Members.{Scores}
 use Rattle.zq_posheap.specs.Order.{Scored, scored_cmp}
-use Rattle.zq_posheap.specs.Scores.{Scores}
 
 -- the map has the pair, and no other of its pairs goes before it
 pub record IsFirst (scores : Scores) (first : Scored) : Type 0 where

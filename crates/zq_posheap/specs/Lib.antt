@@ -1,7 +1,8 @@
-pub mod Places
+pub mod Links
 pub mod Order
 pub mod Moves
-pub mod Scores
+pub mod Members
+pub mod Whole
 pub mod First
 pub mod Listing
 pub mod InOrder

@@ -1,6 +1,6 @@
 -- The order of members with scores, and what the heap keeps of it.
-use Rattle.std.specs.Prelude.{List, Vec, ℕ, ℤ, [], map, slice_index_or}
-use Rattle.std.specs.Cmp.Lexicographic.{slice_cmp}
+use Rattle.std.specs.Prelude.{Bool, List, Vec, nat_eq, ℕ, ℤ, [], map, slice_index_or}
+use Rattle.std.specs.Cmp.Lexicographic.{pointwise, slice_cmp}
 use Rattle.std.specs.Ordering.{int_cmp, nat_cmp, on, then_cmp}
 use Rattle.std.specs.declared.cmp.Ordering.{Ordering}
 use Rattle.zq_posheap.specs.declared.heap.Slot.{Slot}
@@ -20,6 +20,10 @@ turned_cmp x y = scored_cmp y x
 -- the bytes of each key
 abbrev pub texts_of : {Z : Type 0} → List (Vec ℕ Z) → List (List ℕ)
 texts_of keys = map (λ key. key.items) keys
+
+-- keys are equal where their bytes are
+abbrev pub same_key : {Z : Type 0} → Vec ℕ Z → Vec ℕ Z → Bool
+same_key x y = pointwise nat_eq x.items y.items
 
 -- the member at a place of the heap, with its score
 abbrev pub scored_at : List (List ℕ) → Slot → Scored

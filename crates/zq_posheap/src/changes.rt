@@ -1,85 +1,112 @@
-//! What changes the members of a heap, or their scores.
-ghost use Rattle.std.specs.Prelude.{Some, None, OnErr, OnOk, slice_set, [], is_some, length, option_map, slice_get, slice_index_or, ◌+◌, ◌-◌, ◌<◌, ◌≡◌, ◌≢◌, ℕ};
-ghost use Rattle.std.specs.Bool.{OnFalse, OnTrue};
+//! What changes the members of a heap, their scores or their values.
+ghost use Rattle.std.specs.Prelude.{None, OnOk, OnErr, Some, length, option_map, slice_get, slice_index_or, ◌+◌, ◌-◌, ◌<◌, ◌≡◌, ◌≢◌, ◌≤◌, ℕ};
 ghost use Rattle.std.specs.FinMap.{get, insert, remove};
-ghost use Rattle.indexmap.specs.IndexMap.{index_map_len, keys, set_value_at, values};
-ghost use Rattle.zq_posheap.specs.Moves.{IsLinkedHeap, OnlyMoves, queue_of};
-ghost use Rattle.zq_posheap.specs.Order.{Scored, texts_of};
-ghost use Rattle.zq_posheap.specs.Scores.{AreInRange, IsWhole, scores_map};
+ghost use Rattle.indexmap.specs.IndexMap.{IsUnique, index_map_len, keys, values, with_value_at};
+ghost use Rattle.zq_posheap.specs.Members.{AreInRange};
+ghost use Rattle.zq_posheap.specs.Moves.{IsLinkedHeap, OnlyMoves, member_of, queue_of, room_of, shown, shown_of};
+ghost use Rattle.zq_posheap.specs.Order.{Scored, same_key};
+ghost use Rattle.zq_posheap.specs.Whole.{IsWhole, entries_map};
 
-use crate::heap::{Heap, Place, Slot};
+use crate::heap::{Heap, Held, Slot};
+use crate::seeded::Seeded;
 use indexmap::IndexMap;
 use std::alloc::AllocError;
-use std::hash::BuildHasher;
+use std::mem::replace;
 
-/// Notes another score for the member at an index.
-fn set_score<S: BuildHasher + Drop>(
-    places: &mut IndexMap<Vec<u8>, Place, S>,
+/// Notes another score and value for the member at an index, and answers the value that it had.
+fn exchange<V>(
+    members: &mut IndexMap<Vec<u8>, Held<V>, Seeded>,
     index: usize,
     score: i128,
-)
-    requires { index < index_map_len places.old }
-    ensures noted { (w : Place) → slice_get (values places.old) index ≡ Some w →
-        places.new.entries ≡ set_value_at places.old.entries index (record { score = score; position = w.position }) }
+    value: V,
+) -> V
+    requires { index < index_map_len members.old }
+    ensures given { (w : Held V) → slice_get (values members.old) index ≡ Some w → result ≡ w.value }
+    ensures noted { (w : Held V) → slice_get (values members.old) index ≡ Some w →
+        members.new ≡ with_value_at members.old index (record { score = score; position = w.position; value = value }) }
+    ensures unique { IsUnique same_key members.old }
 {
-    places[index].score = score;
+    let (_, held) = members.pair_mut(index);
+    held.score = score;
+    replace(&mut held.value, value)
 }
 
-impl<S: BuildHasher + Drop> Heap<S> {
-    /// Gives a member another score, and answers whether it is there.
-    pub(crate) fn rescore(&mut self, member: &[u8], score: i128) -> bool
-        requires whole { IsWhole self.old }
-        ensures there { result ≡ is_some (get (scores_map self.old) member.now) }
-        ensures scores { OnTrue result (scores_map self.new ≡ insert (scores_map self.old) member.now score) }
-        ensures unchanged { OnFalse result (scores_map self.new ≡ scores_map self.old) }
-        ensures still_whole { IsWhole self.new }
+impl<V: Drop> Heap<V> {
+    /// What is held of the member at an index.
+    pub(crate) fn at(&self, index: usize) -> &Held<V>
+        requires { index < index_map_len self.now.members }
+        ensures there { slice_get (values self.now.members) index ≡ Some result.now }
+        ensures held { get (entries_map self.now) (member_of self.now index) ≡ Some (shown result.now) }
     {
-        match self.places.get_index_of(member) {
-            Some(index) => {
-                let position = self.places[index].position;
-                set_score(&mut self.places, index, score);
-                self.slots[position] = Slot { score, index };
-                self.settle(position);
-                true
-            }
-            None => false,
-        }
+        let (_, held) = self.members.get_index(index).unwrap();
+        held
     }
 
-    /// Adds a member that is not there. Where memory is refused nothing changes.
-    pub(crate) fn add(&mut self, member: &[u8], score: i128) -> Result<(), AllocError>
+    /// Gives the member at an index another score and value, and answers the value that it had.
+    pub(crate) fn replace(&mut self, index: usize, score: i128, value: V) -> V
         requires whole { IsWhole self.old }
-        requires absent { get (scores_map self.old) member.now ≡ None }
-        ensures scores { OnOk result (scores_map self.new ≡ insert (scores_map self.old) member.now score) }
-        ensures unchanged { OnErr result (scores_map self.new ≡ scores_map self.old) }
+        requires within { index < index_map_len self.old.members }
+        ensures given { option_map (λ e. e.1) (get (entries_map self.old) (member_of self.old index)) ≡ Some result }
+        ensures held { entries_map self.new ≡ insert (entries_map self.old) (member_of self.old index) (score, value) }
+        ensures members { keys self.new.members ≡ keys self.old.members }
+        ensures room { room_of self.new ≡ room_of self.old }
+        ensures still_whole { IsWhole self.new }
+    {
+        let position = self.at(index).position;
+        let given = exchange(&mut self.members, index, score, value);
+        self.slots[position] = Slot { score, index };
+        self.settle(position);
+        given
+    }
+
+    /// Makes room for so many members more.
+    pub(crate) fn reserve(&mut self, additional: usize) -> Result<(), AllocError>
+        ensures slots { self.new.slots.items ≡ self.old.slots.items }
+        ensures members { self.new.members.entries ≡ self.old.members.entries }
+        ensures more { room_of self.old ≤ room_of self.new }
+        ensures room { OnOk result (additional ≤ room_of self.new) }
+    {
+        self.slots.reserve(additional)?;
+        self.members.reserve(additional)
+    }
+
+    /// Adds a member that is not there, in room that is there.
+    pub(crate) fn add(&mut self, member: Vec<u8>, score: i128, value: V)
+        requires whole { IsWhole self.old }
+        requires absent { get (entries_map self.old) member.items ≡ None }
+        requires room { 0 < room_of self.old }
+        ensures held { entries_map self.new ≡ insert (entries_map self.old) member.items (score, value) }
+        ensures less_room { room_of self.old ≤ room_of self.new + 1 }
         ensures still_whole { IsWhole self.new }
     {
         let position = self.slots.len();
-        self.slots.reserve(1)?;
-        let member = member.to_vec(*self.slots.allocator())?;
-        self.places.insert(member, Place { score, position })?;
+        let held = Held {
+            score,
+            position,
+            value,
+        };
+        let _ = self.members.insert(member, held);
         self.slots.push_reserved(Slot {
             score,
             index: position,
         });
         self.settle(position);
-        Ok(())
     }
 
-    /// Takes a member out, and answers the score that it had.
-    pub(crate) fn take_out(&mut self, member: &[u8]) -> Option<i128>
+    /// Takes the member at an index out, and answers what was held of it.
+    pub(crate) fn take_out(&mut self, index: usize) -> Held<V>
         requires whole { IsWhole self.old }
-        requires in_range { AreInRange (scores_map self.old) }
-        ensures score { result ≡ get (scores_map self.old) member.now }
-        ensures scores { scores_map self.new ≡ remove (scores_map self.old) member.now }
+        requires within { index < index_map_len self.old.members }
+        ensures given { get (entries_map self.old) (member_of self.old index) ≡ Some (shown result) }
+        ensures held { entries_map self.new ≡ remove (entries_map self.old) (member_of self.old index) }
+        ensures more { room_of self.old ≤ room_of self.new }
         ensures still_whole { IsWhole self.new }
     {
-        let index = self.places.get_index_of(member)?;
-        let Place { score, position } = self.places[index];
+        let position = self.at(index).position;
         self.move_last(position);
-        self.drop_last();
+        let given = self.drop_last().unwrap();
         self.settle(position);
-        Some(score)
+        given
     }
 
     /// Exchanges a place with the last.
@@ -97,24 +124,26 @@ impl<S: BuildHasher + Drop> Heap<S> {
         }
     }
 
-    /// Takes the last place out of the heap, and its member out of the map.
-    fn drop_last(&mut self)
+    /// Takes the last place out of the heap, and its member out of the map; answers what was held of it.
+    fn drop_last(&mut self) -> Option<Held<V>>
         requires linked { IsLinkedHeap self.old }
         requires occupied { 0 < length self.old.slots.items }
         ensures still_linked { IsLinkedHeap self.new }
         ensures len { length self.new.slots.items + 1 ≡ length self.old.slots.items }
         ensures others { (m : ℕ) → (d : Scored) → m < length self.new.slots.items →
             slice_index_or (queue_of self.new) m d ≡ slice_index_or (queue_of self.old) m d }
-        ensures scores { (s : Slot) → slice_get self.old.slots.items (length self.old.slots.items - 1) ≡ Some s →
-            scores_map self.new ≡ remove (scores_map self.old) (slice_index_or (texts_of (keys self.old.places)) s.index []) }
+        ensures given { (s : Slot) → slice_get self.old.slots.items (length self.old.slots.items - 1) ≡ Some s →
+            option_map shown result ≡ slice_get (shown_of self.old) s.index }
+        ensures held { (s : Slot) → slice_get self.old.slots.items (length self.old.slots.items - 1) ≡ Some s →
+            entries_map self.new ≡ remove (entries_map self.old) (member_of self.old s.index) }
+        ensures more { room_of self.old ≤ room_of self.new }
     {
-        let Some(Slot { index, .. }) = self.slots.pop() else {
-            return;
-        };
-        let _gone = self.places.swap_remove_index(index);
-        if index < self.places.len() {
-            let moved = self.places[index].position;
+        let Slot { index, .. } = self.slots.pop()?;
+        let (_, held) = self.members.swap_remove_index(index)?;
+        if index < self.members.len() {
+            let moved = self.members[index].position;
             self.slots[moved].index = index;
         }
+        Some(held)
     }
 }

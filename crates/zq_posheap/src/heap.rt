@@ -1,56 +1,53 @@
-//! The heap and the map under a `PosHeap`, whose places know each other.
-ghost use Rattle.std.specs.Prelude.{IfNone, IfSome, Some, length, slice_get, slice_index_or, slice_set, [], ◌+◌, ◌*◌, ◌<◌, ◌≤◌, ◌≡◌, ◌≢◌, swap};
-ghost use Rattle.indexmap.specs.IndexMap.{index_map_len, keys, values};
+//! The heap and the map under a `PosHeap`, which know each other.
+ghost use Rattle.std.specs.Prelude.{IfNone, IfSome, Some, length, slice_get, slice_index_or, [], ◌+◌, ◌*◌, ◌<◌, ◌≤◌, ◌≡◌, ◌≢◌, swap};
+ghost use Rattle.indexmap.specs.IndexMap.{index_map_len, keys, values, with_value_at};
 ghost use Rattle.std.specs.BinaryHeap.{IsHeap, lt_by_cmp};
 ghost use Rattle.std.specs.BinaryHeap.Sift.{ComparesAt, IsGreaterChild, IsHeapWithHole};
 ghost use Rattle.std.specs.Slice.Heapsort.{IsNotBelowChildren};
 ghost use Rattle.std.specs.FinMap.{empty};
 ghost use Rattle.zq_posheap.specs.First.{IsFirst};
 ghost use Rattle.zq_posheap.specs.Listing.{lent_pair};
-ghost use Rattle.zq_posheap.specs.Scores.{AreInRange, IsWhole, scores_map};
-ghost use Rattle.zq_posheap.specs.Moves.{IsLinkedHeap, OnlyMoves, queue_of};
-ghost use Rattle.zq_posheap.specs.Order.{texts_of, turned_cmp};
+ghost use Rattle.zq_posheap.specs.Members.{AreInRange, scores_of};
+ghost use Rattle.zq_posheap.specs.Moves.{IsLinkedHeap, OnlyMoves, member_of, queue_of};
+ghost use Rattle.zq_posheap.specs.Order.{turned_cmp};
+ghost use Rattle.zq_posheap.specs.Whole.{IsWhole, entries_map};
 
+use crate::seeded::Seeded;
 use indexmap::IndexMap;
 use std::cmp::Ordering;
-use std::hash::BuildHasher;
 
-/// A place of the heap: a score, and the index in the map of the member that has it.
+/// A position of the heap: a score, and the index in the map of the member that has it.
 #[derive(Clone, Copy, Drop)]
 pub(crate) struct Slot {
     pub(crate) score: i128,
     pub(crate) index: usize,
 }
 
-/// What the map keeps of a member: its score, and its place in the heap.
-#[derive(Clone, Copy, Drop)]
-pub(crate) struct Place {
+/// What the map keeps of a member: its score, its position in the heap, and its value.
+#[derive(Drop)]
+pub(crate) struct Held<V> {
     pub(crate) score: i128,
     pub(crate) position: usize,
+    pub(crate) value: V,
 }
 
 /// The heap beside the map.
 #[derive(Drop)]
-pub(crate) struct Heap<S: BuildHasher + Drop> {
+pub(crate) struct Heap<V> {
     pub(crate) slots: Vec<Slot>,
-    pub(crate) places: IndexMap<Vec<u8>, Place, S>,
+    pub(crate) members: IndexMap<Vec<u8>, Held<V>, Seeded>,
 }
 
 /// Notes where a member now stands in the heap.
-fn set_position<S: BuildHasher + Drop>(
-    places: &mut IndexMap<Vec<u8>, Place, S>,
-    index: usize,
-    position: usize,
-)
-    requires { index < index_map_len places.old }
-    ensures members { keys places.new ≡ keys places.old }
-    ensures noted { (w : Place) → slice_get (values places.old) index ≡ Some w →
-        values places.new ≡ slice_set (values places.old) index (record { score = w.score; position = position }) }
+fn set_position<V>(members: &mut IndexMap<Vec<u8>, Held<V>, Seeded>, index: usize, position: usize)
+    requires { index < index_map_len members.old }
+    ensures { (w : Held V) → slice_get (values members.old) index ≡ Some w →
+        members.new ≡ with_value_at members.old index (record w { position = position }) }
 {
-    places[index].position = position;
+    members[index].position = position;
 }
 
-impl<S: BuildHasher + Drop> Heap<S> {
+impl<V> Heap<V> {
     /// Exchanges two places of the heap.
     pub(crate) fn swap(&mut self, a: usize, b: usize)
         requires linked { IsLinkedHeap self.old }
@@ -63,16 +60,16 @@ impl<S: BuildHasher + Drop> Heap<S> {
     {
         let (x, y) = (self.slots[a], self.slots[b]);
         self.slots.swap(a, b);
-        set_position(&mut self.places, x.index, b);
-        set_position(&mut self.places, y.index, a);
+        set_position(&mut self.members, x.index, b);
+        set_position(&mut self.members, y.index, a);
     }
 
     /// The member at an index of the map.
     fn member(&self, index: usize) -> &[u8]
-        requires { index < index_map_len self.now.places }
-        ensures { result.now ≡ slice_index_or (texts_of (keys self.now.places)) index [] }
+        requires { index < index_map_len self.now.members }
+        ensures { result.now ≡ member_of self.now index }
     {
-        match self.places.get_index(index) {
+        match self.members.get_index(index) {
             Some((member, _)) => member.as_slice(),
             None => &[],
         }
@@ -81,12 +78,12 @@ impl<S: BuildHasher + Drop> Heap<S> {
     /// The first score and its member.
     pub(crate) fn first(&self) -> Option<(i128, &[u8])>
         requires whole { IsWhole self.now }
-        requires in_range { AreInRange (scores_map self.now) }
-        ensures none { IfNone result (scores_map self.now ≡ empty) }
-        ensures first { IfSome result (λ pair. IsFirst (scores_map self.now) (lent_pair pair)) }
+        requires in_range { AreInRange (entries_map self.now) }
+        ensures none { IfNone result (entries_map self.now ≡ empty) }
+        ensures first { IfSome result (λ pair. IsFirst (scores_of (entries_map self.now)) (lent_pair pair)) }
     {
         let slot = self.slots.first()?;
-        let (member, _) = self.places.get_index(slot.index)?;
+        let (member, _) = self.members.get_index(slot.index)?;
         Some((slot.score, member.as_slice()))
     }
 
@@ -122,7 +119,7 @@ impl<S: BuildHasher + Drop> Heap<S> {
         }
     }
 
-    /// Moves what is at a place down to where it has no child, and answers where it comes to.
+    /// Moves what is at a place down while a child goes before it, and answers where it comes to.
     fn sink(&mut self, mut place: usize) -> usize
         requires linked { IsLinkedHeap self.old }
         requires within { place < length self.old.slots.items }
@@ -134,6 +131,9 @@ impl<S: BuildHasher + Drop> Heap<S> {
     {
         while place < self.slots.len() / 2 {
             let child = self.first_child(place);
+            if !self.is_before(child, place) {
+                return place;
+            }
             self.swap(place, child);
             place = child;
         }

@@ -2,8 +2,8 @@
 ghost use Rattle.std.specs.Prelude.{Bool, IsPermutation, List, count_by, length, map, ◌≡◌};
 ghost use Rattle.std.specs.FinMap.{entries, len};
 ghost use Rattle.zq_posheap.specs.Listing.{IsListing};
+ghost use Rattle.zq_posheap.specs.Members.{Scores};
 ghost use Rattle.zq_posheap.specs.Order.{Scored};
-ghost use Rattle.zq_posheap.specs.Scores.{Scores};
 
 /// Each list of a map's pairs has the map's entries in some order: it is as long as the map, and a test passes as many
 /// of its pairs as of the entries. So two lists of one map differ in their order alone.

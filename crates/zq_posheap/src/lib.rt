@@ -1,4 +1,5 @@
-//! A priority queue whose members can be found, moved and removed: a map from member to score with a least element.
+//! A priority queue whose members can be found, moved and removed: a map from member to score and value, with a least
+//! element.
 //!
 //! A binary heap lies in a vector, and an index map knows where in it each member is. Changing, adding and removing a
 //! member take logarithmic time, the least one is read at once, and none of them hashes more than the member it is
@@ -9,9 +10,14 @@ mod changes;
 mod heap;
 pub mod laws;
 mod pairs;
+mod place;
 mod pos_heap;
+mod readings;
+mod seeded;
 #[cfg(test)]
 mod tests;
 
 pub use pairs::Pairs;
+pub use place::Place;
 pub use pos_heap::PosHeap;
+pub use seeded::Seeded;

@@ -1,48 +1,51 @@
-//! The pairs of a `PosHeap`, one after another.
+//! What a `PosHeap` has, one member after another.
 ghost use Rattle.std.specs.Prelude.{map, ◌≡◌};
 ghost use Rattle.std.specs.Iterator.{YieldsFirstBy, item_count};
-ghost use Rattle.zq_posheap.specs.Listing.{AllInRange, entry_pair, lent_pair};
+ghost use Rattle.zq_posheap.specs.Listing.{AllInRange, entry_row, lent_row};
 
-use crate::heap::Place;
+use crate::heap::Held;
 use indexmap::map;
 use std::marker::Model;
 
-/// The scores with their members, in no order. It takes no memory.
+/// The scores with their members and values, in no order. It takes no memory.
 #[derive(Drop)]
-pub struct Pairs<'a> {
-    entries: map::Iter<'a, Vec<u8>, Place>,
+pub struct Pairs<'a, V> {
+    entries: map::Iter<'a, Vec<u8>, Held<V>>,
 }
 
-impl<'a> Model for Pairs<'a> {
-    ghost use Rattle.std.specs.Prelude.{List, map};
-    ghost use Rattle.zq_posheap.specs.Listing.{AllInRange, entry_pair};
-    ghost use Rattle.zq_posheap.specs.Order.{Scored};
+impl<'a, V> Model for Pairs<'a, V> {
+    ghost use Rattle.std.specs.Prelude.{List, map, ℕ, ℤ};
+    ghost use Rattle.std.specs.Coded.{coded×, coded_list, coded_ℕ, coded_ℤ};
 
-    ghost Value = { List Scored };
+    ghost Value = { List ((ℤ × V) × List ℕ) };
 
-    ghost view = { λ a. map entry_pair a.entries };
+    ghost coded = { coded_list (coded× (coded× coded_ℤ V.code) (coded_list coded_ℕ)) };
 
-    ghost invariant = { λ a. AllInRange (map entry_pair a.entries) };
+    ghost use Rattle.zq_posheap.specs.Listing.{AllInRange, entry_row};
+
+    ghost view = { λ a. map entry_row a.entries };
+
+    ghost invariant = { λ a. AllInRange (map entry_row a.entries) };
 }
 
-impl<'a> Pairs<'a> {
-    pub(crate) fn new(entries: map::Iter<'a, Vec<u8>, Place>) -> Self
-        requires in_range { AllInRange (map entry_pair entries) }
-        ensures { result ≡ map entry_pair entries.entry }
+impl<'a, V> Pairs<'a, V> {
+    pub(crate) fn new(entries: map::Iter<'a, Vec<u8>, Held<V>>) -> Self
+        requires in_range { AllInRange (map entry_row entries) }
+        ensures { result ≡ map entry_row entries.entry }
     {
         Pairs { entries }
     }
 }
 
-impl<'a> Iterator for Pairs<'a> {
-    type Item = (i128, &'a [u8]);
+impl<'a, V> Iterator for Pairs<'a, V> {
+    type Item = ((i128, &'a [u8]), &'a V);
 
-    ghost next_gives = { YieldsFirstBy lent_pair (λ pairs. pairs) };
+    ghost next_gives = { YieldsFirstBy lent_row (λ rows. rows) };
 
-    ghost remaining = { item_count (λ pairs. pairs) };
+    ghost remaining = { item_count (λ rows. rows) };
 
-    fn next(&mut self) -> Option<(i128, &'a [u8])> {
-        let (member, place) = self.entries.next()?;
-        Some((place.score, member.as_slice()))
+    fn next(&mut self) -> Option<((i128, &'a [u8]), &'a V)> {
+        let (member, held) = self.entries.next()?;
+        Some(((held.score, member.as_slice()), &held.value))
     }
 }

@@ -1,147 +1,210 @@
 //! `PosHeap`.
-ghost use Rattle.std.specs.Prelude.{List, option_map, slice_get, IfOk, count_by, IfSome, length, map, IsNone, None, OnErr, OnOk, ◌^◌, ◌<◌, ◌≡◌, ◌↔◌};
-ghost use Rattle.std.specs.Ordering.{is_lt};
-ghost use Rattle.zq_posheap.specs.Order.{Scored, scored_cmp};
-ghost use Rattle.std.specs.FinMap.{empty, entries, get, insert, len as map_len, remove};
+ghost use Rattle.std.specs.Prelude.{List, None, Some, IfErr, IfOk, IfSome, IsNone, IsTrue, OnErr, OnOk, [], is_some, length, option_map, slice_get, ◌+◌, ◌<◌, ◌≤◌, ◌≡◌, ◌↔◌, ℕ};
+ghost use Rattle.std.specs.FinMap.{contains_key, empty, get, insert, len as map_len, remove};
 ghost use Rattle.zq_posheap.specs.First.{IsFirst};
 ghost use Rattle.zq_posheap.specs.InOrder.{ListsInOrder};
-ghost use Rattle.zq_posheap.specs.Listing.{IsListing, lent_pair, pair_of};
-ghost use Rattle.zq_posheap.specs.Scores.{AreInRange};
+ghost use Rattle.zq_posheap.specs.Listing.{lent_pair};
+ghost use Rattle.zq_posheap.specs.Members.{HasPlace, IsPlaceOf, scores_of};
+ghost use Rattle.zq_posheap.specs.Order.{Scored};
 
 use crate::heap::Heap;
-use crate::pairs::Pairs;
+use crate::place::Place;
+use crate::seeded::Seeded;
 use indexmap::IndexMap;
-use std::alloc::{AllocError, Global};
-use std::hash::{BuildHasher, BuildHasherDefault, FoldHasher};
+use std::alloc::{AllocError, AllocFailed, Global};
 use std::marker::Model;
 
-/// Members with scores, of which the first is at hand: the one of the least score, and among equal scores the one
-/// whose bytes come first.
+/// Members with scores and values, of which the first is at hand: the one of the least score, and among equal scores
+/// the one whose bytes come first.
 #[derive(Drop)]
-pub struct PosHeap<S: BuildHasher + Drop = BuildHasherDefault<FoldHasher>> {
-    heap: Heap<S>,
+pub struct PosHeap<V> {
+    pub(crate) heap: Heap<V>,
 }
 
-impl<S: BuildHasher + Drop> Model for PosHeap<S> {
-    ghost use Rattle.std.specs.Prelude.{ℕ, ℤ};
-    ghost use Rattle.std.specs.Cmp.Lexicographic.{slice_cmp};
-    ghost use Rattle.std.specs.Coded.{coded_list, coded_ℕ, coded_ℤ};
-    ghost use Rattle.std.specs.FinMap.{FinMap, code};
-    ghost use Rattle.std.specs.Ordering.{nat_cmp};
+impl<V> Model for PosHeap<V> {
+    ghost use Rattle.zq_posheap.specs.Members.{Members, members_code};
 
-    ghost Value = { FinMap (slice_cmp nat_cmp) ℤ };
+    ghost Value = { Members V };
 
-    ghost coded = { code (coded_list coded_ℕ) coded_ℤ };
+    ghost coded = { members_code V.code };
 
-    ghost use Rattle.zq_posheap.specs.Scores.{AreInRange, IsWhole, scores_map};
+    ghost use Rattle.indexmap.specs.IndexMap.{keys};
+    ghost use Rattle.zq_posheap.specs.Members.{AreInRange};
+    ghost use Rattle.zq_posheap.specs.Moves.{room_of};
+    ghost use Rattle.zq_posheap.specs.Order.{texts_of};
+    ghost use Rattle.zq_posheap.specs.Whole.{IsWhole, entries_map};
 
-    ghost view = { λ a. scores_map a.heap };
+    ghost view = { λ a. record { held = entries_map a.heap; places = texts_of (keys a.heap.members); room = room_of a.heap } };
 
-    ghost invariant = { λ a. IsWhole a.heap × AreInRange (scores_map a.heap) };
+    ghost invariant = { λ a. IsWhole a.heap × AreInRange (entries_map a.heap) };
 }
 
-impl PosHeap<BuildHasherDefault<FoldHasher>> {
-    /// No members. The hasher has a fixed seed: where strangers choose the members, and could choose many of one
-    /// hash, take `with_hasher` and a seed of your own.
+impl<V: Drop> PosHeap<V> {
+    /// No members, hashed from a fixed seed. Where strangers choose the members, take `with_hasher` and a seed that
+    /// they do not know.
     pub fn new(alloc: Global) -> Self
-        ensures { result ≡ empty }
+        ensures { result.held ≡ empty }
     {
-        PosHeap::with_hasher(alloc, BuildHasherDefault::new())
+        PosHeap::with_hasher(alloc, Seeded::new(0))
     }
-}
 
-impl<S: BuildHasher + Drop> PosHeap<S> {
     /// No members, which this hasher will place.
-    pub fn with_hasher(alloc: Global, hasher: S) -> Self
-        ensures { result ≡ empty }
+    pub fn with_hasher(alloc: Global, hasher: Seeded) -> Self
+        ensures { result.held ≡ empty }
     {
         PosHeap {
             heap: Heap {
                 slots: Vec::new(alloc),
-                places: IndexMap::with_hasher(alloc, hasher),
+                members: IndexMap::with_hasher(alloc, hasher),
             },
         }
     }
 
     /// How many members there are.
     pub fn len(&self) -> usize
-        ensures { result ≡ map_len self.now }
+        ensures { result ≡ map_len self.now.held }
     {
-        self.heap.places.len()
+        self.heap.members.len()
     }
 
-    /// The score of a member.
-    pub fn score(&self, member: &[u8]) -> Option<i128>
-        ensures { result ≡ get self.now member.now }
+    /// Whether there are none.
+    pub fn is_empty(&self) -> bool
+        ensures { IsTrue result ↔ (map_len self.now.held ≡ 0) }
     {
-        match self.heap.places.get(member) {
-            Some(place) => Some(place.score),
-            None => None,
-        }
+        self.len() == 0
+    }
+
+    /// The score and the value of a member.
+    pub fn get(&self, member: &[u8]) -> Option<(i128, &V)>
+        ensures { option_map (λ e. (e.0, e.1.now)) result ≡ get self.now.held member.now }
+    {
+        let held = self.heap.members.get(member)?;
+        Some((held.score, &held.value))
     }
 
     /// The first score and its member: the head of `in_order`, at hand with no sort.
     pub fn top(&self) -> Option<(i128, &[u8])>
-        ensures none { IsNone result ↔ (self.now ≡ empty) }
-        ensures first { IfSome result (λ pair. IsFirst self.now (lent_pair pair)) }
-        ensures head { (pairs : List Scored) → ListsInOrder self.now pairs → slice_get pairs 0 ≡ option_map lent_pair result }
+        ensures none { IsNone result ↔ (self.now.held ≡ empty) }
+        ensures first { IfSome result (λ pair. IsFirst (scores_of self.now.held) (lent_pair pair)) }
+        ensures head { (pairs : List Scored) → ListsInOrder (scores_of self.now.held) pairs → slice_get pairs 0 ≡ option_map lent_pair result }
     {
         self.heap.first()
     }
 
-    /// All scores with their members, in no order. It takes no memory.
-    pub fn iter(&self) -> Pairs<'_>
-        ensures lists { IsListing self.now result }
-        ensures fits { length result < 2 ^ 63 }
-        ensures in_range { AreInRange self.now }
+    /// Where a member is, for the calls that follow: the one look-up of a call that reads what is there and changes it.
+    pub fn find(&self, member: &[u8]) -> Option<Place>
+        ensures there { is_some result ≡ contains_key self.now.held member.now }
+        ensures place { IfSome result (IsPlaceOf self.now member.now) }
+        ensures has_place { IfSome result (HasPlace self.now) }
     {
-        Pairs::new(self.heap.places.iter())
+        let index = self.heap.members.get_index_of(member)?;
+        Some(Place { index })
     }
 
-    /// All scores with their members, by score and then by bytes, in memory from `alloc`.
-    pub fn in_order(&self, alloc: Global) -> Result<Vec<(i128, Vec<u8>)>, AllocError>
-        ensures { IfOk result (λ pairs. ListsInOrder self.now (map pair_of pairs.items)) }
+    /// The score and the value of the member at a place.
+    pub fn at(&self, place: Place) -> (i128, &V)
+        requires { HasPlace self.now place }
+        ensures { (member : List ℕ) → IsPlaceOf self.now member place → get self.now.held member ≡ Some (result.0, result.1.now) }
     {
-        let mut pairs = Vec::with_capacity(alloc, self.len())?;
-        for (score, member) in self.iter() {
-            pairs.push((score, member.to_vec(alloc)?))?;
+        let held = self.heap.at(place.index);
+        (held.score, &held.value)
+    }
+
+    /// Gives the member at a place another score and value, and answers the value that it had. Places stay good.
+    pub fn replace_at(&mut self, place: Place, score: i128, value: V) -> V
+        requires { HasPlace self.old place }
+        ensures given { (member : List ℕ) → IsPlaceOf self.old member place → option_map (λ e. e.1) (get self.old.held member) ≡ Some result }
+        ensures held { (member : List ℕ) → IsPlaceOf self.old member place → self.new.held ≡ insert self.old.held member (score, value) }
+        ensures places { self.new.places ≡ self.old.places }
+        ensures room { self.new.room ≡ self.old.room }
+    {
+        self.heap.replace(place.index, score, value)
+    }
+
+    /// Takes the member at a place out, and answers its score and value. No place is good any more.
+    pub fn remove_at(&mut self, place: Place) -> (i128, V)
+        requires { HasPlace self.old place }
+        ensures given { (member : List ℕ) → IsPlaceOf self.old member place → get self.old.held member ≡ Some result }
+        ensures held { (member : List ℕ) → IsPlaceOf self.old member place → self.new.held ≡ remove self.old.held member }
+        ensures room { self.old.room ≤ self.new.room }
+    {
+        let held = self.heap.take_out(place.index);
+        (held.score, held.value)
+    }
+
+    /// Makes room for so many members more, so that as many can be added with no memory but their own bytes.
+    pub fn reserve(&mut self, additional: usize) -> Result<(), AllocError>
+        ensures held { self.new.held ≡ self.old.held }
+        ensures places { self.new.places ≡ self.old.places }
+        ensures more { self.old.room ≤ self.new.room }
+        ensures room { OnOk result (additional ≤ self.new.room) }
+    {
+        self.heap.reserve(additional)
+    }
+
+    /// Adds a member that is not there, in room that was made. It is never refused.
+    pub fn insert_reserved(&mut self, member: Vec<u8>, score: i128, value: V)
+        requires absent { get self.old.held member.items ≡ None }
+        requires room { 0 < self.old.room }
+        ensures held { self.new.held ≡ insert self.old.held member.items (score, value) }
+        ensures less_room { self.old.room ≤ self.new.room + 1 }
+    {
+        self.heap.add(member, score, value);
+    }
+
+    /// Adds a member that is not there, with a copy of its bytes. Where memory is refused nothing changes, and the
+    /// value comes back.
+    pub fn insert(&mut self, member: &[u8], score: i128, value: V) -> Result<(), AllocFailed<V>>
+        requires { get self.old.held member.now ≡ None }
+        ensures done { OnOk result (self.new.held ≡ insert self.old.held member.now (score, value)) }
+        ensures unchanged { OnErr result (self.new.held ≡ self.old.held) }
+        ensures places { OnErr result (self.new.places ≡ self.old.places) }
+        ensures value { IfErr result (λ refused. refused.value ≡ value) }
+    {
+        match self.owned(member) {
+            Ok(member) => {
+                self.heap.add(member, score, value);
+                Ok(())
+            }
+            Err(_) => Err(AllocFailed { value }),
         }
-        pairs.sort_unstable();
-        Ok(pairs)
     }
 
-    /// How many pairs go before this score with these bytes: at a member's own score and bytes, its rank from 0.
-    pub fn count_before(&self, score: i128, member: &[u8]) -> usize
-        ensures { result ≡ count_by (λ e. is_lt (scored_cmp (e.1, e.0) (score, member.now))) (entries self.now) }
+    /// A copy of a member's bytes, with room for one member more.
+    fn owned(&mut self, member: &[u8]) -> Result<Vec<u8>, AllocError>
+        ensures held { self.new.held ≡ self.old.held }
+        ensures places { self.new.places ≡ self.old.places }
+        ensures room { OnOk result (0 < self.new.room) }
+        ensures bytes { IfOk result (λ bytes. bytes.items ≡ member.now) }
     {
-        let mut count = 0;
-        for pair in self.iter() {
-            if pair.cmp(&(score, member)).is_lt() {
-                count += 1;
+        self.heap.reserve(1)?;
+        member.to_vec(*self.heap.slots.allocator())
+    }
+
+    /// Gives a member a score and a value, whether it was there or not, and answers the value that it had. Where memory
+    /// is refused, which is only for a member that was not there, nothing changes, and the value comes back.
+    pub fn set(&mut self, member: &[u8], score: i128, value: V) -> Result<Option<V>, AllocFailed<V>>
+        ensures done { OnOk result (self.new.held ≡ insert self.old.held member.now (score, value)) }
+        ensures given { IfOk result (λ given. given ≡ option_map (λ e. e.1) (get self.old.held member.now)) }
+        ensures unchanged { OnErr result (self.new.held ≡ self.old.held) }
+        ensures absent { OnErr result (get self.old.held member.now ≡ None) }
+        ensures value { IfErr result (λ refused. refused.value ≡ value) }
+    {
+        match self.find(member) {
+            Some(place) => Ok(Some(self.replace_at(place, score, value))),
+            None => {
+                self.insert(member, score, value)?;
+                Ok(None)
             }
         }
-        count
     }
 
-    /// Gives a member a score, whether it had one or not. Where memory is refused, which is only for a member that was
-    /// not there, nothing changes.
-    pub fn set(&mut self, member: &[u8], score: i128) -> Result<(), AllocError>
-        ensures done { OnOk result (self.new ≡ insert self.old member.now score) }
-        ensures unchanged { OnErr result (self.new ≡ self.old) }
-        ensures absent { OnErr result (get self.old member.now ≡ None) }
+    /// Takes a member out, and answers the score and the value that it had.
+    pub fn remove(&mut self, member: &[u8]) -> Option<(i128, V)>
+        ensures given { result ≡ get self.old.held member.now }
+        ensures rest { self.new.held ≡ remove self.old.held member.now }
     {
-        if self.heap.rescore(member, score) {
-            Ok(())
-        } else {
-            self.heap.add(member, score)
-        }
-    }
-
-    /// Takes a member out, and answers the score that it had.
-    pub fn remove(&mut self, member: &[u8]) -> Option<i128>
-        ensures score { result ≡ get self.old member.now }
-        ensures rest { self.new ≡ remove self.old member.now }
-    {
-        self.heap.take_out(member)
+        let place = self.find(member)?;
+        Some(self.remove_at(place))
     }
 }

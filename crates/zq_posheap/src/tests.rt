@@ -1,7 +1,6 @@
-use super::PosHeap;
+use super::{PosHeap, Seeded};
 use rand_core::{Rng, SeedableRng};
 use rand_pcg::Pcg64;
-use std::alloc::{AllocError, Global};
 use std::collections::BTreeMap;
 use std::test::Fail;
 
@@ -18,86 +17,130 @@ fn first(expected: &BTreeMap<Vec<u8>, i128>) -> Option<(i128, &[u8])> {
     best
 }
 
-/// A map's pairs by score and then by bytes.
-fn in_order(
-    alloc: Global,
-    expected: &BTreeMap<Vec<u8>, i128>,
-) -> Result<Vec<(i128, Vec<u8>)>, AllocError> {
-    let mut pairs = Vec::new(alloc);
-    for (member, score) in expected {
-        pairs.push((*score, member.as_slice().to_vec(alloc)?))?;
+/// Whether these are a map's pairs, each after the one before it.
+fn lists_in_order(pairs: &[(i128, &[u8])], expected: &BTreeMap<Vec<u8>, i128>) -> bool {
+    let mut last: Option<(i128, &[u8])> = None;
+    for pair in pairs {
+        if last >= Some(*pair) || expected.get(pair.1) != Some(&pair.0) {
+            return false;
+        }
+        last = Some(*pair);
     }
-    pairs.sort_unstable();
-    Ok(pairs)
+    pairs.len() == expected.len()
 }
 
 #[test]
-fn follows_a_sorted_map(rt: HostRuntime) -> Result<(), Fail> {
+fn follows_an_ordered_map(rt: HostRuntime) -> Result<(), Fail> {
     let mut draws = Pcg64::seed_from_u64(1);
-    let mut heap = PosHeap::new(rt.alloc());
+    let mut heap = PosHeap::with_hasher(rt.alloc(), Seeded::new(7));
     let mut expected: BTreeMap<Vec<u8>, i128> = BTreeMap::new(rt.alloc());
     for step in 0..1000u32 {
         let word = draws.next_u64();
         let bytes = (word & 0x0303_0303).to_le_bytes();
         let member = &bytes[..(word >> 60) as usize % 4];
         if word >> 32 & 3 == 0 {
-            assert_eq!(rt; heap.remove(member), expected.remove(member));
+            assert_eq!(rt;
+                heap.remove(member).map(|held| held.0),
+                expected.remove(member)
+            );
         } else {
             let score = i128::from(word >> 40 & 15) - 8;
-            heap.set(member, score)?;
+            heap.set(member, score, step)?;
             expected.insert(member.to_vec(rt.alloc())?, score)?;
         }
         assert_eq!(rt; heap.len(), expected.len());
-        assert_eq!(rt; heap.score(member), expected.get(member).copied());
+        assert_eq!(rt;
+            heap.get(member).map(|held| held.0),
+            expected.get(member).copied()
+        );
         assert!(rt; heap.top() == first(&expected));
         if step % 100 == 99 {
-            assert!(rt; heap.in_order(rt.alloc())? == in_order(rt.alloc(), &expected)?);
+            assert!(rt; lists_in_order(&heap.in_order(rt.alloc())?, &expected));
         }
     }
     Ok(())
 }
 
-#[test]
-fn equal_scores_go_by_bytes(rt: HostRuntime) -> Result<(), Fail> {
-    let mut heap = PosHeap::new(rt.alloc());
-    heap.set(b"b".as_slice(), 1)?;
-    heap.set(b"ab".as_slice(), 1)?;
-    heap.set(b"c".as_slice(), 0)?;
-    assert_eq!(rt; heap.top(), Some((0, b"c".as_slice())));
-    assert_eq!(rt; heap.remove(b"c".as_slice()), Some(0));
-    assert_eq!(rt; heap.top(), Some((1, b"ab".as_slice())));
-    heap.set(b"".as_slice(), 1)?;
-    assert_eq!(rt; heap.top(), Some((1, b"".as_slice())));
-    Ok(())
+/// A member, its score and its value; how many pairs go before it, how many scores are below its own, and how many are
+/// at most its own, once all are there.
+#[derive(Drop)]
+struct Case {
+    member: &'static [u8],
+    score: i128,
+    value: u32,
+    before: usize,
+    below: usize,
+    at_most: usize,
 }
+
+const CASES: [Case; 5] = [
+    Case {
+        member: b"b",
+        score: 1,
+        value: 10,
+        before: 4,
+        below: 2,
+        at_most: 5,
+    },
+    Case {
+        member: b"ab",
+        score: 1,
+        value: 11,
+        before: 3,
+        below: 2,
+        at_most: 5,
+    },
+    Case {
+        member: b"c",
+        score: 0,
+        value: 12,
+        before: 1,
+        below: 1,
+        at_most: 2,
+    },
+    Case {
+        member: b"",
+        score: 1,
+        value: 13,
+        before: 2,
+        below: 2,
+        at_most: 5,
+    },
+    Case {
+        member: b"d",
+        score: -2,
+        value: 14,
+        before: 0,
+        below: 0,
+        at_most: 1,
+    },
+];
 
 #[test]
 fn counts_what_goes_before(rt: HostRuntime) -> Result<(), Fail> {
     let mut heap = PosHeap::new(rt.alloc());
-    heap.set(b"a".as_slice(), 2)?;
-    heap.set(b"b".as_slice(), 1)?;
-    heap.set(b"c".as_slice(), 2)?;
-    assert_eq!(rt; heap.count_before(2, b"c".as_slice()), 2);
-    assert_eq!(rt; heap.count_before(2, b"".as_slice()), 1);
-    assert_eq!(rt; heap.count_before(1, b"b".as_slice()), 0);
-    Ok(())
-}
-
-#[test]
-fn visits_each_pair_once(rt: HostRuntime) -> Result<(), Fail> {
-    let mut heap = PosHeap::new(rt.alloc());
-    heap.set(b"a".as_slice(), 2)?;
-    heap.set(b"b".as_slice(), -1)?;
-    heap.set(b"c".as_slice(), 2)?;
-    heap.set(b"a".as_slice(), 5)?;
-    heap.remove(b"c".as_slice());
-    let mut pairs = Vec::new(rt.alloc());
-    for pair in heap.iter() {
-        pairs.push(pair)?;
+    assert!(rt; heap.is_empty());
+    heap.reserve(CASES.len())?;
+    for case in &CASES {
+        assert!(rt; heap.set(case.member, 9, 0)?.is_none());
+        assert_eq!(rt; heap.set(case.member, case.score, case.value)?, Some(0));
     }
-    pairs.sort_unstable();
-    assert_eq!(rt; pairs.len(), 2);
-    assert!(rt; pairs[0] == (-1, b"b".as_slice()));
-    assert!(rt; pairs[1] == (5, b"a".as_slice()));
+    for case in &CASES {
+        assert_eq!(rt;
+            heap.get(case.member).map(|held| (held.0, *held.1)),
+            Some((case.score, case.value))
+        );
+        assert_eq!(rt; heap.count_before(case.score, case.member), case.before);
+        assert_eq!(rt; heap.count_below(case.score, false), case.below);
+        assert_eq!(rt; heap.count_below(case.score, true), case.at_most);
+    }
+    let firsts = heap.first(rt.alloc(), 3)?;
+    let expected: [(i128, &[u8]); 3] = [(-2, b"d"), (0, b"c"), (1, b"")];
+    assert!(rt; firsts.as_slice() == expected.as_slice());
+    let mut sum = 0u32;
+    for (_, value) in heap.iter() {
+        sum = sum.wrapping_add(*value);
+    }
+    assert_eq!(rt; sum, 60);
     Ok(())
 }

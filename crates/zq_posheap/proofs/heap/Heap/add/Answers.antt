@@ -1,59 +1,62 @@
 use Rattle.std.proofs.Common.{ap, arith, ◌∙◌}
 use Rattle.std.proofs.lemmas.Int.{to_z-of_z}
 use Rattle.std.proofs.lemmas.List.{length-map, map-append}
-use Rattle.std.proofs.lemmas.Map.Entries.{length-values_of}
-use Rattle.std.proofs.lemmas.Option.{slice_get_within}
-use Rattle.std.specs.FinMap.{get, insert}
+use Rattle.std.specs.FinMap.{insert}
 use mir.Val.{of_z, to_z}
 use Rattle.std.specs.Int.{w128}
-use Rattle.std.specs.Map.{keys_of, values_of}
-use Rattle.std.specs.Prelude.{[], ◌++◌, ◌∷◌}
+use Rattle.std.specs.Map.{keys_of}
+use Rattle.std.specs.Prelude.{[], ◌∷◌}
 use Rattle.indexmap.proofs.CallerLemmas.{insert_entry-new}
 use Rattle.indexmap.specs.IndexMap.{keys}
-use Rattle.zq_posheap.proofs.Entries.{inserted, no_entry, same_key, scores_in}
-use Rattle.zq_posheap.proofs.Linked.{added, at, slot}
-use Rattle.zq_posheap.proofs.Moving.{same_scores}
+use Rattle.zq_posheap.proofs.Entries.{inserted, no_entry}
+use Rattle.zq_posheap.proofs.Linked.{added}
+use Rattle.zq_posheap.proofs.Moving.{same_entries}
+use Rattle.zq_posheap.proofs.Results.{when_ok}
 use Rattle.zq_posheap.proofs.Scored.{hole_added}
-use Rattle.zq_posheap.specs.Order.{texts_of}
+use Rattle.zq_posheap.proofs.Told.{held, link_within, one_more_seen}
+use Rattle.zq_posheap.specs.Links.{link_of}
+use Rattle.zq_posheap.specs.Moves.{links_of, shown}
+use Rattle.zq_posheap.specs.Order.{same_key, texts_of}
+use Rattle.zq_posheap.specs.Whole.{entries_map}
 use Rattle.zq_posheap.proofs.heap.Heap.add.Goals as goal
+
+pub push_reserved-requires : goal.push_reserved-requires
+push_reserved-requires g c = omega (arith, c.requires.room)
 
 pub settle-requires-clause-linked : goal.settle-requires-clause-linked
 settle-requires-clause-linked g c =
-    let slots = c.args.self.now.slots in
-    let places = c.args.self.now.places in
-    let key = c.in_ok-member.member in
-    let text = c.in_ok-member.ensures.items_if_clones_equal (λ x y same. same) in
-    let none = no_entry places.entries key.items (ap (get (scores_in places.entries)) text ∙ c.requires.absent) in
-    let more = ap values_of (c.in_ok-insert.ensures.entries ∙ insert_entry-new same_key places key (at (to_z w128 (of_z w128 c.args.score)) c.len-position.result) none)
-    ∙ map-append (λ e. e.1) places.entries ((key, at (to_z w128 (of_z w128 c.args.score)) c.len-position.result) ∷ []) in
-    let pushed = c.push_reserved.ensures.items ∙ ap (λ xs. xs ++ slot (to_z w128 (of_z w128 c.args.score)) c.len-position.result ∷ []) c.reserve.ensures.items in
-    rw (pushed, more) (added slots.items (values_of places.entries) c.requires.whole.linked c.len-position.result (to_z w128 (of_z w128 c.args.score)) (omega (arith, c.len-position.ensures, slots.ok.0)))
+    let heap = c.args.self.now in
+    let score = to_z w128 (of_z w128 c.args.score) in
+    let more = when_ok c.insert.result (c.insert.ensures.succeeds (omega (arith, c.requires.room))) c.insert.ensures.entries
+    ∙ insert_entry-new same_key heap.members c.args.member (held score c.len-position.result c.args.value) (no_entry shown heap.members.entries c.args.member.items c.requires.absent) in
+    let pushed = c.push_reserved.ensures.items in
+    rw (pushed, one_more_seen link_of heap.members.entries c.insert.new.self.entries c.args.member _ more)
+    (added heap.slots.items (links_of heap) c.requires.whole.linked c.len-position.result score (omega (arith, c.len-position.ensures, heap.slots.ok.0)))
 
 pub settle-requires-clause-hole : goal.settle-requires-clause-hole
 settle-requires-clause-hole g c =
-    let slots = c.args.self.now.slots in
-    let places = c.args.self.now.places in
-    let key = c.in_ok-member.member in
-    let text = c.in_ok-member.ensures.items_if_clones_equal (λ x y same. same) in
-    let none = no_entry places.entries key.items (ap (get (scores_in places.entries)) text ∙ c.requires.absent) in
-    let more = ap (λ es. texts_of (keys_of es)) (c.in_ok-insert.ensures.entries ∙ insert_entry-new same_key places key (at (to_z w128 (of_z w128 c.args.score)) c.len-position.result) none)
-    ∙ ap texts_of (map-append (λ e. e.0) places.entries ((key, at (to_z w128 (of_z w128 c.args.score)) c.len-position.result) ∷ [])) ∙ map-append (λ k. k.items) (keys places) (key ∷ []) in
-    let pushed = c.push_reserved.ensures.items ∙ ap (λ xs. xs ++ slot (to_z w128 (of_z w128 c.args.score)) c.len-position.result ∷ []) c.reserve.ensures.items in
-    hole_added (texts_of (keys places)) slots.items c.len-position.result (omega (arith, c.len-position.ensures, slots.ok.0)) c.requires.whole.ordered
-    (texts_of (keys c.insert.new.self)) c.push_reserved.new.self.items key.items (to_z w128 (of_z w128 c.args.score)) more pushed
+    let heap = c.args.self.now in
+    let score = to_z w128 (of_z w128 c.args.score) in
+    let more = when_ok c.insert.result (c.insert.ensures.succeeds (omega (arith, c.requires.room))) c.insert.ensures.entries
+    ∙ insert_entry-new same_key heap.members c.args.member (held score c.len-position.result c.args.value) (no_entry shown heap.members.entries c.args.member.items c.requires.absent) in
+    let texts = ap (λ es. texts_of (keys_of es)) more
+    ∙ ap texts_of (map-append (λ e. e.0) heap.members.entries ((c.args.member, held score c.len-position.result c.args.value) ∷ [])) ∙ map-append (λ k. k.items) (keys heap.members) (c.args.member ∷ []) in
+    hole_added (texts_of (keys heap.members)) heap.slots.items c.len-position.result (omega (arith, c.len-position.ensures, heap.slots.ok.0)) c.requires.whole.ordered
+    (texts_of (keys c.insert.new.self)) c.push_reserved.new.self.items c.args.member.items score texts c.push_reserved.ensures.items
     (λ p x here. omega (
       arith,
-      slice_get_within (values_of places.entries) x.index _ (c.requires.whole.linked.known p x here),
-      length-values_of places.entries,
-      length-map places.entries (λ e. e.0),
-      length-map (keys places) (λ k. k.items),
+      link_within heap.members heap.members x.index _ (c.requires.whole.linked.known p x here),
+      length-map heap.members.entries (λ e. e.0),
+      length-map (keys heap.members) (λ k. k.items),
     ))
 
-pub returns-clause-scores : goal.returns-clause-scores
-returns-clause-scores g c =
-    let places = c.args.self.now.places in
-    let key = c.in_ok-member.member in
-    let text = c.in_ok-member.ensures.items_if_clones_equal (λ x y same. same) in
-    same_scores _ c.settle.new.self c.settle.ensures.moves
-    ∙ inserted places c.insert.new.self key (at (to_z w128 (of_z w128 c.args.score)) c.len-position.result) c.in_ok-insert.ensures.updates
-    ∙ (λ k. insert (scores_in places.entries) (text k) (to_z-of_z w128 c.args.score c.ranges.score k))
+pub returns-clause-held : goal.returns-clause-held
+returns-clause-held g c =
+    let heap = c.args.self.now in
+    let updates = when_ok c.insert.result (c.insert.ensures.succeeds (omega (arith, c.requires.room))) c.insert.ensures.updates in
+    same_entries _ c.settle.new.self c.settle.ensures.moves
+    ∙ inserted shown heap.members c.insert.new.self c.args.member (held (to_z w128 (of_z w128 c.args.score)) c.len-position.result c.args.value) updates
+    ∙ (λ k. insert (entries_map heap) c.args.member.items (to_z-of_z w128 c.args.score c.ranges.score k, c.args.value))
+
+pub returns-clause-less_room : goal.returns-clause-less_room
+returns-clause-less_room g c = omega (arith, c.settle.ensures.moves.room, c.insert.ensures.spare, c.push_reserved.ensures.capacity, c.push_reserved.ensures.len, c.push_reserved.new.self.ok.0, c.args.self.now.slots.ok.0)

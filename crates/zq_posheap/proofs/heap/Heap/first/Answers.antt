@@ -1,20 +1,21 @@
-use Rattle.std.proofs.Common.{ap, arith, sym, true≢false, ◌∙◌}
+use Rattle.std.proofs.Common.{ap, subst, sym, true≢false, ◌∙◌}
 use Rattle.std.proofs.lemmas.Int.{to_z-of_z}
-use Rattle.std.proofs.lemmas.Map.Entries.{length-values_of}
-use Rattle.std.proofs.lemmas.Option.{slice_get_within}
 use Rattle.std.specs.Int.{w128}
-use Rattle.std.specs.Map.{values_of}
 use Rattle.std.specs.Prelude.{slice_get}
-use Rattle.zq_posheap.proofs.Entries.{scores_in}
+use Rattle.zq_posheap.proofs.ScoresOf.{score_in_range, scores_of_seen}
+use Rattle.zq_posheap.proofs.Told.{link_within}
 use Rattle.zq_posheap.proofs.Tops.{first_is, same_first}
+use Rattle.zq_posheap.specs.First.{IsFirst}
+use Rattle.zq_posheap.specs.Members.{scores_of}
+use Rattle.zq_posheap.specs.Whole.{entries_map}
 use Rattle.zq_posheap.proofs.heap.Heap.first.Goals as goal
 
 pub returns-in_err-member-clause-none : goal.returns-in_err-member-clause-none
 returns-in_err-member-clause-none g c =
-    let entries = c.args.self.now.places.entries in
+    let heap = c.args.self.now in
     let at_top = sym (c.in_ok-slot.ensures.value ∙ ap (λ xs. slice_get xs 0) c.deref.ensures.value) in
-    let within = slice_get_within (values_of entries) _ _ (c.requires.whole.linked.known 0 c.in_ok-slot.slot.now at_top) in
-    absurd (true≢false (sym (c.in_err-member.ensures.found.1 (omega (arith, within, length-values_of entries)))))
+    let within = link_within heap.members heap.members _ _ (c.requires.whole.linked.known 0 c.in_ok-slot.slot.now at_top) in
+    absurd (true≢false (sym (c.in_err-member.ensures.found.1 within)))
 
 pub returns-clause-first : goal.returns-clause-first
 returns-clause-first g c =
@@ -22,7 +23,8 @@ returns-clause-first g c =
     let slot = c.in_ok-slot.slot.now in
     let text = c.in_ok-member.member.now.items in
     let at_top = sym (c.in_ok-slot.ensures.value ∙ ap (λ xs. slice_get xs 0) c.deref.ensures.value) in
-    let first = first_is heap.places.entries heap.slots.items c.requires.whole.linked c.requires.whole.ordered slot c.in_ok-member.member.now
+    let seen = first_is heap.members.entries heap.slots.items c.requires.whole.linked c.requires.whole.ordered slot c.in_ok-member.member.now
     c.in_ok-member.field-0-1.now at_top (sym c.in_ok-member.ensures.entry) c.in_ok-member.ensures.value in
-    let fits = to_z-of_z w128 slot.score (c.requires.in_range text slot.score first.there) in
-    same_first (scores_in heap.places.entries) slot.score _ text c.as_slice.result.now (sym fits) (sym c.as_slice.ensures.value) first
+    let first = subst (λ m. IsFirst m (slot.score, text)) (sym (scores_of_seen heap.members.entries)) seen in
+    let fits = to_z-of_z w128 slot.score (score_in_range (entries_map heap) c.requires.in_range text slot.score first.there) in
+    same_first (scores_of (entries_map heap)) slot.score _ text c.as_slice.result.now (sym fits) (sym c.as_slice.ensures.value) first

@@ -1,10 +1,7 @@
-use Rattle.std.proofs.Common.{subst, sym}
-use Rattle.zq_posheap.proofs.InRange.{range-remove}
-use Rattle.zq_posheap.specs.Scores.{AreInRange, scores_map}
+use Rattle.std.specs.FinMap.{get}
+use Rattle.zq_posheap.proofs.Entries.{none_of, remove_absent}
 use Rattle.zq_posheap.proofs.pos_heap.PosHeap.remove.Goals as goal
 
-pub invariant_of-self : goal.invariant_of-self
-invariant_of-self g c = (
-  c.take_out.ensures.still_whole,
-  subst AreInRange (sym c.take_out.ensures.scores) (range-remove (scores_map c.self.inside.heap) c.self.invariant.1 c.args.member.now),
-)
+pub returns-in_err-place-clause-rest : goal.returns-in_err-place-clause-rest
+returns-in_err-place-clause-rest g c =
+    remove_absent c.args.self.now.held c.args.member.now (none_of (get c.args.self.now.held c.args.member.now) c.in_err-place.ensures.there)

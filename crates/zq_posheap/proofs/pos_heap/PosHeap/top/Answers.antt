@@ -5,15 +5,16 @@ use Rattle.zq_posheap.proofs.Heads.{head_is, none_there}
 use Rattle.zq_posheap.specs.First.{IsFirst}
 use Rattle.zq_posheap.specs.InOrder.{ListsInOrder}
 use Rattle.zq_posheap.specs.Listing.{lent_pair}
+use Rattle.zq_posheap.specs.Members.{scores_of}
 use Rattle.zq_posheap.specs.Order.{Scored}
 use Rattle.zq_posheap.proofs.pos_heap.PosHeap.top.Goals as goal
 
 pub returns-clause-none : goal.returns-clause-none
-returns-clause-none g c = subst (λ scores. IsNone c.first.result ↔ (scores ≡ empty)) c.self.view_is (none_there _ c.first.result c.first.ensures.none c.first.ensures.first)
+returns-clause-none g c = subst (λ m. IsNone c.first.result ↔ (m.held ≡ empty)) c.self.view_is (none_there _ c.first.result c.first.ensures.none c.first.ensures.first)
 
 pub returns-clause-first : goal.returns-clause-first
-returns-clause-first g c = subst (λ scores. IfSome c.first.result (λ pair. IsFirst scores (lent_pair pair))) c.self.view_is c.first.ensures.first
+returns-clause-first g c = subst (λ m. IfSome c.first.result (λ pair. IsFirst (scores_of m.held) (lent_pair pair))) c.self.view_is c.first.ensures.first
 
 pub returns-clause-head : goal.returns-clause-head
-returns-clause-head g c = subst (λ scores. (pairs : List Scored) → ListsInOrder scores pairs → slice_get pairs 0 ≡ option_map lent_pair c.first.result) c.self.view_is
+returns-clause-head g c = subst (λ m. (pairs : List Scored) → ListsInOrder (scores_of m.held) pairs → slice_get pairs 0 ≡ option_map lent_pair c.first.result) c.self.view_is
     (head_is _ c.first.result c.first.ensures.none c.first.ensures.first)
