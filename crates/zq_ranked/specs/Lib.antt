@@ -1,0 +1,4 @@
+pub mod Order
+pub mod Shape
+pub mod Falls
+pub mod Key

@@ -1,0 +1,172 @@
+//! `Ranked`.
+ghost use Rattle.std.specs.Prelude.{Contains, IfOk, IsTrue, List, OnErr, [], count_by, drop, if◌then◌else◌, insert, length, option_map, remove, reverse, slice_get, take, ◌-◌, ◌<◌, ◌≡◌, ◌≤◌, ◌↔◌};
+ghost use Rattle.zq_ranked.specs.Key.{lent_pair, pair_of_key};
+ghost use Rattle.zq_ranked.specs.Order.{IsRanking, is_below, rank_of};
+
+use crate::pair::{Key, Pair};
+use crate::pairs::{Backward, Forward};
+use crate::tree::Tree;
+use std::alloc::{AllocError, Global};
+use std::marker::Model;
+
+/// Distinct pairs of a score and a member, by score and then by the member's bytes: a list whose calls take
+/// logarithmic time.
+#[derive(Drop)]
+pub struct Ranked {
+    tree: Tree,
+    len: usize,
+    alloc: Global,
+}
+
+impl Model for Ranked {
+    ghost use Rattle.std.specs.Prelude.{List, length, ℕ, ℤ, ◌≡◌};
+    ghost use Rattle.zq_ranked.specs.Order.{IsRanking};
+
+    ghost Value = { List (ℤ × List ℕ) };
+
+    ghost view = { λ a. a.tree.0 };
+
+    ghost invariant = { λ a. IsRanking a.tree.0 × (a.len ≡ length a.tree.0) };
+}
+
+impl Ranked {
+    /// No pairs.
+    pub fn new(alloc: Global) -> Ranked
+        ensures { result ≡ [] }
+    {
+        Ranked {
+            tree: Tree::new(),
+            len: 0,
+            alloc,
+        }
+    }
+
+    /// How many pairs there are. They stand in order, and no two are the same.
+    pub fn len(&self) -> usize
+        ensures len { result ≡ length self.now }
+        ensures in_order { IsRanking self.now }
+    {
+        self.len
+    }
+
+    /// The pair at a place, of which the first is 0.
+    pub fn at(&self, place: usize) -> Option<(i128, &[u8])>
+        ensures { option_map lent_pair result ≡ slice_get self.now place }
+    {
+        match self.tree.block_from(place).first() {
+            Some(pair) => Some(pair.lent()),
+            None => None,
+        }
+    }
+
+    /// The first pair.
+    pub fn first(&self) -> Option<(i128, &[u8])>
+        ensures { option_map lent_pair result ≡ slice_get self.now 0 }
+    {
+        self.at(0)
+    }
+
+    /// The last pair.
+    pub fn last(&self) -> Option<(i128, &[u8])>
+        ensures { option_map lent_pair result ≡ slice_get self.now (length self.now - 1) }
+    {
+        self.at(self.len().saturating_sub(1))
+    }
+
+    /// How many pairs go before this one, whether it is there or not: where it is, its place.
+    pub fn rank(&self, score: i128, member: &[u8]) -> usize
+        ensures { result ≡ rank_of (score, member.now) self.now }
+    {
+        self.place_of(&Key { score, member })
+    }
+
+    /// How many pairs have a score below this one, or perhaps this very one.
+    pub fn count_below(&self, score: i128, or_equal: bool) -> usize
+        ensures { result ≡ count_by (is_below score or_equal) self.now }
+    {
+        if !or_equal {
+            return self.rank(score, &[]);
+        }
+        match score.checked_add(1) {
+            Some(next) => self.rank(next, &[]),
+            None => self.len(),
+        }
+    }
+
+    /// Puts a pair in at its place, and answers whether it was not there before. It takes memory where a block of pairs
+    /// grows or is split, and for a member of more than 16 bytes. Where memory is refused, which is only for a pair that
+    /// was not there, nothing changes.
+    pub fn insert(&mut self, score: i128, member: &[u8]) -> Result<bool, AllocError>
+        ensures put { IfOk result (λ added. self.new ≡
+            (if added then insert self.old (rank_of (score, member.now) self.old) (score, member.now) else self.old)) }
+        ensures absent { IfOk result (λ added. IsTrue added ↔ (Contains self.old (score, member.now) → ⊥)) }
+        ensures refused { OnErr result (self.new ≡ self.old) }
+        ensures refused_absent { OnErr result (Contains self.old (score, member.now) → ⊥) }
+    {
+        let key = Key { score, member };
+        let place = self.place_of(&key);
+        if self.is_at(place, &key) {
+            return Ok(false);
+        }
+        if self.len == usize::MAX {
+            return Err(AllocError);
+        }
+        let pair = Pair::new(self.alloc, score, member)?;
+        self.tree.insert(self.alloc, place, pair)?;
+        self.len += 1;
+        Ok(true)
+    }
+
+    /// Takes a pair out, and answers whether it was there. It takes no memory.
+    pub fn remove(&mut self, score: i128, member: &[u8]) -> bool
+        ensures taken { self.new ≡
+            (if result then remove self.old (rank_of (score, member.now) self.old) else self.old) }
+        ensures present { IsTrue result ↔ Contains self.old (score, member.now) }
+    {
+        let key = Key { score, member };
+        let place = self.place_of(&key);
+        if !self.is_at(place, &key) {
+            return false;
+        }
+        self.tree.remove(place);
+        self.len -= 1;
+        true
+    }
+
+    /// The pairs from a place onward. A step takes constant time, but where a block of pairs ends the next is looked up
+    /// from the root.
+    pub fn iter_from(&self, place: usize) -> Forward<'_>
+        ensures { result ≡ drop place self.now }
+    {
+        Forward::new(&self.tree, place.min(self.len))
+    }
+
+    /// The pairs before a place, the last of them first, by steps as those of `iter_from`.
+    pub fn iter_back_from(&self, place: usize) -> Backward<'_>
+        ensures { result ≡ reverse (take place self.now) }
+    {
+        Backward::new(&self.tree, place.min(self.len))
+    }
+
+    /// How many pairs go before one.
+    fn place_of(&self, key: &Key<'_>) -> usize
+        ensures place { result ≡ rank_of (pair_of_key key.now) self.now }
+    {
+        if self.len == 0 {
+            return 0;
+        }
+        self.tree.rank(key)
+    }
+
+    /// Whether a pair stands at the place where it belongs.
+    fn is_at(&self, place: usize, key: &Key<'_>) -> bool
+        requires { place ≡ rank_of (pair_of_key key.now) self.now }
+        ensures present { IsTrue result ↔ Contains self.now (pair_of_key key.now) }
+        ensures within { IsTrue result → place < length self.now }
+    {
+        match self.tree.block_from(place).first() {
+            Some(pair) => pair.order(key).is_eq(),
+            None => false,
+        }
+    }
+}
