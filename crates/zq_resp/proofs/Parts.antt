@@ -36,7 +36,8 @@ word_part : (begun : Word) → part_resume begun [] ≡ Part
 unfolding word_at
 word_part word.Start = refl
 word_part (word.Length line) = ap (λ read. read >>= λ n. body_at n.0 n.1 >>= λ word. ended_at word.0 word.1) (line_part 1048576 line)
-word_part (word.Body bytes n) = body_part bytes.items (n - length bytes.items)
+word_part (word.Sized n) = body_part [] n
+word_part (word.Cut begun n) = body_part begun.value.items (n - length begun.value.items)
 word_part (word.Ended bytes) = refl
 
 pub nothing_more : (begun : Partial) → resume begun [] ≡ Part

@@ -36,7 +36,7 @@ has_words (word ∷ words) = true
 abbrev pub handed : Requests → Requests
 handed requests = filter has_words requests
 
--- The requests before a fault: up to what begins no request, or, where there was no memory, some of the first.
+-- The requests before a fault: all up to what begins no request. Where memory was refused, the first of them.
 abbrev pub Stops : List ℕ → FeedFault → Requests → Type 0
 Stops bytes fault.Protocol before = (all : Requests) × Breaks bytes all fault.Protocol × (before ≡ handed all)
 Stops bytes fault.TooLong before = (all : Requests) × Breaks bytes all fault.TooLong × (before ≡ handed all)
@@ -62,7 +62,7 @@ is_inside None = false
 is_inside (Some []) = false
 is_inside (Some (b ∷ bytes)) = true
 
--- an answer apart from where it lies in memory
+-- an answer as lists
 abbrev pub answered : Result (Vec (List (List ℕ)) Global) FeedError → Result Requests (FeedFault × Requests)
 answered (Ok requests) = Ok requests.items
 answered (Err error) = Err (error.fault, error.before.items)

@@ -10,19 +10,20 @@ use Rattle.zq_resp.specs.Front.{Front, Got, Wrong}
 abbrev pub views : Vec (Vec ℕ Global) Global → List (List ℕ)
 views words = map (λ w. w.items) words.items
 
--- What a call that fails says of what stands there: nothing, where there was no memory.
+-- What a fault says of the bytes: they are wrong for that reason. Want of memory says nothing of them.
 abbrev pub Fails : {X : Type 0} → FeedFault → Front X → Type 0
 Fails Protocol read = read ≡ Wrong Protocol
 Fails TooLong read = read ≡ Wrong TooLong
 Fails NoMemory read = Unit {0}
 Fails Over read = ⊥
 
--- What a suspended reading is: the bytes that it has read, and what it gives with more of them.
+-- A suspended reading has read a text, and gives something with more bytes. From an old state to a new one the text
+-- grows by the bytes taken, and what more bytes give stays the same.
 pub record Goes {P X : Type 0} (text : P → List ℕ) (resume : P → List ℕ → Front X) (old new : P) (taken : List ℕ) : Type 0 where
   pub text_grows : text new ≡ text old ++ taken
   pub resumes : (more : List ℕ) → resume old (taken ++ more) ≡ resume new more
 
--- It ends with a value that is spelled by all the bytes.
+-- The reading ends with a value, and all the bytes read are its spelling.
 pub record Ends {P X : Type 0} (text : P → List ℕ) (resume : P → List ℕ → Front (X × List ℕ)) (old : P) (taken : List ℕ) (value : X) (spelling : List ℕ) : Type 0 where
   pub spelled : spelling ≡ text old ++ taken
   pub found : (more : List ℕ) → resume old (taken ++ more) ≡ Got (value, more)

@@ -17,21 +17,24 @@ use Rattle.zq_resp.specs.Line.{IsLine, line_text, line_resume}
 abbrev pub IsPart : Word → Type 0
 IsPart word.Start = Unit {0}
 IsPart (word.Length line) = IsLine 1048576 line
-IsPart (word.Body bytes n) = (length bytes.items ≤ n) × (n ≤ 1048576)
+IsPart (word.Sized n) = n ≤ 1048576
+IsPart (word.Cut begun n) = (length begun.value.items ≤ n) × (n ≤ 1048576)
 IsPart (word.Ended bytes) = IsWord bytes.items
 
 abbrev pub part_text : Word → List ℕ
 part_text word.Start = []
 part_text (word.Length line) = 36 ∷ line_text line
-part_text (word.Body bytes n) = 36 ∷ number_line n ++ bytes.items
+part_text (word.Sized n) = 36 ∷ number_line n
+part_text (word.Cut begun n) = 36 ∷ number_line n ++ begun.value.items
 part_text (word.Ended bytes) = 36 ∷ number_line (length bytes.items) ++ (bytes.items ++ 13 ∷ [])
 
 abbrev pub part_resume : Word → List ℕ → Front (List ℕ × List ℕ)
 part_resume word.Start more = word_at more
 part_resume (word.Length line) more =
     line_resume 1048576 line more >>= λ n. body_at n.0 n.1 >>= λ word. ended_at word.0 word.1
-part_resume (word.Body bytes n) more =
-    body_at (n - length bytes.items) more >>= λ word. ended_at (bytes.items ++ word.0) word.1
+part_resume (word.Sized n) more = body_at n more >>= λ word. ended_at word.0 word.1
+part_resume (word.Cut begun n) more =
+    body_at (n - length begun.value.items) more >>= λ word. ended_at (begun.value.items ++ word.0) word.1
 part_resume (word.Ended bytes) more = mark_at 10 more >>= λ rest. Got (bytes.items, rest)
 
 abbrev pub WordStep : Word → List ℕ → Result (Progress Word (Vec ℕ Global) × ℕ) FeedFault → Type 0

@@ -6,17 +6,17 @@ use std::alloc::{AllocError, AllocFailed};
 /// Why a reader stops.
 #[derive(Clone, Copy, Debug, PartialEq, Eq)]
 pub enum FeedFault {
-    /// A byte with which the text begins no request.
+    /// The bytes up to here begin no request.
     Protocol,
     /// A count above 65,536, a word's length above 1,048,576, or a request of more than 16,777,216 bytes.
     TooLong,
     /// An earlier call failed.
     Over,
-    /// There was no memory for a word or a request.
+    /// Memory for a word or a request was refused.
     NoMemory,
 }
 
-/// A fault, and the requests that ended before it in the piece that has it.
+/// A fault, and the requests that ended before it in the same piece.
 #[derive(Debug, Drop)]
 pub struct FeedError {
     /// Why the reader stops.

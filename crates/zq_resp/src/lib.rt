@@ -3,7 +3,7 @@
 //!
 //! A request is `*`, the count of its words on a line, and the words; a word is `$`, its length on a line, its
 //! bytes, CR LF. A line is a decimal number without leading zeros, and CR LF. `*0` and `*-1` are requests of
-//! no words: they are read over. Inline commands are not read.
+//! no words: they are skipped. Inline commands are refused.
 #![tactic(auto)]
 
 mod fault;

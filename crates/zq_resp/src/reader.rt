@@ -16,8 +16,9 @@ use std::alloc::Global;
 use std::marker::Model;
 use unfinished::{Unfinished, read_on};
 
-/// Reads requests from a stream of bytes, in whatever pieces it comes. It keeps what has come of the
-/// request that is not yet whole, and no more: the words of it that ended, and the bytes of the next.
+/// Reads requests from a stream of bytes, in whatever pieces it comes. Between two pieces it keeps the
+/// request that is not yet whole, and nothing else: its words that are whole, and of the word that the
+/// piece's end cut the bytes so far.
 #[derive(Drop)]
 pub struct Reader {
     unfinished: Option<Unfinished>,
@@ -55,13 +56,18 @@ impl Reader {
         }
     }
 
-    /// Takes the next piece of the stream, and hands out the requests that end in it, in order; those of
-    /// no words are left out. A fault comes at the first byte with which the text so far is wrong, however
-    /// it is cut into pieces, with the requests that ended before it; each later call answers `Over`.
+    /// Takes the next piece of the stream, and hands out the requests that end in it, in order. Requests of
+    /// no words are left out.
     ///
-    /// `Protocol` is a byte with which the text begins no request. `TooLong` is the digit that makes a count
-    /// above 65,536 or a length above 1,048,576, or byte 16,777,217 of one request, and goes before
-    /// `Protocol` there. A count or a length takes no memory before its bytes come.
+    /// A fault comes at a byte that depends on the stream alone, and not on where the pieces are cut. The
+    /// error has the requests that ended in this piece before the fault. Each later call answers `Over`.
+    ///
+    /// - `Protocol`: at the first byte with which the text so far begins no request.
+    /// - `TooLong`: at the digit that makes a count above 65,536 or a length above 1,048,576, and at byte
+    ///   16,777,217 of a request, also where that byte would be `Protocol`.
+    /// - `NoMemory`: memory was refused. The piece was read up to the request that needed it.
+    ///
+    /// Memory is taken for bytes that have come, never for a declared count or length.
     pub fn feed(&mut self, alloc: Global, piece: &[u8]) -> Result<Vec<Request>, FeedError>
         ensures { Feeds self.old piece.now (answered result) self.new }
     {

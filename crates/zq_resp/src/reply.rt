@@ -42,7 +42,7 @@ pub fn write_reply(out: &mut Vec<u8>, reply: &Reply) -> Result<(), AllocError>
     written
 }
 
-// Where memory is refused, a part of the bytes may stand behind those that were there.
+/// Where memory is refused, a part of the bytes may stand behind those that were there.
 #[cycle(append)]
 fn append_reply(out: &mut Vec<u8>, reply: &Reply) -> Result<(), AllocError>
     ensures written { OnOk result (out.new.items ≡ out.old.items ++ reply_bytes reply.now) }

@@ -7,12 +7,11 @@ fn is_words(request: &Request, words: &[&[u8]]) -> bool {
     own.len() == words.len() && own.iter().zip(words).all(|(a, b)| a.as_slice() == *b)
 }
 
-// The fault that a reader of these bytes meets, and how many requests it hands out before.
-fn fault_of(alloc: Global, bytes: &[u8]) -> Option<(FeedFault, usize)> {
-    let mut reader = Reader::new();
-    match reader.feed(alloc, bytes) {
-        Ok(_) => None,
-        Err(error) => Some((error.fault, error.before.len())),
+/// What a piece is answered: the fault, and how many requests came.
+fn answer(reader: &mut Reader, alloc: Global, piece: &[u8]) -> (Option<FeedFault>, usize) {
+    match reader.feed(alloc, piece) {
+        Ok(requests) => (None, requests.len()),
+        Err(error) => (Some(error.fault), error.before.len()),
     }
 }
 
@@ -39,44 +38,55 @@ fn requests_end_before_a_fault(rt: HostRuntime) -> Result<(), Fail> {
 
 #[test]
 fn faults_come_at_their_byte(rt: HostRuntime) {
-    let cases: [(&[u8], Option<(FeedFault, usize)>); 11] = [
+    let cases: [(&[u8], Option<FeedFault>); 11] = [
         (b"*6553", None),
         (b"*65536", None),
-        (b"*65537", Some((FeedFault::TooLong, 0))),
+        (b"*65537", Some(FeedFault::TooLong)),
         (b"*1\r\n$1048576\r\n", None),
-        (b"*1\r\n$1048577", Some((FeedFault::TooLong, 0))),
+        (b"*1\r\n$1048577", Some(FeedFault::TooLong)),
         (b"*-1\r\n*-1\r", None),
-        (b"*-2", Some((FeedFault::Protocol, 0))),
-        (b"PING\r\n", Some((FeedFault::Protocol, 0))),
-        (b"*1\r\n$4\r\nPING\n", Some((FeedFault::Protocol, 0))),
-        (b"*1\r\n$-1\r\n", Some((FeedFault::Protocol, 0))),
-        (b"*1\r\n$00\r\n", Some((FeedFault::Protocol, 0))),
+        (b"*-2", Some(FeedFault::Protocol)),
+        (b"PING\r\n", Some(FeedFault::Protocol)),
+        (b"*1\r\n$4\r\nPING\n", Some(FeedFault::Protocol)),
+        (b"*1\r\n$-1\r\n", Some(FeedFault::Protocol)),
+        (b"*1\r\n$00\r\n", Some(FeedFault::Protocol)),
     ];
     for (bytes, fault) in cases {
-        assert_eq!(rt; fault_of(rt.alloc(), bytes), fault, "{bytes:?}");
+        let mut reader = Reader::new();
+        assert_eq!(rt;
+            answer(&mut reader, rt.alloc(), bytes),
+            (fault, 0),
+            "{bytes:?}"
+        );
     }
 }
 
-#[test]
-fn bytes_one_by_one_give_the_same_request(rt: HostRuntime) -> Result<(), Fail> {
-    let text = b"*4\r\n$4\r\nZADD\r\n$1\r\nq\r\n$1\r\n3\r\n$1\r\na\r\n";
-    let words: [&[u8]; 4] = [b"ZADD", b"q", b"3", b"a"];
-    let mut whole = Reader::new();
-    let requests = whole.feed(rt.alloc(), text).map_err(|e| e.fault)?;
-    assert_eq!(rt; requests.len(), 1);
-    assert!(rt; is_words(&requests[0], &words));
+// One request twice, of 35 bytes each.
+const TWICE: &[u8] =
+    b"*4\r\n$4\r\nZADD\r\n$1\r\nq\r\n$1\r\n3\r\n$1\r\na\r\n*4\r\n$4\r\nZADD\r\n$1\r\nq\r\n$1\r\n3\r\n$1\r\na\r\n";
 
+const WORDS: [&[u8]; 4] = [b"ZADD", b"q", b"3", b"a"];
+
+#[test]
+fn one_piece_gives_both_requests(rt: HostRuntime) -> Result<(), Fail> {
     let mut reader = Reader::new();
-    let mut found = 0;
-    for byte in text {
+    let requests = reader.feed(rt.alloc(), TWICE).map_err(|e| e.fault)?;
+    assert_eq!(rt; requests.len(), 2);
+    assert!(rt; requests.iter().all(|request| is_words(request, &WORDS)));
+    assert!(rt; !reader.inside());
+    Ok(())
+}
+
+#[test]
+fn bytes_one_by_one_give_the_same_requests(rt: HostRuntime) -> Result<(), Fail> {
+    let mut reader = Reader::new();
+    for (at, byte) in TWICE.iter().enumerate() {
         let requests = reader.feed(rt.alloc(), &[*byte]).map_err(|e| e.fault)?;
-        for request in &requests {
-            assert!(rt; is_words(request, &words));
-            found = 1;
-        }
-        assert_eq!(rt; reader.inside(), found == 0);
+        let ends = at == 34 || at == 69;
+        assert_eq!(rt; requests.len(), usize::from(ends));
+        assert!(rt; requests.iter().all(|request| is_words(request, &WORDS)));
+        assert_eq!(rt; reader.inside(), !ends);
     }
-    assert_eq!(rt; found, 1);
     Ok(())
 }
 
@@ -90,8 +100,30 @@ fn a_request_is_its_words(rt: HostRuntime) -> Result<(), Fail> {
     Ok(())
 }
 
-// A count and a length take no memory before their bytes come: tools/headers-take-no-memory runs this with the first
-// allocation refused.
+/// Sixteen words of 1,048,576 bytes are within the limits of a word, and too much for one request: 5 bytes of count and
+/// 15 times 1,048,588 bytes leave 1,048,391 for the last word.
+#[test]
+fn byte_16777217_of_a_request_is_too_long(rt: HostRuntime) -> Result<(), Fail> {
+    let mut word = Vec::from_slice(rt.alloc(), b"$1048576\r\n")?;
+    word.resize(1_048_586, b'x')?;
+    word.extend_from_slice(b"\r\n")?;
+    let within = word.get(..1_048_391).ok_or("a short word")?;
+    let past = word.get(1_048_391..).ok_or("a short word")?;
+    let mut reader = Reader::new();
+    assert_eq!(rt; answer(&mut reader, rt.alloc(), b"*16\r\n"), (None, 0));
+    for _ in 0..15 {
+        assert_eq!(rt; answer(&mut reader, rt.alloc(), &word), (None, 0));
+    }
+    assert_eq!(rt; answer(&mut reader, rt.alloc(), within), (None, 0));
+    assert_eq!(rt;
+        answer(&mut reader, rt.alloc(), past),
+        (Some(FeedFault::TooLong), 0)
+    );
+    Ok(())
+}
+
+/// tools/headers-take-no-memory runs the next three too, with one allocation refused. This one with the first of all: it
+/// must pass, since a count and a length take no memory.
 #[test]
 fn a_declared_count_takes_no_memory(rt: HostRuntime) -> Result<(), Fail> {
     let mut reader = Reader::new();
@@ -104,13 +136,29 @@ fn a_declared_count_takes_no_memory(rt: HostRuntime) -> Result<(), Fail> {
     Ok(())
 }
 
+/// This one with the fourth: it must fail, since a word takes memory again and again as its bytes come. It would pass if the
+/// whole length were reserved at the first byte.
 #[test]
-fn a_request_cut_off_is_inside(rt: HostRuntime) -> Result<(), Fail> {
+fn a_declared_length_takes_memory_as_bytes_come(rt: HostRuntime) {
     let mut reader = Reader::new();
-    let requests = reader
-        .feed(rt.alloc(), b"*1\r\n$4\r\nPI")
-        .map_err(|e| e.fault)?;
-    assert_eq!(rt; requests.len(), 0);
-    assert!(rt; reader.inside());
-    Ok(())
+    let first = answer(&mut reader, rt.alloc(), b"*1\r\n$1048576\r\nx");
+    assert_eq!(rt; first, (None, 0));
+    for _ in 0..8 {
+        let more = answer(&mut reader, rt.alloc(), &[b'x'; 4096]);
+        assert_eq!(rt; more, (None, 0));
+    }
+}
+
+/// This one with the fourth, which is for the second request's word: the first request is handed out all the same.
+#[test]
+fn requests_before_want_of_memory_are_handed_out(rt: HostRuntime) {
+    let mut reader = Reader::new();
+    match reader.feed(rt.alloc(), b"*1\r\n$4\r\nPING\r\n*1\r\n$4\r\nQUIT\r\n") {
+        Ok(requests) => assert_eq!(rt; requests.len(), 2),
+        Err(error) => {
+            assert_eq!(rt; error.fault, FeedFault::NoMemory);
+            assert_eq!(rt; error.before.len(), 1);
+            assert!(rt; is_words(&error.before[0], &[b"PING"]));
+        }
+    }
 }

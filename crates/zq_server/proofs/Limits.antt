@@ -9,7 +9,7 @@ use Rattle.std.specs.Prelude.{T, int_le, All, Bool, Err, List, None, Ok, Option,
 use Rattle.zq_model.specs.Operation.{IsWithin, MOST}
 use Rattle.zq_server.specs.Command.{Command, Ping, Reading, Refusal, Syntax, Unknown, Zadd, Zcard, Zrem, Zscore, begins_with_flag, command, command_of, is_paired, name_of, or_else, pair_onto, pairs_of}
 use Rattle.zq_server.specs.Plan.{IsPair, IsShort, IsWithinLimits}
-use Rattle.zq_server.specs.Words.{Word, are_all, if_passes, integer_of, is_in_range, is_point, is_zero, score_of}
+use Rattle.zq_server.specs.Words.{Word, are_all, if_passes, integer_of, is_in_range, is_point, is_zero, written_score}
 use Rattle.zq_server.specs.declared.name.Name.{Name}
 use Rattle.zq_server.specs.declared.name.Name.TheVariants as name
 
@@ -42,7 +42,7 @@ from_test : {x y : ℤ} → int_le x y ≡ true → x ≤ℤ y
 from_test e = le_z_yes (subst T (sym e) tt)
 
 -- a score that a text writes is in range
-score_within : (text : Word) (z : ℤ) → score_of text ≡ Some z → IsWithin MOST z
+score_within : (text : Word) (z : ℤ) → written_score text ≡ Some z → IsWithin MOST z
 score_within text z e =
     let inside = passed is_in_range (integer_of (before_first is_point text)) z (unless (list_any is_point text && not (are_all is_zero (after_first is_point text))) _ z e) in
     let both = and_parts _ _ inside in
@@ -58,7 +58,7 @@ pairs_within : (words : List Word) (pairs : List (ℤ × Word)) → All IsShort 
 pairs_within [] pairs short e = subst (λ ps. All IsPair ps × (length ps ≤ 0)) (some_eq e) (All-nil IsPair, omega arith)
 pairs_within (a ∷ []) pairs short e = subst (λ ps. All IsPair ps × (length ps ≤ 1)) (some_eq e) (All-nil IsPair, omega arith)
 pairs_within (a ∷ m ∷ words) pairs short e =
-    let parts = onto (score_of a) m (pairs_of words) pairs e in
+    let parts = onto (written_score a) m (pairs_of words) pairs e in
     let after = All-tail IsShort a (m ∷ words) short in
     let rest = pairs_within words parts.1 (All-tail IsShort m words after) parts.3 in
     subst (λ ps. All IsPair ps × (length ps ≤ length (a ∷ m ∷ words))) parts.4

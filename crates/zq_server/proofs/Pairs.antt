@@ -4,7 +4,7 @@ use Rattle.std.proofs.lemmas.List.{map-append}
 use Rattle.std.specs.Option.{is_some, option_map}
 use Rattle.std.specs.declared.vec.Vec.{Vec}
 use Rattle.std.specs.declared.alloc.Global.{Global}
-use Rattle.zq_server.specs.Words.{Word, score_of}
+use Rattle.zq_server.specs.Words.{Word, written_score}
 use Rattle.zq_server.specs.Command.{pairs_of, pair_onto}
 use Rattle.zq_server.specs.Shown.{views, pair_shown}
 use Rattle.zq_server.specs.declared.pair.Pair.{Pair}
@@ -31,7 +31,7 @@ reads_pair all pairs z member None h e = (h, e)
 reads_pair all pairs z member (Some others) h e = (refl, e ∙ ap Some (sym (append_assoc pairs ((z, member) ∷ []) others)))
 
 pub reads_more : (all : List Word) (pairs : List (ℤ × Word)) (score member : Word) (rest : List Word) (z : ℤ)
-    → score_of score ≡ Some z → ReadsOn all pairs (score ∷ member ∷ rest) → ReadsOn all (pairs ++ (z, member) ∷ []) rest
+    → written_score score ≡ Some z → ReadsOn all pairs (score ∷ member ∷ rest) → ReadsOn all (pairs ++ (z, member) ∷ []) rest
 reads_more all pairs score member rest z e r = reads_pair (pairs_of all) pairs z member (pairs_of rest) (rw e at r.0) (rw e at r.1)
 
 two_words : (words : List (Vec ℕ Global)) (a b : Vec ℕ Global) → 2 ≤ length words → a ≡ get_or words 0 a → b ≡ get_or words 1 b
@@ -46,10 +46,10 @@ pair_is (Some z) member pair e = (cc, cc)
 
 pub reads_next : (all : List Word) (old new : List Pair) (pair : Pair) (words tail : List (Vec ℕ Global)) (a b : Vec ℕ Global)
     → new ≡ old ++ pair ∷ [] → tail ≡ drop 2 words
-    → 2 ≤ length words → a ≡ get_or words 0 a → b ≡ get_or words 1 b → Some (pair_shown pair) ≡ option_map (λ z. (z, b.items)) (score_of a.items)
+    → 2 ≤ length words → a ≡ get_or words 0 a → b ≡ get_or words 1 b → Some (pair_shown pair) ≡ option_map (λ z. (z, b.items)) (written_score a.items)
     → ReadsOn all (map pair_shown old) (views words) → ReadsOn all (map pair_shown new) (views tail)
 reads_next all old new pair words tail a b i t h e f s r =
-    let p = pair_is (score_of a.items) b.items (pair_shown pair) s in
+    let p = pair_is (written_score a.items) b.items (pair_shown pair) s in
     let two = subst (ReadsOn all (map pair_shown old)) (two_words words a b h e f) r in
     let more = reads_more all (map pair_shown old) a.items b.items (views (drop 2 words)) pair.score p.0 two in
     rw (i, t, map-append, p.1) more

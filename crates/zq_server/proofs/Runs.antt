@@ -51,6 +51,7 @@ stopped-more answers a b c requests i request reply bytes h e p q =
       unwritten = reply ∷ [];
       runs = subst (λ front. Runs answers a front (p.0 ++ reply ∷ []) c) (sym next) (runs-join answers a b c (take i requests) (request ∷ []) p.0 (reply ∷ []) p.1 (c, q, refl));
       at_most_one = omega arith;
+      all_else = λ none. absurd cc;
       written = p.2;
     }
 
@@ -65,22 +66,8 @@ stopped-whole answers a b requests bytes p = record {
   unwritten = [];
   runs = subst (λ replies. Runs answers a requests replies b) (sym (append-nil p.0)) p.1;
   at_most_one = omega arith;
+  all_else = λ none. refl;
   written = p.2;
-}
-
-pub stopped-join : {S : Type 0} (answers : Relation S) (a b c : S) (xs ys : Requests) (first second : List ℕ)
-    → IsAnswered answers a b xs first → IsStopped answers b c ys second → IsStopped answers a c (xs ++ ys) (first ++ second)
-stopped-join answers a b c xs ys first second p q = record {
-  first = xs ++ q.first;
-  others = q.others;
-  split = ap (λ zs. xs ++ zs) q.split ∙ sym (append_assoc xs q.first q.others);
-  replies = p.0 ++ q.replies;
-  unwritten = q.unwritten;
-  runs =
-      subst (λ replies. Runs answers a (xs ++ q.first) replies c) (sym (append_assoc p.0 q.replies q.unwritten))
-      (runs-join answers a b c xs q.first p.0 (q.replies ++ q.unwritten) p.1 q.runs);
-  at_most_one = q.at_most_one;
-  written = rw (p.2, q.written) (sym (all_bytes-append p.0 q.replies));
 }
 
 pub stopped-begun : {S : Type 0} (answers : Relation S) (a b : S) (requests : Requests) (bytes : List ℕ)

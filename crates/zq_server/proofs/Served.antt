@@ -1,5 +1,5 @@
 -- What a session has served, with one more piece.
-use Rattle.std.proofs.Common.{◌≡◌, List, ℕ, [], ◌++◌, Option, Some, Result, Ok, Err, sym, ap, subst, ◌∙◌, append_assoc, append-nil, inl, inr, take, drop, take-append-drop}
+use Rattle.std.proofs.Common.{◌≡◌, List, ℕ, [], ◌++◌, Option, Some, Result, Ok, Err, sym, ap, subst, ◌∙◌, append_assoc, append-nil, refl, ◌≤◌, length, arith, inl, inr, take, drop, take-append-drop}
 use Rattle.std.specs.Io.KnownBytes.{IsAtEnd}
 use Rattle.std.specs.declared.alloc.AllocError.{AllocError}
 use Rattle.zq_resp.specs.Stream.{Requests, Splits, handed}
@@ -9,9 +9,9 @@ use Rattle.zq_server.specs.declared.outcome.End.{End}
 use Rattle.zq_server.specs.declared.outcome.End.TheVariants.{Clean, Inside, Protocol}
 use Rattle.zq_server.specs.declared.outcome.SessionFault.{SessionFault}
 use Rattle.zq_server.specs.declared.outcome.SessionFault.TheVariants as stop
-use Rattle.zq_server.specs.Session.{Relation, IsAnswered, IsBegun, IsClosed, IsOwed, IsStopped, IsReadOff, Serves, closing}
+use Rattle.zq_server.specs.Session.{Relation, IsAnswered, IsBegun, IsClosed, IsOwed, IsReadOff, Serves, closing}
 use Rattle.zq_server.specs.Serving.{ServesPiece, GoesOn, EndsWith}
-use Rattle.zq_server.proofs.Runs.{answered-none, answered-join, begun-whole, stopped-whole, stopped-join, stopped-begun}
+use Rattle.zq_server.proofs.Runs.{answered-none, answered-join, begun-whole, stopped-whole, stopped-begun}
 use Rattle.zq_server.proofs.Streams.{reaches-on, splits-on, breaks-on, splits-none, handed-append}
 
 module _ {S : Type 0} (answers : Relation S) where
@@ -49,13 +49,6 @@ module _ {S : Type 0} (answers : Relation S) where
         (answered-join answers old mid new (handed all) q.0 written (bytes ++ q.2) p q.4),
   )
 
-  stopped-on : (old mid new : S) (all more : Requests) (written bytes : List ℕ)
-      → IsAnswered answers old mid (handed all) written → IsStopped answers mid new (handed more) bytes
-      → IsStopped answers old new (handed (all ++ more)) (written ++ bytes)
-  stopped-on old mid new all more written bytes p q =
-      subst (λ requests. IsStopped answers old new requests (written ++ bytes)) (sym (handed-append all more))
-      (stopped-join answers old mid new (handed all) (handed more) written bytes p q)
-
   pub stands-on : (old mid new : S) (text written had piece : List ℕ) (bytes : List ℕ) (kept : Option (List ℕ))
       → Stands old mid text written had → ServesPiece answers mid new had piece kept (Ok More) bytes
       → (has : List ℕ) × (kept ≡ Some has) × Stands old new (text ++ piece) (written ++ bytes) has
@@ -82,20 +75,11 @@ module _ {S : Type 0} (answers : Relation S) where
         subst (IsClosed answers old new (handed (s.all ++ p.0))) (sym (append_assoc written bytes p.2)) (closed-on old mid new s.all p.0 written (bytes ++ p.2) s.answered p.4),
       )
 
-  -- what is served of the rest is served of the whole
-  pub serves-on : (old mid new : S) (text written had piece bytes : List ℕ) (result : Result End SessionFault)
-      → Stands old mid text written had → Serves answers mid new (had ++ piece) bytes result → Serves answers old new (text ++ piece) (written ++ bytes) result
-  serves-on old mid new text written had piece bytes (Ok Clean) s p =
-      (s.all ++ p.0, splits-on text had piece [] s.all p.0 s.splits p.1, answered-on old mid new s.all p.0 written bytes s.answered p.2)
-  serves-on old mid new text written had piece bytes (Ok Inside) s p =
-      (s.all ++ p.0, p.1, splits-on text had piece p.1 s.all p.0 s.splits p.2, p.3, answered-on old mid new s.all p.0 written bytes s.answered p.4)
-  serves-on old mid new text written had piece bytes (Ok Protocol) s p =
+  -- the input breaks the protocol in a piece
+  pub breaks-off : (old mid new : S) (text written had piece bytes : List ℕ) (kept : Option (List ℕ))
+      → Stands old mid text written had → ServesPiece answers mid new had piece kept (Ok Broken) bytes → Serves answers old new (text ++ piece) (written ++ bytes) (Ok Protocol)
+  breaks-off old mid new text written had piece bytes kept s p =
       (s.all ++ p.0, p.1, breaks-on text had piece s.all p.0 p.1 s.splits p.2, closed-on old mid new s.all p.0 written bytes s.answered p.3)
-  serves-on old mid new text written had piece bytes (Err stop.Read) s p =
-      (s.all ++ p.0, p.1, splits-on text had piece p.1 s.all p.0 s.splits p.2, answered-on old mid new s.all p.0 written bytes s.answered p.3)
-  serves-on old mid new text written had piece bytes (Err stop.Write) s p = owed-on old mid new text written had piece bytes s p
-  serves-on old mid new text written had piece bytes (Err stop.NoMemory) s p =
-      (s.all ++ p.0, p.1, reaches-on text had piece p.1 s.all p.0 s.splits.reaches p.2, stopped-on old mid new s.all p.0 written bytes s.answered p.3)
 
   -- what a piece is answered with is owed
   pub owed-whole : (old new : S) (had piece bytes : List ℕ) (kept : Option (List ℕ)) (result : Result Served AllocError)
@@ -122,11 +106,29 @@ module _ {S : Type 0} (answers : Relation S) where
   goes-on old new had piece bytes kept More p = p
   goes-on old new had piece bytes kept Broken p = p
 
-  pub goes-no-further : (old new : S) (had piece bytes : List ℕ) (kept : Option (List ℕ)) (why : SessionFault)
-      → GoesOn answers old new had piece kept bytes (Err why) → Serves answers old new (had ++ piece) bytes (Err why)
-  goes-no-further old new had piece bytes kept stop.Read p = absurd p
-  goes-no-further old new had piece bytes kept stop.Write p = p
-  goes-no-further old new had piece bytes kept stop.NoMemory p = p
+  -- a fault within a piece
+  pub goes-no-further : (old mid new : S) (text written had piece bytes : List ℕ) (kept : Option (List ℕ)) (why : SessionFault)
+      → Stands old mid text written had → length piece ≤ 65536 → GoesOn answers mid new had piece kept bytes (Err why) → Serves answers old new (text ++ piece) (written ++ bytes) (Err why)
+  goes-no-further old mid new text written had piece bytes kept stop.Read s small p = absurd p
+  goes-no-further old mid new text written had piece bytes kept stop.Write s small p = owed-on old mid new text written had piece bytes s p
+  goes-no-further old mid new text written had piece bytes kept stop.NoMemory s small p = record {
+    before = text;
+    piece = piece;
+    text_is = refl;
+    one_read = small;
+    all = s.all;
+    had = had;
+    splits = s.splits;
+    mid = mid;
+    written = written;
+    answered = s.answered;
+    more = p.0;
+    rest = p.1;
+    reaches = p.2;
+    last = bytes;
+    stopped = p.3;
+    bytes_are = refl;
+  }
 
   -- a session that stops between two pieces
   pub serves-so-far : (old new : S) (text written had : List ℕ) → Stands old new text written had → Serves answers old new text written (Err stop.Read)
@@ -138,7 +140,24 @@ module _ {S : Type 0} (answers : Relation S) where
   serves-to-end old new text written had Protocol s e = absurd e
 
   pub serves-nothing : (s : S) → Serves answers s s [] [] (Err stop.NoMemory)
-  serves-nothing s = ([], [], splits-none.reaches, stopped-whole answers s s [] [] (answered-none answers s))
+  serves-nothing s = record {
+    before = [];
+    piece = [];
+    text_is = refl;
+    one_read = omega arith;
+    all = [];
+    had = [];
+    splits = splits-none;
+    mid = s;
+    written = [];
+    answered = answered-none answers s;
+    more = [];
+    rest = [];
+    reaches = splits-none.reaches;
+    last = [];
+    stopped = stopped-whole answers s s [] [] (answered-none answers s);
+    bytes_are = refl;
+  }
 
 pub read-off : (end : End) (remaining : Option (List ℕ)) → IsAtEnd remaining → IsReadOff (Ok end) remaining
 read-off Clean remaining h = h

@@ -4,7 +4,7 @@ use Rattle.std.specs.List.{find}
 use Rattle.std.specs.Option.{option_map}
 use Rattle.zq_server.specs.declared.name.Name.{Name}
 use Rattle.zq_server.specs.declared.name.Name.TheVariants as name
-use Rattle.zq_server.specs.Words.{Word, is, score_of}
+use Rattle.zq_server.specs.Words.{Word, is, written_score}
 
 pub data Command : Type 0 where
   Ping : (message : Option Word) → Command
@@ -40,7 +40,7 @@ pair_onto _ member _ = None
 
 -- scores and members in turn
 abbrev pub pairs_of : List Word → Option (List (ℤ × Word))
-pairs_of (score ∷ member ∷ words) = pair_onto (score_of score) member (pairs_of words)
+pairs_of (score ∷ member ∷ words) = pair_onto (written_score score) member (pairs_of words)
 pairs_of _ = Some []
 
 abbrev pub begins_with_flag : List Word → Bool

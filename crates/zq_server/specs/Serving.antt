@@ -1,5 +1,5 @@
 -- What one piece of the input is answered with.
-use Rattle.std.specs.Prelude.{◌≡◌, ◌≢◌, ℕ, List, [], ◌++◌, Option, Some, Result, Ok, Err}
+use Rattle.std.specs.Prelude.{◌≡◌, ◌≢◌, ◌≤◌, ℕ, List, [], ◌++◌, length, Option, Some, None, Result, Ok, Err}
 use Rattle.std.specs.declared.alloc.AllocError.{AllocError}
 use Rattle.zq_resp.specs.declared.reply.Reply.{Reply}
 use Rattle.zq_resp.specs.Reply.{reply_bytes}
@@ -13,7 +13,7 @@ use Rattle.zq_server.specs.declared.outcome.End.TheVariants.{Clean, Inside}
 use Rattle.zq_server.specs.declared.outcome.End.TheVariants as end
 use Rattle.zq_server.specs.declared.outcome.SessionFault.{SessionFault}
 use Rattle.zq_server.specs.declared.outcome.SessionFault.TheVariants as stop
-use Rattle.zq_server.specs.Session.{Relation, IsAnswered, IsClosed, IsStopped, IsOwed}
+use Rattle.zq_server.specs.Session.{Relation, IsAnswered, IsClosed, IsStopped, IsOwed, IsReadOff, Serves}
 
 -- One request: its reply stands behind what was there, or nothing does.
 abbrev pub AnswersOne : {S : Type 0} → Relation S → S → S → List (List ℕ) → Result (Unit {0}) AllocError → List ℕ → List ℕ → Type 0
@@ -60,3 +60,14 @@ abbrev pub EndsWith : List ℕ → End → Type 0
 EndsWith had Clean = had ≡ []
 EndsWith had Inside = had ≢ []
 EndsWith had end.Protocol = ⊥
+
+-- what was read, served until it ended, or until as many reads were made as a session makes: each brought a byte at least
+abbrev pub ServesAll : {S : Type 0} → Relation S → S → S → List ℕ → List ℕ → Result (Option End) SessionFault → Type 0
+ServesAll answers old new text bytes (Ok (Some end)) = Serves answers old new text bytes (Ok end)
+ServesAll answers old new text bytes (Ok None) = (4611686018427387904 ≤ length text) × Serves answers old new text bytes (Err stop.Read)
+ServesAll answers old new text bytes (Err fault) = Serves answers old new text bytes (Err fault)
+
+abbrev pub IsReadThrough : Result (Option End) SessionFault → Option (List ℕ) → Type 0
+IsReadThrough (Ok (Some end)) remaining = IsReadOff (Ok end) remaining
+IsReadThrough (Ok None) remaining = Unit {0}
+IsReadThrough (Err fault) remaining = Unit {0}

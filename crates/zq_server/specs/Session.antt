@@ -44,7 +44,8 @@ abbrev pub IsBegun : {S : Type 0} → Relation S → S → S → Requests → Li
 IsBegun answers old new requests bytes =
     (first others : Requests) × (unwritten : List ℕ) × (requests ≡ first ++ others) × IsAnswered answers old new first (bytes ++ unwritten)
 
--- The bytes are the replies to the first of the requests, but for at most the last reply.
+-- The bytes are the replies to the first of the requests, where memory was refused. At most one reply that was made is
+-- missing, the last one. Where none is missing, all the requests are answered.
 pub record IsStopped {S : Type 0} (answers : Relation S) (old new : S) (requests : Requests) (bytes : List ℕ) : Type 0 where
   pub first : Requests
   pub others : Requests
@@ -53,7 +54,27 @@ pub record IsStopped {S : Type 0} (answers : Relation S) (old new : S) (requests
   pub unwritten : List Reply
   pub runs : Runs answers old first (replies ++ unwritten) new
   pub at_most_one : length unwritten ≤ 1
+  pub all_else : unwritten ≡ [] → others ≡ []
   pub written : bytes ≡ all_bytes replies
+
+-- Memory was refused for what the last read brought. All that ended before that read is answered and written.
+pub record IsRefused {S : Type 0} (answers : Relation S) (old new : S) (text bytes : List ℕ) : Type 0 where
+  pub before : List ℕ
+  pub piece : List ℕ
+  pub text_is : text ≡ before ++ piece
+  pub one_read : length piece ≤ 65536
+  pub all : Requests
+  pub had : List ℕ
+  pub splits : Splits before all had
+  pub mid : S
+  pub written : List ℕ
+  pub answered : IsAnswered answers old mid (handed all) written
+  pub more : Requests
+  pub rest : List ℕ
+  pub reaches : Reaches (had ++ piece) more rest
+  pub last : List ℕ
+  pub stopped : IsStopped answers mid new (handed more) last
+  pub bytes_are : bytes ≡ written ++ last
 
 -- The bytes are the front of what the text is owed.
 abbrev pub IsOwed : {S : Type 0} → Relation S → S → S → List ℕ → List ℕ → Type 0
@@ -71,8 +92,7 @@ Serves answers old new text bytes (Ok Protocol) =
 Serves answers old new text bytes (Err Read) =
     (all : Requests) × (rest : List ℕ) × Splits text all rest × IsAnswered answers old new (handed all) bytes
 Serves answers old new text bytes (Err Write) = IsOwed answers old new text bytes
-Serves answers old new text bytes (Err NoMemory) =
-    (all : Requests) × (rest : List ℕ) × Reaches text all rest × IsStopped answers old new (handed all) bytes
+Serves answers old new text bytes (Err NoMemory) = IsRefused answers old new text bytes
 
 -- An end that is no fault of the protocol comes where the reader has no more.
 abbrev pub IsReadOff : Result End SessionFault → Option (List ℕ) → Type 0

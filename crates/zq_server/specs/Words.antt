@@ -59,8 +59,8 @@ abbrev pub is_zero : ℕ → Bool
 is_zero b = b == 48
 
 -- the text of a score or an increment: a point, where there is one, has one or more zeros after it and nothing else
-abbrev pub score_of : Word → Option ℤ
-score_of text = if list_any is_point text && not (are_all is_zero (after_first is_point text)) then None else if_passes is_in_range (integer_of (before_first is_point text))
+abbrev pub written_score : Word → Option ℤ
+written_score text = if list_any is_point text && not (are_all is_zero (after_first is_point text)) then None else if_passes is_in_range (integer_of (before_first is_point text))
 
 -- where a bound lies
 pub data Limit : Type 0 where
@@ -77,7 +77,7 @@ abbrev pub limit_of : Word → Option Limit
 limit_of text =
     if is text (codes "-inf") then Some Lowest else
     if is text (codes "+inf") || is text (codes "inf") then Some Highest else
-    option_map At (score_of text)
+    option_map At (written_score text)
 
 abbrev pub bound_of : Word → Option Bound
 bound_of text =

@@ -13,6 +13,8 @@ mod plain_tests;
 mod refused;
 mod replies;
 mod serving;
+#[cfg(test)]
+mod session_tests;
 mod stream;
 #[cfg(test)]
 mod tests;

@@ -48,7 +48,7 @@ pub fn put_pairs(
     count_reply(added)
 }
 
-// One for a member that was not there, else none.
+/// One for a member that was not there, else none.
 fn put_one(
     shard: &mut Shard,
     alloc: Global,
@@ -113,7 +113,7 @@ pub fn drop_members(
     count_reply(removed)
 }
 
-// One for a member that was there, else none.
+/// One for a member that was there, else none.
 fn drop_one(
     shard: &mut Shard,
     alloc: Global,

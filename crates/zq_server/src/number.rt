@@ -4,7 +4,7 @@ ghost use Rattle.std.specs.Prelude.{◌-◌, ◌^◌, ◌&&◌, min, not, codes,
 ghost use Rattle.std.specs.List.{list_all, list_any, before_first, after_first};
 ghost use Rattle.std.specs.Char.{is_ascii_digit};
 ghost use Rattle.std.specs.Option.{option_map};
-ghost use Rattle.zq_server.specs.Words.{begins, if_passes, are_all, number_of, without_sign, integer_of, is_in_range, is_point, is_zero, score_of};
+ghost use Rattle.zq_server.specs.Words.{begins, if_passes, are_all, number_of, without_sign, integer_of, is_in_range, is_point, is_zero, written_score};
 
 const GREATEST: u64 = 9_007_199_254_740_992;
 
@@ -12,12 +12,12 @@ const GREATEST: u64 = 9_007_199_254_740_992;
 /// one or more zeros behind it. `None` for another text, and for a number whose amount is above
 /// 9,007,199,254,740,992.
 pub fn parse_score(text: &[u8]) -> Option<i64>
-    ensures { result ≡ score_of text.now }
+    ensures { result ≡ written_score text.now }
 {
     parse_in_range(whole_part(text)?)
 }
 
-// The text before the point, or all of it where there is none.
+/// The text before the point, or all of it where there is none.
 fn whole_part(text: &[u8]) -> Option<&[u8]>
     ensures { option_map (λ part. part.now) result ≡
         (if list_any is_point text.now && not (are_all is_zero (after_first is_point text.now)) then None else Some (before_first is_point text.now)) }
@@ -85,7 +85,7 @@ fn digits_of(text: &[u8]) -> &[u8]
     }
 }
 
-// The number that the digits write, or 2^64 - 1 where it is greater.
+/// The number that the digits write, or 2^64 - 1 where it is greater.
 fn amount_of(digits: &[u8]) -> u64
     ensures { result ≡ min (number_of digits.now) (2 ^ 64 - 1) }
 {
@@ -111,6 +111,7 @@ mod tests {
             Some(-9_007_199_254_740_992)
         );
         assert_eq!(rt; parse_score(b"9007199254740993"), None);
+        assert_eq!(rt; parse_score(b"-9223372036854775808"), None);
         assert_eq!(rt; parse_score(b"99999999999999999999999"), None);
         assert_eq!(rt; parse_score(b"1.5"), None);
         assert_eq!(rt; parse_score(b"1."), None);

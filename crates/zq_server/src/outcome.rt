@@ -10,8 +10,8 @@ pub enum End {
     Clean,
     /// The input ended inside a request.
     Inside,
-    /// The input went on with bytes that begin no request, or with a request past the limits, and the
-    /// error for it was written.
+    /// The input went on with bytes that begin no request, or with a request past the limits. The error
+    /// for it was written.
     Protocol,
 }
 

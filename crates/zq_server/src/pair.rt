@@ -2,7 +2,7 @@
 
 ghost use Rattle.std.specs.Prelude.{◌≡◌, map, Some, IfOk, IsTrue};
 ghost use Rattle.std.specs.Option.{is_some, option_map};
-ghost use Rattle.zq_server.specs.Words.{score_of};
+ghost use Rattle.zq_server.specs.Words.{written_score};
 ghost use Rattle.zq_server.specs.Command.{pairs_of};
 ghost use Rattle.zq_server.specs.Shown.{views, pair_shown};
 
@@ -18,8 +18,8 @@ pub struct Pair<'a> {
 
 impl<'a> Pair<'a> {
     fn read(score: &[u8], member: &'a [u8]) -> Option<Self>
-        ensures shown { option_map pair_shown result ≡ option_map (λ score. (score, member.now)) (score_of score.now) }
-        ensures is_read { is_some result ≡ is_some (score_of score.now) }
+        ensures shown { option_map pair_shown result ≡ option_map (λ score. (score, member.now)) (written_score score.now) }
+        ensures is_read { is_some result ≡ is_some (written_score score.now) }
     {
         let score = parse_score(score)?;
         Some(Pair { score, member })

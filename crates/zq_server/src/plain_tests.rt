@@ -4,7 +4,7 @@ use crate::{Plain, session, status};
 use std::alloc::Global;
 use std::test::Fail;
 
-// The bytes of requests, of which each line has one, its words between spaces.
+/// The bytes of requests, of which each line has one, its words between spaces.
 fn stream(alloc: Global, lines: &[&str]) -> Result<Vec<u8>, Fail> {
     let mut bytes = Vec::new(alloc);
     for line in lines {
@@ -23,7 +23,7 @@ fn push_request(alloc: Global, bytes: &mut Vec<u8>, line: &str) -> Result<(), Fa
     Ok(())
 }
 
-// The status of the session, and what was written.
+/// The status of the session, and what was written.
 fn answers(rt: &HostRuntime, lines: &[&str]) -> Result<(u8, Vec<u8>), Fail> {
     let asked = stream(rt.alloc(), lines)?;
     let mut written = Vec::new(rt.alloc());
@@ -91,6 +91,9 @@ fn a_member_is_removed_once(rt: HostRuntime) -> Result<(), Fail> {
     )?;
     assert_eq!(rt; ended, 0);
     assert_eq!(rt; written.as_slice(), b":1\r\n:1\r\n:0\r\n$-1\r\n".as_slice());
+    let (ended, written) = answers(&rt, &["ZADD q 1 a 2 b", "ZREM q a a", "ZCARD q"])?;
+    assert_eq!(rt; ended, 0);
+    assert_eq!(rt; written.as_slice(), b":2\r\n:1\r\n:1\r\n".as_slice());
     Ok(())
 }
 
@@ -101,6 +104,7 @@ fn what_is_no_command_is_refused(rt: HostRuntime) -> Result<(), Fail> {
         &[
             "NOPE",
             "ZADD q 1",
+            "ZADD q NX",
             "ZADD q NX 1 a",
             "ZADD q 1 a 2",
             "ZCARD q",
@@ -109,7 +113,7 @@ fn what_is_no_command_is_refused(rt: HostRuntime) -> Result<(), Fail> {
     assert_eq!(rt; ended, 0);
     assert_eq!(rt;
         written.as_slice(),
-        b"-ERR unknown command\r\n-ERR wrong number of arguments\r\n-ERR syntax error\r\n-ERR syntax error\r\n:0\r\n".as_slice()
+        b"-ERR unknown command\r\n-ERR wrong number of arguments\r\n-ERR wrong number of arguments\r\n-ERR syntax error\r\n-ERR syntax error\r\n:0\r\n".as_slice()
     );
     Ok(())
 }

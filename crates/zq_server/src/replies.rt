@@ -44,7 +44,7 @@ pub fn score_reply(alloc: Global, score: Option<i128>) -> Reply
     }
 }
 
-// The text, and an error where there was no memory for it.
+/// The text, and an error where there was no memory for it.
 fn text_reply(text: Result<Vec<u8>, AllocError>) -> Reply
     ensures text { IfOk text (λ text. reply_bytes result ≡ bulk text.items) }
     ensures refused { OnErr text (reply_bytes result ≡ plan.cut_reply (codes "OOM after") 0) }

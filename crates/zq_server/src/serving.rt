@@ -1,4 +1,4 @@
-//! What one piece of the input asks, answered.
+//! Answers to the requests of one piece of the input.
 
 ghost use Rattle.std.specs.Prelude.{◌≡◌, ◌++◌, OnOk, OnErr, [], IsTrue, List, ℕ, Some};
 ghost use Rattle.zq_resp.specs.Reply.{is_writable};
@@ -28,8 +28,9 @@ pub enum Served {
 }
 
 /// Answers the requests that end in a piece, and puts the replies' bytes into `out`, in place of what
-/// was there; after a protocol fault also the words that close the session. Where memory is refused,
-/// `out` has the replies to the first of the requests.
+/// was there. After a protocol fault the error that closes the session follows them. Where memory is
+/// refused, `out` has the replies to the first of the requests: at most one reply that was made is
+/// missing, and the requests after that one are not answered.
 pub fn serve_piece<A: Answers>(
     alloc: Global,
     answerer: &mut A,

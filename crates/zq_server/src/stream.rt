@@ -1,9 +1,9 @@
 //! A session over any reader and writer.
 
-ghost use Rattle.std.specs.Prelude.{◌≡◌, ◌<◌, List, ℕ, Some, length};
+ghost use Rattle.std.specs.Prelude.{◌≡◌, ◌<◌, ◌≤◌, List, ℕ, Some, length};
 ghost use Rattle.std.specs.Io.KnownBytes.{Appends, Consumes};
 ghost use Rattle.zq_server.specs.Session.{Serves, IsReadOff};
-ghost use Rattle.zq_server.specs.Serving.{GoesOn, EndsWith};
+ghost use Rattle.zq_server.specs.Serving.{GoesOn, EndsWith, IsReadThrough, ServesAll};
 
 use crate::outcome::{End, SessionFault};
 use crate::serving::{Answers, Served, serve_piece};
@@ -16,14 +16,17 @@ const READS: u64 = 4_611_686_018_427_387_904;
 const PIECE: usize = 65_536;
 
 /// Answers the requests of the input, in order. The replies to the requests of one read are written
-/// before the next.
+/// before the next read.
 ///
-/// Input that ends after a request, or before the first, is `Clean`, and input that ends in a request
-/// `Inside`. Bytes that begin no request, and a request past the limits, are answered by
-/// `-ERR Protocol error`, once, and the session ends with `Protocol`. After a fault of the reader all
-/// replies to what was read are written, and after one of the writer their front. Where memory is
-/// refused, the replies to the first requests are written, but for at most the last of these replies;
-/// the other requests are not answered.
+/// - `Clean`: the input ended after a request, or before the first.
+/// - `Inside`: the input ended inside a request.
+/// - `Protocol`: the input went on with bytes that begin no request, or with a request past the limits.
+///   `-ERR Protocol error` was written for it, once.
+/// - `Read`: all replies to what was read are written.
+/// - `Write`: the first of the bytes that were due are written, up to where the writer failed.
+/// - `NoMemory`: the requests that ended before the last read are answered, and the replies written. Of
+///   those that ended in the last read, the first are answered. All their replies are written, but for
+///   at most the last one. No error is written.
 pub fn session<A: Answers, R: Read, W: Write>(
     alloc: Global,
     answerer: &mut A,
@@ -39,29 +42,34 @@ pub fn session<A: Answers, R: Read, W: Write>(
     let Ok(mut buffer) = vec![in alloc; 0u8; PIECE] else {
         return Err(SessionFault::NoMemory);
     };
-    serve_all(alloc, answerer, reader, writer, &mut buffer)
+    match serve_all(alloc, answerer, reader, writer, &mut buffer)? {
+        Some(end) => Ok(end),
+        None => Err(SessionFault::Read),
+    }
 }
 
+/// How the input ended, or `None` where it did not end within `READS` reads.
 fn serve_all<A: Answers, R: Read, W: Write>(
     alloc: Global,
     answerer: &mut A,
     reader: &mut R,
     writer: &mut W,
     buffer: &mut [u8],
-) -> Result<End, SessionFault>
-    requires { 0 < length buffer.old }
+) -> Result<Option<End>, SessionFault>
+    requires some { 0 < length buffer.old }
+    requires one_read { length buffer.old ≤ 65536 }
     ensures serves { (text written : List ℕ)
         × Consumes (R.remaining reader.old) (R.remaining reader.new) text
         × Appends (W.contents writer.old) (W.contents writer.new) written
-        × Serves A.answers answerer.old answerer.new text written result }
-    ensures read_off { IsReadOff result (R.remaining reader.new) }
+        × ServesAll A.answers answerer.old answerer.new text written result }
+    ensures read_through { IsReadThrough result (R.remaining reader.new) }
 {
     let mut input = zq_resp::Reader::new();
     let mut out = Vec::new(alloc);
-    for _ in 0..READS {
+    for _read in 0..READS {
         let count = read_some(reader, buffer)?;
         if count == 0 {
-            return Ok(end_of(&input));
+            return Ok(Some(end_of(&input)));
         }
         let served = write_replies(
             alloc,
@@ -73,13 +81,13 @@ fn serve_all<A: Answers, R: Read, W: Write>(
         )?;
         match served {
             Served::More => {}
-            Served::Broken => return Ok(End::Protocol),
+            Served::Broken => return Ok(Some(End::Protocol)),
         }
     }
-    Err(SessionFault::Read)
+    Ok(None)
 }
 
-// Where the input ends with what was kept of it.
+/// How the input ends: inside a request, where some bytes of one are kept.
 fn end_of(input: &zq_resp::Reader) -> End
     ensures { (had : List ℕ) → input.now ≡ Some had → EndsWith had result }
 {
@@ -90,7 +98,7 @@ fn end_of(input: &zq_resp::Reader) -> End
     }
 }
 
-// Answers the requests that end in a piece, and writes the replies.
+/// Answers the requests that end in a piece, and writes the replies.
 fn write_replies<A: Answers, W: Write>(
     alloc: Global,
     answerer: &mut A,

@@ -5,33 +5,45 @@ ghost use Rattle.std.specs.Prelude.{List, codes, ℕ, ◌≡◌, ◌⊎◌};
 ghost use Rattle.std.specs.Io.KnownBytes.{Appends, Consumes, IsAtEnd};
 ghost use Rattle.zq_server.specs.Piped.{IsPiped};
 
-use std::alloc::Global;
-use std::io::{Read, Write};
+use std::alloc::{AllocError, Global};
+use std::env::Env;
+use std::io::{ErrorKind, Read, Write};
 use std::process::ExitCode;
 use std::{env, io};
 use zq_server::{Plain, session, status};
 
-/// The status where the words of the command line are no command of the program.
+/// The status where the command line names no command of the program.
 const USAGE: u8 = 3;
 
 /// The status where a device or memory failed.
 const DEVICE: u8 = 4;
 
+/// What the program is asked to do.
+#[derive(Clone, Copy, Debug, PartialEq, Eq)]
+enum Command {
+    Pipe,
+}
+
 fn main(rt: HostRuntime) -> ExitCode {
-    let code = match words(&rt) {
-        Some(words) => match words.as_slice() {
-            [_, command] if command.as_str() == "pipe" => {
-                pipe(rt.alloc(), &mut rt.reader(), &mut io::writer(&rt))
-            }
-            _ => usage(&mut io::writer(&rt)),
-        },
-        None => DEVICE,
+    let code = match asked(&rt) {
+        Ok(Some(Command::Pipe)) => pipe(rt.alloc(), &mut rt.reader(), &mut io::writer(&rt)),
+        Ok(None) => usage(&mut io::writer(&rt)),
+        Err(AllocError) => DEVICE,
     };
     ExitCode::from(code)
 }
 
-fn words(rt: &HostRuntime) -> Option<Vec<String>> {
-    env::args(rt).ok()?.collect::<Vec<String>>(rt.alloc()).ok()
+/// The command that the command line names: `None` where its words name none, or one of them is not UTF-8.
+fn asked<R: Env + Alloc<A = Global>>(rt: &R) -> Result<Option<Command>, AllocError> {
+    let words = match env::args(rt) {
+        Ok(words) => words.collect::<Vec<String>>(rt.alloc())?,
+        Err(error) if error.kind() == ErrorKind::InvalidData => return Ok(None),
+        Err(_) => return Err(AllocError),
+    };
+    Ok(match words.as_slice() {
+        [_, word] if word.as_str() == "pipe" => Some(Command::Pipe),
+        _ => None,
+    })
 }
 
 /// Serves one heap, which begins with no keys, to the reader and the writer, and answers the
@@ -48,7 +60,7 @@ fn pipe<R: Read, W: Write>(alloc: Global, reader: &mut R, writer: &mut W) -> u8
     status(&ended)
 }
 
-/// Says how the program is called.
+/// Writes the line that says how the program is called.
 fn usage<W: Write>(writer: &mut W) -> u8
     ensures said { result ≡ USAGE → Appends (W.contents writer.old) (W.contents writer.new) (codes "zqueue: usage\n") }
     ensures status { (result ≡ USAGE) ⊎ (result ≡ DEVICE) }
@@ -62,6 +74,48 @@ fn usage<W: Write>(writer: &mut W) -> u8
 #[cfg(test)]
 mod tests {
     use super::*;
+    use std::env::FillError;
+
+    // A command line of these words.
+    #[derive(Drop)]
+    struct Line<'a> {
+        words: &'a [&'a [u8]],
+    }
+
+    impl Env for Line<'_> {
+        fn arg(&self, at: usize, out: &mut [u8]) -> Result<usize, FillError> {
+            let Some(word) = self.words.get(at) else {
+                return Err(FillError::NotPresent);
+            };
+            if word.len() > out.len() {
+                return Err(FillError::TooLong);
+            }
+            out[..word.len()].copy_from_slice(word);
+            Ok(word.len())
+        }
+
+        fn var(&self, _name: &str, _out: &mut [u8]) -> Result<usize, FillError> {
+            Err(FillError::NotPresent)
+        }
+
+        fn var_at(&self, _at: usize, _out: &mut [u8]) -> Result<usize, FillError> {
+            Err(FillError::NotPresent)
+        }
+    }
+
+    #[test]
+    fn one_word_alone_is_a_command(rt: HostRuntime) {
+        let rows: [(&[&[u8]], Option<Command>); 5] = [
+            (&[b"zqueue", b"pipe"], Some(Command::Pipe)),
+            (&[b"zqueue"], None),
+            (&[b"zqueue", b"PIPE"], None),
+            (&[b"zqueue", b"pipe", b"pipe"], None),
+            (&[b"zqueue", b"pi\xffpe"], None),
+        ];
+        for (words, command) in rows {
+            assert_eq!(rt; asked(&(Line { words }, rt.alloc())), Ok(command));
+        }
+    }
 
     #[test]
     fn other_words_are_told_the_usage(rt: HostRuntime) {

@@ -5,7 +5,7 @@ ghost use Rattle.zq_resp.specs.Line.{IsLine, LineStep};
 use crate::fault::FeedFault;
 use crate::reader::progress::Progress;
 
-/// What has come of a number on a line of its own: `0`, or digits of which the first is not `0`, then CR LF.
+/// A number on a line of its own, as far as it has been read: `0`, or digits of which the first is not `0`, then CR LF.
 #[derive(Clone, Copy, Debug, PartialEq, Eq)]
 pub enum Line {
     /// Nothing.
@@ -17,7 +17,7 @@ pub enum Line {
 }
 
 impl Line {
-    /// Reads one byte more. A number above the limit is too long at the digit that makes it so.
+    /// Reads one byte more. The digit that makes a number above the limit is answered `TooLong`.
     pub fn step(self, limit: usize, byte: u8) -> Result<Progress<Line, usize>, FeedFault>
         requires low { 9 ≤ limit }
         requires high { limit < 2 ^ 32 }

@@ -3,7 +3,7 @@ ghost use Rattle.zq_resp.specs.Null.{NullStep};
 use crate::fault::FeedFault;
 use crate::reader::progress::Progress;
 
-/// What has come of `-1` CR LF, which stands for the count of a request of no words.
+/// `-1` CR LF, the second spelling of a count of no words, as far as it has been read.
 #[derive(Clone, Copy, Debug, PartialEq, Eq)]
 pub enum Null {
     /// The minus.

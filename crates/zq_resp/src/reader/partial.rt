@@ -14,7 +14,7 @@ use std::alloc::Global;
 
 const MOST_WORDS: usize = 65_536;
 
-/// What has come of a request: `*`, the count of its words on a line, the words.
+/// A request, as far as it has been read: `*`, the count of its words on a line, the words.
 #[derive(Drop)]
 pub enum Partial {
     /// Nothing.
@@ -75,7 +75,7 @@ impl Partial {
     }
 }
 
-// a count of one digit at once where its line is all there, else the first byte
+/// A count of one digit is read at once where its line is all there; otherwise the first byte is read.
 fn start(alloc: Global, bytes: &[u8]) -> Result<(Progress<Partial, Vec<Vec<u8>>>, usize), FeedFault>
     requires { 0 < length bytes.now }
     ensures taken { IfOk result (IsStep bytes.now) }
@@ -100,7 +100,7 @@ fn count(alloc: Global, line: Line, byte: u8) -> Result<Progress<Partial, Vec<Ve
     plain_count(alloc, line, byte)
 }
 
-// a count that does not begin with a minus
+/// The next byte of a count that does not begin with a minus.
 fn plain_count(
     alloc: Global,
     line: Line,

@@ -1,4 +1,4 @@
-/// How far the bytes so far have come.
+/// What the bytes so far make.
 #[derive(Drop)]
 pub enum Progress<P, T> {
     /// Less than the whole.

@@ -19,7 +19,7 @@ pub fn short_count(bytes: &[u8]) -> Option<usize>
 }
 
 /// A word that stands whole at the front, with a length of one or two digits, and how many bytes its
-/// spelling takes. `None` says nothing: the word may be longer, unfinished or wrong.
+/// spelling takes. `None` leaves open whether the word is longer, unfinished or wrong.
 pub fn short_word(bytes: &[u8]) -> Option<(&[u8], usize)>
     ensures taken { IfSome result (λ x. IsStep bytes.now x) }
     ensures small { IfSome result (λ x. IsWord x.0.now) }
@@ -38,7 +38,7 @@ pub fn short_word(bytes: &[u8]) -> Option<(&[u8], usize)>
     word_behind(bytes, 5, first * 10 + (bytes[2] - b'0') as usize)
 }
 
-// the word of this size behind its line, with CR LF after it
+/// The word of this size behind its line, with CR LF after it.
 fn word_behind(bytes: &[u8], start: usize, size: usize) -> Option<(&[u8], usize)>
     requires start { start ≤ 5 }
     requires size { size ≤ 99 }

@@ -13,7 +13,7 @@ use std::alloc::Global;
 
 const LONGEST_REQUEST: usize = 16_777_216;
 
-/// What has come of a request, and how many bytes that is: within the limit of a request.
+/// A request, as far as it has been read, and how many bytes that is: at most the limit of a request.
 #[derive(Drop)]
 pub struct Unfinished {
     pub partial: Partial,
@@ -40,8 +40,8 @@ impl Unfinished {
         self.size > 0
     }
 
-    /// Reads on until the request ends or the bytes do, and answers how many bytes that took. A byte past
-    /// the limit of a request is too long.
+    /// Reads on until the request ends or the bytes do, and answers how many bytes that took. The first byte
+    /// past the limit of a request is answered `TooLong`.
     fn read(
         self,
         alloc: Global,
@@ -67,7 +67,7 @@ impl Unfinished {
     }
 }
 
-/// Reads a piece: the requests that end in it are added, and what has come of the next is answered.
+/// Reads a piece. Adds the requests that end in it, and answers the one that does not end in it.
 pub fn read_on(
     alloc: Global,
     unfinished: Unfinished,

@@ -1,4 +1,4 @@
-ghost use Rattle.std.specs.Prelude.{◌<◌, ℕ, List, [], ◌∷◌, length, IfOk, IfErr};
+ghost use Rattle.std.specs.Prelude.{◌≡◌, ◌<◌, ℕ, List, [], ◌∷◌, ◌++◌, length, IfOk, IfErr};
 ghost use Rattle.zq_resp.specs.declared.reader.word.Word.TheVariants as word;
 ghost use Rattle.zq_resp.specs.Suspended.{Fails, Goes, IsStep};
 ghost use Rattle.zq_resp.specs.Line.{IsLine};
@@ -8,19 +8,22 @@ use crate::fault::FeedFault;
 use crate::reader::line::Line;
 use crate::reader::progress::Progress;
 use crate::reader::short::short_word;
-use std::alloc::Global;
+use bytes::BytesMut;
+use std::alloc::{AllocError, Global};
 
 const LONGEST_WORD: usize = 1_048_576;
 
-/// What has come of a word: `$`, its length on a line, its bytes, CR LF.
+/// A word, as far as it has been read: `$`, its length on a line, its bytes, CR LF.
 #[derive(Drop)]
 pub enum Word {
     /// Nothing.
     Start,
     /// `$`, and this much of the length's line.
     Length(Line),
-    /// The length's line, and the first of the bytes, or all of them.
-    Body(Vec<u8>, usize),
+    /// The length's line.
+    Sized(usize),
+    /// The length's line, and those of the bytes that earlier pieces had: the first of them, or all.
+    Cut(Box<BytesMut>, usize),
     /// The bytes, and CR.
     Ended(Vec<u8>),
 }
@@ -39,8 +42,9 @@ impl Word {
     {
         match self {
             Word::Start => start(alloc, bytes),
-            Word::Length(line) => Ok((Progress::More(sized(alloc, line, bytes[0])?), 1)),
-            Word::Body(begun, size) => fill(begun, size, bytes),
+            Word::Length(line) => Ok((Progress::More(sized(line, bytes[0])?), 1)),
+            Word::Sized(size) => body(alloc, size, bytes),
+            Word::Cut(begun, size) => fill(alloc, begun, size, bytes),
             Word::Ended(word) => {
                 if bytes[0] != b'\n' {
                     return Err(FeedFault::Protocol);
@@ -51,7 +55,7 @@ impl Word {
     }
 }
 
-// a whole word at once where it is short and all there, else its first byte
+/// A short word is read at once where it is all there; otherwise its first byte is read.
 fn start(alloc: Global, bytes: &[u8]) -> Result<(Progress<Word, Vec<u8>>, usize), FeedFault>
     requires { 0 < length bytes.now }
     ensures taken { IfOk result (IsStep bytes.now) }
@@ -66,37 +70,70 @@ fn start(alloc: Global, bytes: &[u8]) -> Result<(Progress<Word, Vec<u8>>, usize)
     Ok((Progress::More(Word::Length(Line::Start)), 1))
 }
 
-fn sized(alloc: Global, line: Line, byte: u8) -> Result<Word, FeedFault>
+fn sized(line: Line, byte: u8) -> Result<Word, FeedFault>
     requires { IsLine 1048576 line }
     ensures ok { IfOk result (λ w. IsPart w × Goes part_text part_resume (word.Length line) w (byte ∷ [])) }
     ensures err { IfErr result (λ e. (more : List ℕ) → Fails e (part_resume (word.Length line) (byte ∷ more))) }
 {
     match line.step(LONGEST_WORD, byte)? {
         Progress::More(line) => Ok(Word::Length(line)),
-        Progress::Whole(length) => Ok(Word::Body(Vec::new(alloc), length)),
+        Progress::Whole(length) => Ok(Word::Sized(length)),
     }
 }
 
-// the word's missing bytes, as many as are there; behind the last of them CR
-fn fill(
-    begun: Vec<u8>,
+/// A word's bytes and CR. Where they are all there they are copied once, from the piece. Where the piece ends before the
+/// CR, what there is of the bytes goes to a buffer. It makes room for what has come, never for the declared length.
+fn body(
+    alloc: Global,
     size: usize,
     bytes: &[u8],
 ) -> Result<(Progress<Word, Vec<u8>>, usize), FeedFault>
     requires some { 0 < length bytes.now }
-    requires is { IsPart (word.Body begun size) }
+    requires is { IsPart (word.Sized size) }
     ensures taken { IfOk result (IsStep bytes.now) }
-    ensures step { WordStep (word.Body begun size) bytes.now result }
+    ensures step { WordStep (word.Sized size) bytes.now result }
 {
-    let mut begun = begun;
-    let missing = size - begun.len();
-    if missing == 0 {
-        if bytes[0] != b'\r' {
-            return Err(FeedFault::Protocol);
-        }
-        return Ok((Progress::More(Word::Ended(begun)), 1));
+    if bytes.len() <= size {
+        let begun = Box::new(alloc, BytesMut::copy_from_slice(alloc, bytes)?)?;
+        return Ok((Progress::More(Word::Cut(begun, size)), bytes.len()));
     }
-    let taken = missing.min(bytes.len());
-    begun.extend_from_slice(&bytes[..taken])?;
-    Ok((Progress::More(Word::Body(begun, size)), taken))
+    if bytes[size] != b'\r' {
+        return Err(FeedFault::Protocol);
+    }
+    let word = Vec::from_slice(alloc, &bytes[..size])?;
+    Ok((Progress::More(Word::Ended(word)), size + 1))
+}
+
+/// The bytes that are missing behind those of the buffer, and CR.
+fn fill(
+    alloc: Global,
+    begun: Box<BytesMut>,
+    size: usize,
+    bytes: &[u8],
+) -> Result<(Progress<Word, Vec<u8>>, usize), FeedFault>
+    requires some { 0 < length bytes.now }
+    requires is { IsPart (word.Cut begun size) }
+    ensures taken { IfOk result (IsStep bytes.now) }
+    ensures step { WordStep (word.Cut begun size) bytes.now result }
+{
+    let missing = size - begun.len();
+    if bytes.len() <= missing {
+        let mut begun = begun;
+        begun.extend_from_slice(bytes)?;
+        return Ok((Progress::More(Word::Cut(begun, size)), bytes.len()));
+    }
+    if bytes[missing] != b'\r' {
+        return Err(FeedFault::Protocol);
+    }
+    let word = join(alloc, begun.as_slice(), &bytes[..missing])?;
+    Ok((Progress::More(Word::Ended(word)), missing + 1))
+}
+
+fn join(alloc: Global, front: &[u8], back: &[u8]) -> Result<Vec<u8>, AllocError>
+    ensures { IfOk result (λ word. word.items ≡ front.now ++ back.now) }
+{
+    let mut word = Vec::with_capacity(alloc, front.len().saturating_add(back.len()))?;
+    word.extend_from_slice(front)?;
+    word.extend_from_slice(back)?;
+    Ok(word)
 }

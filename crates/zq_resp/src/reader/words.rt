@@ -8,10 +8,10 @@ use crate::reader::progress::Progress;
 use crate::reader::word::Word;
 use std::alloc::Global;
 
-/// What has come of the words of a request whose count is known: one of them at least is not whole.
+/// The words of a request whose count is known, as far as they have been read: one at least is not whole.
 #[derive(Drop)]
 pub struct Words {
-    /// The words that ended.
+    /// The words that are whole.
     pub found: Vec<Vec<u8>>,
     /// The word after those.
     pub next: Word,
@@ -20,7 +20,7 @@ pub struct Words {
 }
 
 impl Words {
-    /// Nothing of so many words, unless there are none.
+    /// So many words of which nothing has been read: `Whole` where there are none.
     pub fn new(alloc: Global, count: usize) -> Progress<Words, Vec<Vec<u8>>>
         requires { count ≤ 65536 }
         ensures { BeginsWords count result }

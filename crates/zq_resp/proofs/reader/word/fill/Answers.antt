@@ -1,19 +1,41 @@
-use Rattle.std.proofs.Common.{◌≤◌, ◌-◌, ◌≡◌, ◌++◌, length, take, ap, arith, rules}
-use Rattle.std.proofs.lemmas.List.{length-take, length-append}
-use Rattle.zq_resp.proofs.Words.{word_full, word_fills}
-use Rattle.zq_resp.proofs.Pieces.{one_byte}
+use Rattle.std.proofs.Common.{◌≤◌, ◌+◌, ◌-◌, ◌∷◌, [], ◌∙◌, ◌≡◌, ◌++◌, length, get_or, take, ap, arith}
+use Rattle.std.proofs.Math.Seq.{take-length}
+use Rattle.std.proofs.lemmas.List.{length-append, length-take, take_more}
+use Rattle.std.specs.Box.{with_value}
+use Rattle.zq_resp.proofs.Words.{cut_ends, cut_grows, rest_breaks}
 use Rattle.zq_resp.proofs.reader.word.fill.Goals as goal
 
-pub returns-then-missing-eq0-clause-step : goal.returns-then-missing-eq0-clause-step
-returns-then-missing-eq0-clause-step c =
+pub returns-then-bytes-missing-clause-step : goal.returns-then-bytes-missing-clause-step
+returns-then-bytes-missing-clause-step c =
     let begun = c.args.begun in
-    (omega (arith, begun.ok.0), word_full begun c.args.size _ (omega (arith, begun.ok.0)) (one_byte c.args.bytes.now 13 (omega arith) (omega arith)))
+    let grown = with_value begun c.extend_from_slice.new.self in
+    let bytes = c.args.bytes.now in
+    let has : c.len.result ≡ length begun.value.items = c.len.ensures.value ∙ ap (λ b. length b.items) c.deref.ensures in
+    let grows : grown.value.items ≡ begun.value.items ++ bytes = c.in_ok-extend_from_slice.ensures.ok ∙ ap (λ b. b.items ++ bytes) c.deref_mut.ensures.value in
+    let fits : length bytes ≤ c.args.size - length begun.value.items = omega (arith, has, c.if-bytes-missing.true) in (
+      (omega (arith, length-append begun.value.items bytes, ap length grows, fits, c.requires.is.0), c.requires.is.1),
+      rw (take-length bytes) (cut_grows begun grown c.args.size bytes grows fits),
+    )
+
+pub returns-then-bytes-missing-ne13-clause-step : goal.returns-then-bytes-missing-ne13-clause-step
+returns-then-bytes-missing-ne13-clause-step c = λ more.
+    let begun = c.args.begun in
+    let bytes = c.args.bytes.now in
+    let has : c.len.result ≡ length begun.value.items = c.len.ensures.value ∙ ap (λ b. length b.items) c.deref.ensures in
+    rest_breaks begun.value.items c.args.size bytes more (omega (arith, has))
+    (λ is. c.if-bytes-missing-ne13.true (ap (λ n. get_or bytes (c.args.size - n) 0) has ∙ is))
 
 pub returns-clause-step : goal.returns-clause-step
 returns-clause-step c =
     let begun = c.args.begun in
-    let grown = c.extend_from_slice.new.self in
-    let taken = take c.min-taken.result c.args.bytes.now in
-    let fits : length taken ≤ c.args.size - length begun.items = simp length-take (omega (arith, begun.ok.0)) in
-    let grows : grown.items ≡ begun.items ++ taken = search rules in
-    ((omega (arith, length-append begun.items taken, ap length grows), omega arith), word_fills begun grown c.args.size taken grows fits)
+    let bytes = c.args.bytes.now in
+    let missing = c.args.size - c.len.result in
+    let part = take missing bytes in
+    let has : c.len.result ≡ length begun.value.items = c.len.ensures.value ∙ ap (λ b. length b.items) c.deref.ensures in
+    let front : c.as_slice.result.now ≡ begun.value.items = c.as_slice.ensures ∙ ap (λ b. b.items) c.deref-2.ensures in
+    let full : length part ≡ c.args.size - length begun.value.items = simp length-take (omega (arith, has)) in
+    let is : c.in_ok-word.word.items ≡ begun.value.items ++ part = c.in_ok-word.ensures ∙ ap (λ front. front ++ part) front in (
+      omega (arith, length-append begun.value.items part, ap length is, full),
+      cut_ends begun c.in_ok-word.word c.args.size part (take (missing + 1) bytes) is (omega arith) full
+          (take_more bytes missing 0 (omega arith) ∙ ap (λ b. part ++ b ∷ []) (omega arith)),
+    )
