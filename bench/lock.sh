@@ -1,7 +1,16 @@
 #!/usr/bin/env bash
-# Lockings a second of the ticket lock and of a Mutex, by 1, 2 and 4 threads, in one run. Usage: bench/lock.sh [COUNT]
+# Lockings a second of the ticket lock and of a Mutex, by 1, 2, 4, 16 and 64 threads, with nothing done under the lock and
+# with about half a microsecond of work: on all processors, and then on one. After that how evenly 64 threads share each
+# lock in ten seconds. Usage: bench/lock.sh [MILLISECONDS of each rate]
 set -euo pipefail
 root=$(cd "$(dirname "$0")/.." && pwd)
 rt=$("$root/tools/find-rt")
+time=${1:-1000}
 cd "$root/crates/lock_bench"
-exec "$rt" run -- "${1:-1000000}"
+"$rt" run >/dev/null 2>&1 || "$rt" run # proves and builds it, and where that fails shows why
+echo "$(nproc) processors"
+out/lock_bench rates "$time"
+echo "one processor"
+taskset -c 0 out/lock_bench rates "$time"
+echo "64 threads, nothing inside, ten seconds"
+out/lock_bench spread 10000

@@ -1,10 +1,10 @@
-use crate::worker::Worker;
+use crate::worker::{Worker, worked};
 use std::sync::{Mutex, Wait};
 
 impl Worker for &Mutex<u64> {
-    fn lock_once<R: Wait>(self, rt: &R) -> Option<Self> {
+    fn lock_once<R: Wait>(self, rt: &R, work: u32) -> Option<Self> {
         let mut held = self.lock(rt);
-        *held = held.wrapping_add(1);
+        *held = worked(held.wrapping_add(1), work);
         Some(self)
     }
 

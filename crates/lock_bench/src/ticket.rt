@@ -1,7 +1,7 @@
 ghost use Rattle.std.specs.Prelude.{◌≡◌};
 ghost use Rattle.zq_ticketlock.specs.Seats.{id_of, lock_of};
 
-use crate::worker::Worker;
+use crate::worker::{Worker, worked};
 use std::sync::Wait;
 use zq_ticketlock::{Keeps, Seat, TicketLock};
 
@@ -29,14 +29,14 @@ pub struct Seated<'a> {
 }
 
 impl<'a> Worker for Seated<'a> {
-    fn lock_once<R: Wait>(self, rt: &R) -> Option<Self> {
+    fn lock_once<R: Wait>(self, rt: &R, work: u32) -> Option<Self> {
         let Seated { lock, seat } = self;
         let mut held = match lock.lock(rt, seat) {
             Ok(held) => held,
             Err(_) => return None,
         };
         let total = held.value_mut();
-        total.count = total.count.wrapping_add(1);
+        total.count = worked(total.count.wrapping_add(1), work);
         let seat = lock.unlock(held);
         Some(Seated { lock, seat })
     }

@@ -6,18 +6,12 @@ ghost use Rattle.zq_ticketlock.specs.Steps.{FollowsSeen};
 use crate::errors::{TryFault, Worn};
 use crate::held::Held;
 use crate::keeps::Keeps;
-use crate::lock::{LAST_TICKET, SERVING, TicketLock};
+use crate::lock::{LAST_TICKET, TicketLock};
 use crate::seat::{Seat, Ticket};
-use std::hint::spin_loop;
 use std::sync::Wait;
-use std::sync::atomic::Ordering::SeqCst;
-
-// How often a thread with a ticket looks before each sleep. That takes about as long as a sleeper takes to wake up: with
-// far fewer looks, one that sleeps has all behind it asleep before it is served.
-const SPINS: u32 = 400;
 
 impl<T: Keeps> TicketLock<T> {
-    // Draws a ticket.
+    /// Draws a ticket, after a wait at the door where it is crowded.
     fn draw_next<R: Wait>(&self, rt: &R, mut seat: Seat<T>) -> Result<Ticket<T>, (Worn, Seat<T>)>
         requires own { lock_of seat ≡ id_of self.now }
         ensures drawn { IfOk result (λ ticket. (ticket_lock ticket ≡ lock_of seat) × (ticket_seen ticket ≡ seen seat)) }
@@ -25,6 +19,10 @@ impl<T: Keeps> TicketLock<T> {
         ensures last { IfErr result (λ e. LAST_TICKET ≤ reached e.1) }
     {
         let mut next = self.look(&mut seat);
+        if self.is_crowded(next) {
+            self.wait_at_door(rt);
+            next = self.look(&mut seat);
+        }
         for _ in rt.forever() {
             if next >= LAST_TICKET {
                 return Err((Worn, seat));
@@ -40,51 +38,8 @@ impl<T: Keeps> TicketLock<T> {
         unreachable!()
     }
 
-    // Looks until the ticket is served, and sleeps after every [`SPINS`] looks.
-    fn wait_for<R: Wait>(&self, rt: &R, mut ticket: Ticket<T>) -> Held<T>
-        requires own { ticket_lock ticket ≡ id_of self.now }
-        ensures lock { held_lock result ≡ ticket_lock ticket }
-        ensures holds { T.holds (value_of result) }
-        ensures follows { FollowsSeen T.follows (value_of result) (ticket_seen ticket) }
-        ensures given { given result ≡ Some (value_of result) }
-    {
-        let mut spins = SPINS;
-        for _ in rt.forever() {
-            match self.arrive(ticket) {
-                Ok(held) => return held,
-                Err((serving, back)) => {
-                    ticket = back;
-                    if spins > 0 {
-                        spins -= 1;
-                        spin_loop();
-                    } else {
-                        self.sleep_while(rt, serving);
-                        spins = SPINS;
-                    }
-                }
-            }
-        }
-        unreachable!()
-    }
-
-    // Sleeps while this ticket is served. It may also wake for no reason.
-    // A thread that releases between the two calls changes the word, and then `park` returns.
-    fn sleep_while<R: Wait>(&self, rt: &R, serving: u64) {
-        self.sleepers.fetch_add(1, SeqCst);
-        self.table
-            .shared
-            .park(rt, SERVING, (serving % (1 << 32)) as u32);
-        self.sleepers.fetch_sub(1, SeqCst);
-    }
-
-    // Wakes those who sleep, for whom the word has changed.
-    fn wake(&self) {
-        if self.sleepers.load(SeqCst) > 0 {
-            self.table.shared.wake_all(SERVING);
-        }
-    }
-
-    /// Waits until the seat is served, and takes the value out. It follows what the seat had seen.
+    /// Waits until the seat is served, and takes the value out. It follows what the seat had seen. Seats are served in
+    /// the order of their tickets, which a thread may draw only after a wait at the door.
     /// Where the lock's tickets are used up, the seat comes back: it has found that the last one was reached.
     pub fn lock<R: Wait>(&self, rt: &R, seat: Seat<T>) -> Result<Held<T>, (Worn, Seat<T>)>
         requires own { lock_of seat ≡ id_of self.now }
@@ -95,8 +50,14 @@ impl<T: Keeps> TicketLock<T> {
         ensures worn { IfErr result (λ e. (lock_of e.1 ≡ lock_of seat) × (seen e.1 ≡ seen seat)) }
         ensures last { IfErr result (λ e. LAST_TICKET ≤ reached e.1) }
     {
-        let ticket = self.draw_next(rt, seat)?;
-        Ok(self.wait_for(rt, ticket))
+        match self.draw_next(rt, seat) {
+            Ok(ticket) => Ok(self.wait_for(rt, ticket)),
+            Err(refused) => {
+                // A thread that was called in and draws no ticket calls the next one, since it will not release.
+                self.door.call();
+                Err(refused)
+            }
+        }
     }
 
     /// Lets two seats meet, and locks with the first. The value follows what either had seen.
@@ -124,9 +85,9 @@ impl<T: Keeps> TicketLock<T> {
         }
     }
 
-    /// Takes the value out if nobody has drawn the ticket that is served. It waits for nobody.
-    /// Or else the seat comes back: worn where it found the last ticket served, and else busy, where it found that the
-    /// one that is served was drawn.
+    /// Takes the value out if nobody holds the lock or waits with a ticket. It never sleeps, nor waits at the door.
+    /// Or else the seat comes back: worn where it found that all tickets were served, and else busy, where it found that
+    /// somebody else had drawn the ticket which is served.
     pub fn try_lock(&self, mut seat: Seat<T>) -> Result<Held<T>, (TryFault, Seat<T>)>
         requires own { lock_of seat ≡ id_of self.now }
         ensures lock { IfOk result (λ held. held_lock held ≡ lock_of seat) }
@@ -147,7 +108,7 @@ impl<T: Keeps> TicketLock<T> {
         }
     }
 
-    /// Puts the value home, and wakes those who wait. The seat has then seen it.
+    /// Puts the value home, and lets the next thread have it. The seat has then seen it.
     pub fn unlock(&self, held: Held<T>) -> Seat<T>
         requires own { held_lock held ≡ id_of self.now }
         requires holds { T.holds (value_of held) }
@@ -155,8 +116,10 @@ impl<T: Keeps> TicketLock<T> {
         ensures lock { lock_of result ≡ held_lock held }
         ensures seen { seen result ≡ Some (value_of held) }
     {
+        let next_turn = held.ticket + 1;
         let seat = self.release(held);
         self.wake();
+        self.look_at_door(next_turn);
         seat
     }
 }

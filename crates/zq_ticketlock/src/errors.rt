@@ -9,8 +9,8 @@ pub struct Worn;
 /// Why a lock was not taken at once.
 #[derive(Clone, Copy, PartialEq, Eq, Debug, Drop)]
 pub enum TryFault {
-    /// The lock's tickets are used up: it serves its last one.
+    /// The lock's tickets are used up, and all were served.
     Worn,
-    /// Somebody has drawn the ticket that was served.
+    /// Somebody else has drawn the ticket that is served: the lock is held, or was let go just now.
     Busy,
 }

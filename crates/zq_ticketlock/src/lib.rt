@@ -13,11 +13,16 @@
 //! - a *release* is a store to `serving`, by which a holder puts the value home;
 //! - a *split* makes two seats of one, and a *join* one of two.
 //!
-//! A thread that waits looks a few times, and then sleeps until a release wakes it. Nothing is proved of how long it
-//! waits, nor that it is served.
+//! A thread with a ticket looks a few hundred times, and then sleeps until a release wakes it. Where two tickets are out,
+//! a thread that comes sleeps at a *door* before it draws its own, until it is called in. So the lock serves threads in
+//! the order of their tickets, and not in the order in which they called: at the door there is none, though whoever waits
+//! there is mostly called in first come, first served. `try_lock` passes by the door and never sleeps.
+//!
+//! Nothing is proved of how long a thread waits, nor that it is served.
 #![tactic(auto)]
 
 mod calls;
+mod door;
 mod errors;
 mod held;
 mod keeps;
@@ -26,6 +31,7 @@ mod order;
 mod seat;
 mod steps;
 mod view;
+mod waiting;
 
 pub use errors::{NoMemory, TryFault, Worn};
 pub use held::Held;

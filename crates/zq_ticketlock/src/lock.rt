@@ -1,5 +1,6 @@
 ghost use Rattle.std.specs.Prelude.{◌≡◌, Some, [], ◌∷◌};
 
+use crate::door::Door;
 use crate::errors::NoMemory;
 use crate::keeps::Keeps;
 use crate::order::{Opening, TicketOrder};
@@ -19,12 +20,15 @@ pub(crate) const SERVING: usize = 0;
 /// The word that says which ticket is drawn next.
 pub(crate) const NEXT: usize = 1;
 
-/// A lock that serves its seats in the order in which they drew their tickets.
+/// A lock that serves its seats in the order in which they drew their tickets. Before it draws one, a thread may wait
+/// at the door, where no order is kept.
 #[derive(Drop)]
 pub struct TicketLock<T: Keeps> {
     pub(crate) table: Table<Option<T>, View<T>, Opening<T>, TicketOrder, Global>,
-    // How many threads may be asleep. It saves a lock that nobody waits for the call that wakes.
+    // How many threads with a ticket may be asleep. It saves a lock that nobody waits for the call that wakes.
     pub(crate) sleepers: AtomicU64,
+    // Where threads wait that have no ticket yet.
+    pub(crate) door: Door,
     ghost sized: { (table.shared.table_id.words ≡ 2) × (table.shared.table_id.slots ≡ 1) },
 }
 
@@ -63,15 +67,19 @@ impl<T: Keeps> TicketLock<T> {
         slots.push_reserved(Some(value));
         match Table::new(alloc, &[ticket, ticket], slots, &opening) {
             Ok((table, place)) => {
-                let sleepers = AtomicU64::new(0);
-                Ok((TicketLock { table, sleepers }, Seat { place }))
+                let lock = TicketLock {
+                    table,
+                    sleepers: AtomicU64::new(0),
+                    door: Door::new(),
+                };
+                Ok((lock, Seat { place }))
             }
             Err(Refused { slots }) => Err((NoMemory, only(slots))),
         }
     }
 }
 
-// The one value of a table that was not made.
+/// The one value of a table that was not made.
 fn only<T>(mut slots: Vec<Option<T>>) -> T
     requires { (x : T) × (slots.items ≡ Some x ∷ []) }
     ensures { slots.items ≡ Some result ∷ [] }

@@ -1,15 +1,12 @@
-//! Threads that push numbers under a lock.
+//! Ways to push numbers under a lock, alone and in a crowd.
 ghost use Rattle.std.specs.Prelude.{◌≡◌, IfSome, MatchResult};
 ghost use Rattle.zq_ticketlock.specs.Seats.{id_of, lock_of};
 
-use super::numbers::Numbers;
+use super::numbers::{Numbers, lock_after_both};
 use crate::{Seat, TicketLock, TryFault, Worn};
 use std::sync::Wait;
-use std::thread::{Threads, join};
 
-type Pair = (Seat<Numbers>, Seat<Numbers>);
-
-// Pushes a number, if memory allows it.
+/// Pushes a number, if memory allows it.
 pub fn push<R: Wait>(
     rt: &R,
     lock: &TicketLock<Numbers>,
@@ -24,7 +21,7 @@ pub fn push<R: Wait>(
     Ok(lock.unlock(held))
 }
 
-// The same, without waiting.
+/// The same, without waiting.
 pub fn try_push(
     lock: &TicketLock<Numbers>,
     seat: Seat<Numbers>,
@@ -38,7 +35,23 @@ pub fn try_push(
     Ok(lock.unlock(held))
 }
 
-// Pushes a number, and says how another seat that tries meanwhile is refused.
+/// The same, after two seats have met.
+pub fn push_after<R: Wait>(
+    rt: &R,
+    lock: &TicketLock<Numbers>,
+    first: Seat<Numbers>,
+    second: Seat<Numbers>,
+    number: u64,
+) -> Option<(Seat<Numbers>, Seat<Numbers>)>
+    requires { (lock_of first ≡ id_of lock.now) × (lock_of second ≡ id_of lock.now) }
+    ensures { IfSome result (λ seats. (lock_of seats.0 ≡ id_of lock.now) × (lock_of seats.1 ≡ id_of lock.now)) }
+{
+    let (mut held, second) = lock_after_both(rt, lock, first, second).ok()?;
+    let _ = held.value_mut().push(number);
+    Some((lock.unlock(held), second))
+}
+
+/// Pushes a number, and says how another seat that tries meanwhile is refused.
 pub fn holds_while_asked<R: Wait>(
     rt: &R,
     lock: &TicketLock<Numbers>,
@@ -61,7 +74,51 @@ pub fn holds_while_asked<R: Wait>(
     Some((fault, lock.unlock(held), second))
 }
 
-// Pushes as many numbers, each under a locking of its own.
+// How a turn takes the lock.
+#[derive(Clone, Copy)]
+pub enum Way {
+    Lock,
+    // `try_lock`, and `lock` where that is refused.
+    Try,
+    // With one half of the seat. Then the halves are joined.
+    Half,
+    // With both halves, by `lock_after`.
+    After,
+}
+
+pub const WAYS: [Way; 4] = [Way::Lock, Way::Try, Way::Half, Way::After];
+
+/// Pushes a number in one of the ways.
+pub fn push_by<R: Wait>(
+    rt: &R,
+    lock: &TicketLock<Numbers>,
+    seat: Seat<Numbers>,
+    way: Way,
+    number: u64,
+) -> Option<Seat<Numbers>>
+    requires { lock_of seat ≡ id_of lock.now }
+    ensures { IfSome result (λ seat. lock_of seat ≡ id_of lock.now) }
+{
+    match way {
+        Way::Lock => push(rt, lock, seat, number).ok(),
+        Way::Try => match try_push(lock, seat, number) {
+            Ok(seat) => Some(seat),
+            Err((_, seat)) => push(rt, lock, seat, number).ok(),
+        },
+        Way::Half => {
+            let (one, other) = lock.split(seat);
+            let one = push(rt, lock, one, number).ok()?;
+            Some(lock.join(one, other))
+        }
+        Way::After => {
+            let (one, other) = lock.split(seat);
+            let (one, other) = push_after(rt, lock, one, other, number)?;
+            Some(lock.join(one, other))
+        }
+    }
+}
+
+/// Pushes so many numbers from this one on, each under a locking of its own, in each way in turn.
 pub fn push_all<R: Wait>(
     rt: &R,
     lock: &TicketLock<Numbers>,
@@ -73,58 +130,7 @@ pub fn push_all<R: Wait>(
     ensures { IfSome result (λ seat. lock_of seat ≡ id_of lock.now) }
 {
     for i in 0..count {
-        seat = push(rt, lock, seat, from.wrapping_add(i)).ok()?;
+        seat = push_by(rt, lock, seat, WAYS[(i % 4) as usize], from.wrapping_add(i))?;
     }
     Some(seat)
-}
-
-// Two threads push as many numbers each, from seats of their own.
-pub fn push_in_two<R: Threads + Wait + Sync>(
-    rt: &R,
-    lock: &TicketLock<Numbers>,
-    seat: Seat<Numbers>,
-    from: u64,
-    count: u64,
-) -> Option<Pair>
-    requires { lock_of seat ≡ id_of lock.now }
-    ensures { IfSome result (λ seats. (lock_of seats.0 ≡ id_of lock.now) × (lock_of seats.1 ≡ id_of lock.now)) }
-{
-    let (first, second) = lock.split(seat);
-    let (first, second) = join(
-        rt,
-        move || -> Option<Seat<Numbers>>
-            requires { lock_of first ≡ id_of lock.now }
-            ensures { IfSome result (λ seat. lock_of seat ≡ id_of lock.entry.now) }
-        { push_all(rt, lock, first, from, count) },
-        move || -> Option<Seat<Numbers>>
-            requires { lock_of second ≡ id_of lock.now }
-            ensures { IfSome result (λ seat. lock_of seat ≡ id_of lock.entry.now) }
-        { push_all(rt, lock, second, from.wrapping_add(count), count) },
-    );
-    Some((first?, second?))
-}
-
-// Four threads push as many numbers each. Two of their seats come back.
-pub fn push_in_four<R: Threads + Wait + Sync>(
-    rt: &R,
-    lock: &TicketLock<Numbers>,
-    seat: Seat<Numbers>,
-    count: u64,
-) -> Option<Pair>
-    requires { lock_of seat ≡ id_of lock.now }
-    ensures { IfSome result (λ seats. (lock_of seats.0 ≡ id_of lock.now) × (lock_of seats.1 ≡ id_of lock.now)) }
-{
-    let (first, second) = lock.split(seat);
-    let (first, second) = join(
-        rt,
-        move || -> Option<Pair>
-            requires { lock_of first ≡ id_of lock.now }
-            ensures { IfSome result (λ seats. (lock_of seats.0 ≡ id_of lock.entry.now) × (lock_of seats.1 ≡ id_of lock.entry.now)) }
-        { push_in_two(rt, lock, first, 0, count) },
-        move || -> Option<Pair>
-            requires { lock_of second ≡ id_of lock.now }
-            ensures { IfSome result (λ seats. (lock_of seats.0 ≡ id_of lock.entry.now) × (lock_of seats.1 ≡ id_of lock.entry.now)) }
-        { push_in_two(rt, lock, second, 1000, count) },
-    );
-    Some((first?.0, second?.0))
 }
