@@ -11,7 +11,7 @@ pub record Placed : Type 0 where
   pub operation : Operation
 
 -- its numbers are in range, and its counter is the next of its site after those that it has seen
-pub record IsSound (p : Placed) : Type 0 where
+pub record IsRanged (p : Placed) : Type 0 where
   pub heaps : IsHeaps p.heaps
   pub heap : p.operation.heap < p.heaps
   pub site : p.operation.site < SITES

@@ -2,7 +2,7 @@ ghost use Rattle.std.specs.Prelude.{◌≡◌, ◌≤◌, ◌<◌, ◌+◌, IfOk
 ghost use Rattle.zq_model.specs.Operation.{IsAct};
 ghost use Rattle.zq_model.specs.Sets.{IsCounters, IsHeaps, LAST};
 ghost use Rattle.zq_dots.specs.Act.{act_of};
-ghost use Rattle.zq_dots.specs.Placed.{IsSound, LONGEST};
+ghost use Rattle.zq_dots.specs.Placed.{IsRanged, LONGEST};
 
 use crate::act::Act;
 use crate::dot::Dot;
@@ -27,7 +27,7 @@ pub struct Op {
 }
 
 impl Model for Op {
-    ghost use Rattle.zq_dots.specs.Placed.{Placed, IsSound};
+    ghost use Rattle.zq_dots.specs.Placed.{Placed, IsRanged};
 
     ghost Value = { Placed };
 
@@ -35,7 +35,7 @@ impl Model for Op {
 
     ghost view = { placed_of };
 
-    ghost invariant = { λ o. IsSound (placed_of o) };
+    ghost invariant = { λ o. IsRanged (placed_of o) };
 }
 
 impl Op {
@@ -57,7 +57,7 @@ impl Op {
         requires member { length member.items ≤ LONGEST }
         ensures heaps { result.heaps ≡ heaps }
         ensures operation { result.operation ≡ record { heap = heap; site = dot.site; n = dot.n; seen = seen; key = key.items; member = member.items; act = act_of act } }
-        ensures sound { IsSound result }
+        ensures sound { IsRanged result }
     {
         let _site = dot.site.value();
         let _counter = seen.get(dot.site);

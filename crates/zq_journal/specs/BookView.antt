@@ -19,7 +19,7 @@ book_of b = record {
 }
 
 -- base and state are of one heap, the records lead from the one to the other, and the numbers are in range
-pub record IsKept (b : Inside) : Type 0 where
+pub record IsBookKept (b : Inside) : Type 0 where
   pub heap : b.state.heap ≡ b.base.heap
   pub heaps : b.state.heaps ≡ b.base.heaps
   pub book : IsBook (book_of b)

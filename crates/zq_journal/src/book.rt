@@ -1,7 +1,7 @@
 ghost use Rattle.std.specs.List.{All};
 ghost use Rattle.std.specs.Prelude.{◌≡◌, ◌≢◌, ◌≤◌, ◌<◌, ◌↔◌, ◌⊎◌, IfOk, IsErrOf, IsTrue, List, OnErr, OnOk, false, length, map, not, slice_index, true};
 ghost use Rattle.zq_dots.specs.Act.{act_of};
-ghost use Rattle.zq_dots.specs.Placed.{IsSound, LONGEST};
+ghost use Rattle.zq_dots.specs.Placed.{IsRanged, LONGEST};
 ghost use Rattle.zq_history.specs.Books.{IsBook, Made, is_change_over, operations_of, recorded, touched};
 ghost use Rattle.zq_journal.specs.Answers.{IfOps, is_too_old};
 ghost use Rattle.zq_journal.specs.Books.{IsBased, IsPeer, LAST_STAMP, base_of, book_taken, opened, state_of};
@@ -48,11 +48,11 @@ impl Model for Book {
 
     ghost coded = { book_code };
 
-    ghost use Rattle.zq_journal.specs.BookView.{IsKept, book_of};
+    ghost use Rattle.zq_journal.specs.BookView.{IsBookKept, book_of};
 
     ghost view = { book_of };
 
-    ghost invariant = { IsKept };
+    ghost invariant = { IsBookKept };
 }
 
 impl Book {
@@ -143,7 +143,7 @@ impl Book {
         ensures worn { IsErrOf result MakeFault.Worn ↔ ((place.heap_of key.now member.now self.old.heaps ≡ self.old.heap) × ((slice_index self.old.state.vector site ≡ sets.LAST) ⊎ (self.old.count ≡ LAST_STAMP))) }
         ensures made { IfOk result (λ op. op ≡ next_operation (state_of self.old) site key.now member.now (act_of act)) }
         ensures placed { IfOk result (λ op. IsOfHeap (state_of self.old) op) }
-        ensures sound { IfOk result (λ op. IsSound op) }
+        ensures sound { IfOk result (λ op. IsRanged op) }
         ensures recorded { IfOk result (λ op. self.new ≡ recorded self.old stamp (Made op.operation)) }
         ensures refused { OnErr result (self.new ≡ self.old) }
     {
@@ -242,7 +242,7 @@ impl Book {
         ensures worn { IsErrOf result MakeFault.Worn ↔ ((place.heap_of key.now member.now self.now.heaps ≡ self.now.heap) × ((slice_index self.now.state.vector site ≡ sets.LAST) ⊎ (self.now.count ≡ LAST_STAMP))) }
         ensures made { IfOk result (λ op. op ≡ next_operation (state_of self.now) site key.now member.now (act_of act)) }
         ensures placed { IfOk result (λ op. IsOfHeap (state_of self.now) op) }
-        ensures sound { IfOk result (λ op. IsSound op) }
+        ensures sound { IfOk result (λ op. IsRanged op) }
         ensures room { OnOk result (self.now.count < LAST_STAMP) }
     {
         if self.count == LAST && heap_of(key, member, self.state.heaps()) == self.state.heap() {

@@ -22,8 +22,9 @@ enum Step {
     Touch(Site, u64),
     /// A site is handed the operation that was made as the nth, counted from 0, and answers so.
     Take(Site, usize, Taken),
-    /// A peer that has so many operations of site 0 is given so many at a site, or `TooOld`.
-    Given(Site, u64, Option<usize>),
+    /// A peer that has so many operations of site 0 is given those on these members, in this order,
+    /// or `TooOld`.
+    Given(Site, u64, Option<&'static [u8]>),
     /// A site's book has this stamp, this count and so many records.
     Shows(Site, u64, u64, usize),
     /// A member of the key q has this score in a site's base, and this in its state.
@@ -110,7 +111,14 @@ impl Sites {
                 assert_eq!(rt; self.take(alloc, site, op)?, answer, "step {nth}");
             }
             Step::Given(site, first, ops) => {
-                assert_eq!(rt; given(self.at(site), alloc, first)?, ops, "step {nth}");
+                let given = given(self.at(site), alloc, first)?;
+                assert_eq!(rt; given.is_some(), ops.is_some(), "step {nth}");
+                let members = given.unwrap_or(Vec::new(alloc));
+                assert_eq!(rt;
+                    members.as_slice(),
+                    ops.unwrap_or(b"".as_slice()),
+                    "step {nth}"
+                );
             }
             Step::Shows(site, stamp, count, records) => {
                 assert_eq!(rt; shown(self.at(site)), (stamp, count, records), "step {nth}");
@@ -189,9 +197,10 @@ fn take(book: &mut Book, alloc: Global, op: &Op) -> Result<Taken, Fail> {
     }
 }
 
-/// How many operations a peer is given that has the first ones of site 0, and `None` for `TooOld`.
+/// The members of the operations that a peer is given which has the first ones of site 0, and `None`
+/// for `TooOld`.
 #[tactic(auto, unfolding(zq_model::specs::Sets::LAST))]
-fn given(book: &Book, alloc: Global, first: u64) -> Result<Option<usize>, Fail> {
+fn given(book: &Book, alloc: Global, first: u64) -> Result<Option<Vec<u8>>, Fail> {
     let mut vector = Vector::new();
     if first > 9 {
         return Err(Fail::from("a counter"));
@@ -199,7 +208,13 @@ fn given(book: &Book, alloc: Global, first: u64) -> Result<Option<usize>, Fail> 
     vector.set(SiteNo::new(0).ok_or("a site")?, first);
     match book.since(alloc, &vector)? {
         Since::TooOld => Ok(None),
-        Since::Ops(ops) => Ok(Some(ops.len())),
+        Since::Ops(ops) => {
+            let mut members = Vec::new(alloc);
+            for op in &ops {
+                members.extend_from_slice(op.member())?;
+            }
+            Ok(Some(members))
+        }
     }
 }
 
@@ -225,8 +240,9 @@ fn a_peer_is_given_what_it_lacks(rt: HostRuntime) -> Result<(), Fail> {
             Step::Scores(Site::A, b'y', Some(2), Some(2)),
             Step::Put(Site::A, 1, b'z', 3),
             Step::Given(Site::A, 1, None),
-            Step::Given(Site::A, 2, Some(1)),
-            Step::Given(Site::A, 3, Some(0)),
+            Step::Given(Site::A, 2, Some(b"z")),
+            Step::Given(Site::A, 3, Some(b"")),
+            Step::Sound(Site::A),
             Step::Scores(Site::A, b'z', None, Some(3)),
         ],
     )

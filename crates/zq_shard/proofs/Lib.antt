@@ -1,10 +1,10 @@
 pub mod Outcomes
+mod Advanced
 pub mod ByBytes
 pub mod QueueSteps
 pub mod QueuesSteps
 pub mod Counts
 pub mod SetSteps
-pub mod Runs
 pub mod Copies
 pub mod EmptyQueues
 pub mod SameMaps

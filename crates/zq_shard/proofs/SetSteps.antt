@@ -1,7 +1,7 @@
 -- A heap that holds the image of a closed set, and one more operation.
 
 use Rattle.std.proofs.Common.{List, ap, inl, inr, subst, sym, ◌∙◌, ◌∷◌, ◌≡◌}
-use Rattle.zq_dots.specs.Placed.{IsSound, Placed}
+use Rattle.zq_dots.specs.Placed.{IsRanged, Placed}
 use Rattle.zq_model.proofs.Made.{making_closed, making_image, making_world}
 use Rattle.zq_model.proofs.NewOperation.{closed_after, new_has_seen}
 use Rattle.zq_model.proofs.Same.{image_of-same}
@@ -13,7 +13,7 @@ use Rattle.zq_model.specs.Operation.{Operation}
 use Rattle.zq_model.specs.Sets.{AreSame, IsHeaps, IsIn, IsMade, IsNew, IsVector, IsWorld, Known, New, taken_of, vector_of}
 use Rattle.zq_shard.specs.Shard.{HeapImage, HoldsImage, IsOfHeap}
 
-made : (s : HeapImage) (p : Placed) (S : List Operation) → IsSound p → IsOfHeap s p → p.operation.seen ≡ s.image.vector → HoldsImage s S → IsMade s.heaps S p.operation
+made : (s : HeapImage) (p : Placed) (S : List Operation) → IsRanged p → IsOfHeap s p → p.operation.seen ≡ s.image.vector → HoldsImage s S → IsMade s.heaps S p.operation
 made s p S sound here seen holds = record {
   heaps = subst IsHeaps here.heaps sound.heaps;
   act = sound.act;
@@ -31,7 +31,7 @@ stepped s t o S here same after holds is =
     after ∙ ap (image_after o) (holds.image ∙ ap (image_of S) (sym here)) ∙ sym is ∙ ap (image_of (o ∷ S)) (here ∙ sym same)
 
 -- what the site makes joins the set
-pub made_holds : (s t : HeapImage) (p : Placed) (S : List Operation) → IsSound p → IsOfHeap s p → p.operation.seen ≡ s.image.vector →
+pub made_holds : (s t : HeapImage) (p : Placed) (S : List Operation) → IsRanged p → IsOfHeap s p → p.operation.seen ≡ s.image.vector →
     t.heap ≡ s.heap → t.heaps ≡ s.heaps → t.image ≡ image_after p.operation s.image → HoldsImage s S → HoldsImage t (p.operation ∷ S)
 made_holds s t p S sound here seen heap heaps after holds =
     let is : IsMade s.heaps S p.operation = made s p S sound here seen holds in

@@ -4,4 +4,3 @@ pub mod Codes
 pub mod Shard
 pub mod ShardView
 pub mod Taken
-pub mod Runs

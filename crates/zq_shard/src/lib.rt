@@ -3,7 +3,6 @@
 #![tactic(auto)]
 
 mod faults;
-pub mod laws;
 mod queue;
 mod queues;
 mod shard;

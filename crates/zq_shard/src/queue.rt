@@ -11,7 +11,7 @@ ghost use Rattle.zq_shard.specs.Queues.{entries_at};
 use std::alloc::{AllocError, Global};
 use std::collections::BTreeMap;
 use std::marker::Model;
-use zq_dots::{Act, Op, Score};
+use zq_dots::{Act, Op, Rule, Score};
 use zq_entry::Entry;
 
 /// The members of one key with their entries. A member without additions does not stand in it.
@@ -64,7 +64,7 @@ impl Queue {
         ensures { result ≡ score_of Greatest (entry_in self.now member.now) }
     {
         match self.entries.get(member) {
-            Some(entry) => entry.score(),
+            Some(entry) => entry.score(Rule::High),
             None => None,
         }
     }
@@ -121,7 +121,7 @@ fn put(
     if let Some(entry) = entries.get_mut(member) {
         return entry.put(alloc, op.dot(), score, op.seen());
     }
-    let mut entry = Entry::new(alloc);
+    let mut entry = Entry::new();
     entry.put(alloc, op.dot(), score, op.seen())?;
     entries.insert(Vec::from_slice(alloc, member)?, entry)?;
     Ok(())

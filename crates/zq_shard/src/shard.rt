@@ -1,7 +1,7 @@
 ghost use Rattle.std.specs.Prelude.{◌≡◌, ◌≢◌, ◌≤◌, ◌<◌, ◌↔◌, ◌∷◌, IfErr, IfOk, IsOk, IsErrOf, IsTrue, List, [], OnErr, OnOk, length, slice_index, false, ◌^◌, ℤ};
 ghost use Rattle.std.specs.FinMap as map;
 ghost use Rattle.zq_dots.specs.Act.{act_of};
-ghost use Rattle.zq_dots.specs.Placed.{IsSound, LONGEST};
+ghost use Rattle.zq_dots.specs.Placed.{IsRanged, LONGEST};
 ghost use Rattle.zq_model.specs.Heaps as place;
 ghost use Rattle.zq_model.specs.Image.{empty_image, entry_at, image_after, image_of};
 ghost use Rattle.zq_model.specs.Meaning.{IsLive, IsQueue, IsScore, Scored};
@@ -151,7 +151,7 @@ impl Shard {
         ensures worn { IsErrOf result MakeFault.Worn ↔ ((place.heap_of key.now member.now self.now.heaps ≡ self.now.heap) × (slice_index self.now.image.vector site ≡ LAST)) }
         ensures made { IfOk result (λ op. op ≡ next_operation self.now site key.now member.now (act_of act)) }
         ensures placed { IfOk result (λ op. IsOfHeap self.now op) }
-        ensures sound { IfOk result (λ op. IsSound op) }
+        ensures sound { IfOk result (λ op. IsRanged op) }
     {
         if heap_of(key, member, self.heaps) != self.heap {
             return Err(MakeFault::WrongHeap);
@@ -194,7 +194,7 @@ impl Shard {
         ensures worn { IsErrOf result MakeFault.Worn ↔ ((place.heap_of key.now member.now self.old.heaps ≡ self.old.heap) × (slice_index self.old.image.vector site ≡ LAST)) }
         ensures made { IfOk result (λ op. op ≡ next_operation self.old site key.now member.now (act_of act)) }
         ensures placed { IfOk result (λ op. IsOfHeap self.old op) }
-        ensures sound { IfOk result (λ op. IsSound op) }
+        ensures sound { IfOk result (λ op. IsRanged op) }
         ensures heap { self.new.heap ≡ self.old.heap }
         ensures heaps { self.new.heaps ≡ self.old.heaps }
         ensures taken { IfOk result (λ op. self.new.image ≡ image_after op.operation self.old.image) }

@@ -14,6 +14,9 @@ turned c =
 pub loop-member-preserved-in_ok-insert : goal.loop-member-preserved-in_ok-insert
 loop-member-preserved-in_ok-insert c = turned (goal.at.loop-member-preserved-in_ok-insert c).In_ok-insert
 
+pub loop-member-preserved-in_ok-insert-2 : goal.loop-member-preserved-in_ok-insert-2
+loop-member-preserved-in_ok-insert-2 c = turned (goal.at.loop-member-preserved-in_ok-insert-2 c).In_ok-insert
+
 pub loop-member-preserved : goal.loop-member-preserved
 loop-member-preserved c = turned (goal.at.loop-member-preserved c).In_ok-insert
 

@@ -8,7 +8,7 @@ use Rattle.zq_shard.proofs.queue.Queue.score.Goals as goal
 
 pub returns-in-Some : goal.returns-in-Some
 returns-in-Some c =
-    c.score.ensures.greatest
+    c.score.ensures.preferred
     ∙ ap (score_of Greatest) (ap (λ r. unwrap_or r no_additions) c.in-Some.ensures.value ∙ sym (entry_found c.self.inside.entries.entries c.args.member.now) ∙ ap (λ q. entry_in q c.args.member.now) c.self.view_is)
 
 pub returns-in-None : goal.returns-in-None
