@@ -7,10 +7,8 @@ ghost use Rattle.zq_parts.specs.Reading as read;
 
 use crate::fault::PartFault;
 use std::alloc::AllocError;
+use zq_dots::LONGEST;
 use zq_fields::{read_bytes, read_u32, write_bytes, write_u32};
-
-// The most bytes of a key and of a member.
-const LONGEST: u32 = 1_048_576;
 
 /// Takes a key or a member, of at most 1048576 bytes.
 #[tactic(auto, unfolding(crate::specs::Reading::text_at))]
@@ -22,10 +20,11 @@ pub fn read_text<'a>(bytes: &mut &'a [u8]) -> Result<&'a [u8], PartFault>
     let Some((count, rest)) = read_u32(bytes) else {
         return Err(PartFault::Short);
     };
+    let count = count as usize;
     if count > LONGEST {
         return Err(PartFault::Length);
     }
-    let Some((text, rest)) = read_bytes(rest, count as usize) else {
+    let Some((text, rest)) = read_bytes(rest, count) else {
         return Err(PartFault::Short);
     };
     *bytes = rest;

@@ -7,35 +7,31 @@ use Rattle.zq_posheap.proofs.Linked.{read_at, some_eq}
 use Rattle.zq_posheap.proofs.Lists.{last_is, mapped_at}
 use Rattle.zq_posheap.specs.Links.{link_of}
 use Rattle.zq_posheap.specs.Moves.{shown, shown_of}
+use Rattle.zq_posheap.proofs.heap.Heap.drop_last.Given.{Over}
 use Rattle.zq_posheap.proofs.heap.Heap.drop_last.Goals as goal
-use Rattle.zq_posheap.proofs.heap.Heap.drop_last.Goals.{else-index-len, then-index-len}
+use Rattle.zq_posheap.proofs.heap.Heap.drop_last.Goals.{After-from_residual-in_err-held, else-index-len, then-index-len}
+
+-- the map has a member at the index of the last place
+never : (g : Over) (c : After-from_residual-in_err-held g) → ⊥
+never g c =
+    let heap = c.args.self.now in
+    let s = c.in_ok-index.field-0 in
+    let last = last_is heap.slots.items _ c.pop.result s c.requires.occupied heap.slots.ok.0 c.pop.ensures.value c.in_ok-index.was in
+    let rest = c.pop.ensures.rest ∙ ap (λ k. take (k - 1) heap.slots.items) heap.slots.ok.0 in
+    let gone = c.swap_remove_index in
+    not_none heap.slots.items c.pop.new.self.items heap.members.entries gone.new.self.entries c.requires.linked s last rest gone.result gone.ensures.entry gone.ensures.entries c.in_err-held.was
 
 pub returns-in_err-held-clause-still_linked : goal.returns-in_err-held-clause-still_linked
 returns-in_err-held-clause-still_linked g c =
-    let heap = c.args.self.now in
-    let s = c.in_ok-index.field-0 in
-    let last = last_is heap.slots.items _ c.pop.result s c.requires.occupied heap.slots.ok.0 c.pop.ensures.value c.in_ok-index.was in
-    let rest = c.pop.ensures.rest ∙ ap (λ k. take (k - 1) heap.slots.items) heap.slots.ok.0 in
-    let gone = c.swap_remove_index in
-    absurd (not_none heap.slots.items c.pop.new.self.items heap.members.entries gone.new.self.entries c.requires.linked s last rest gone.result gone.ensures.entry gone.ensures.entries c.in_err-held.was)
+    absurd (never g c)
 
 pub returns-in_err-held-clause-given : goal.returns-in_err-held-clause-given
 returns-in_err-held-clause-given g c =
-    let heap = c.args.self.now in
-    let s = c.in_ok-index.field-0 in
-    let last = last_is heap.slots.items _ c.pop.result s c.requires.occupied heap.slots.ok.0 c.pop.ensures.value c.in_ok-index.was in
-    let rest = c.pop.ensures.rest ∙ ap (λ k. take (k - 1) heap.slots.items) heap.slots.ok.0 in
-    let gone = c.swap_remove_index in
-    absurd (not_none heap.slots.items c.pop.new.self.items heap.members.entries gone.new.self.entries c.requires.linked s last rest gone.result gone.ensures.entry gone.ensures.entries c.in_err-held.was)
+    absurd (never g c)
 
 pub returns-in_err-held-clause-held : goal.returns-in_err-held-clause-held
 returns-in_err-held-clause-held g c =
-    let heap = c.args.self.now in
-    let s = c.in_ok-index.field-0 in
-    let last = last_is heap.slots.items _ c.pop.result s c.requires.occupied heap.slots.ok.0 c.pop.ensures.value c.in_ok-index.was in
-    let rest = c.pop.ensures.rest ∙ ap (λ k. take (k - 1) heap.slots.items) heap.slots.ok.0 in
-    let gone = c.swap_remove_index in
-    absurd (not_none heap.slots.items c.pop.new.self.items heap.members.entries gone.new.self.entries c.requires.linked s last rest gone.result gone.ensures.entry gone.ensures.entries c.in_err-held.was)
+    absurd (never g c)
 
 pub index_mut-requires : goal.index_mut-requires
 index_mut-requires g c =
