@@ -4,7 +4,7 @@ use Rattle.std.specs.Cmp.{IsTotalOrder}
 use Rattle.std.specs.Cmp.Lexicographic.{slice_cmp}
 use Rattle.std.specs.FinMap.{IsAntisymmetric, int_cmp-IsAntisymmetric, nat_cmp-IsAntisymmetric, slice_cmp-IsAntisymmetric}
 use Rattle.std.specs.List.{AllByRecursion, Contains, insert, remove}
-use Rattle.std.specs.List.Sorted.{IsStrictlySortedBy}
+use Rattle.std.specs.List.Sorted.{IsPartitionedBy, IsStrictlySortedBy}
 use Rattle.std.specs.Int.{w128}
 use Rattle.std.specs.Ordering.{int_cmp, is_eq, is_lt, nat_cmp, ordering_reverse, ordering_then}
 use Rattle.std.specs.declared.cmp.Ordering.{Ordering}
@@ -16,7 +16,7 @@ use Rattle.std.proofs.lemmas.List.{get_or-drop, get_or_append_left}
 use Rattle.std.proofs.lemmas.List.Sums.{sum_by-cons}
 use Rattle.std.proofs.lemmas.Map.Keys.{Less-from_sorted}
 use Rattle.zq_ranked.proofs.Ranks.{count_at, none_after}
-use Rattle.zq_ranked.specs.Order.{IsCut, IsRanking, Scored, goes_before, rank_of, scored_cmp}
+use Rattle.zq_ranked.specs.Order.{IsRanking, Scored, goes_before, rank_of, scored_cmp}
 
 pub scored_total : IsTotalOrder scored_cmp
 scored_total = then_total (on_total (λ x. x.0) int_cmp_total) (on_total (λ x. x.1) nat_list_cmp_total)
@@ -45,14 +45,15 @@ less_from Equal h = absurd (true≢false (sym h))
 less_from Greater h = absurd (true≢false (sym h))
 
 -- no pair goes before one that it comes after
-not_back : (x y : Scored) → scored_cmp x y ≡ Less → is_lt (scored_cmp y x) ≡ false
+pub not_back : (x y : Scored) → scored_cmp x y ≡ Less → is_lt (scored_cmp y x) ≡ false
 not_back x y h = ap is_lt (scored_total.antisymm y x ∙ ap ordering_reverse h)
 
 -- what comes before a pair that goes before another goes before that one too
 before_both : (x y t : Scored) → scored_cmp x y ≡ Less → goes_before t y ≡ true → goes_before t x ≡ true
 before_both x y t h e = ap is_lt (scored_total.trans x y t h (less_from _ e))
 
-by_order : {G : Type 0} (i j : ℕ) → (i < j → G) → (i ≡ j → G) → i ≤ j → G
+-- two numbers of which one is not above the other
+pub by_order : {G : Type 0} (i j : ℕ) → (i < j → G) → (i ≡ j → G) → i ≤ j → G
 by_order {G} i j below same h = elim (ltb i j) as (λ b. ltb i j ≡ b → G) [
   | true ↦ λ e. below (ltb-true i j e)
   | false ↦ λ e. let k : j ≤ i = ltb-false i j e in same (omega arith)
@@ -66,8 +67,8 @@ same_default (x ∷ xs) (suc k) c d h = same_default xs k c d (omega arith)
 
 module _ (xs : List Scored) (s : IsStrictlySortedBy scored_cmp xs) (t : Scored) where
   -- a list in order is cut at each pair
-  pub sorted_cut : IsCut t xs
-  sorted_cut = record { cut = λ i j d a b e. by_order i j (λ h. before_both _ _ t (Less-from_sorted scored_cmp xs i j d s h b) e) (λ h. subst (λ n. goes_before t (get_or xs n d) ≡ true) (sym h) e) a }
+  pub sorted_cut : IsPartitionedBy (goes_before t) xs
+  sorted_cut = λ i j d a b e. by_order i j (λ h. before_both _ _ t (Less-from_sorted scored_cmp xs i j d s h b) e) (λ h. subst (λ n. goes_before t (get_or xs n d) ≡ true) (sym h) e) a
 
   -- a pair stands at its rank
   pub rank_there : (k : ℕ) → k < length xs → get_or xs k t ≡ t → rank_of t xs ≡ k
@@ -112,7 +113,7 @@ sorted_insert t (x ∷ xs) s absent =
       | true ↦ λ e. subst P (sym (rank_more t x xs e)) (all_insert (λ y. scored_cmp x y ≡ Less) xs (rank_of t xs) t s.0 (less_from _ e), sorted_insert t xs s.1 (λ c. absent (suc c.0, omega (arith, c.1), c.2)))
       | false ↦ λ e.
           let first = before t x e (λ same. absent (0, omega arith, same)) in
-          let n = none_after (goes_before t) (x ∷ xs) x (sorted_cut (x ∷ xs) s t).cut e (omega arith) in
+          let n = none_after (goes_before t) (x ∷ xs) x (sorted_cut (x ∷ xs) s t) e (omega arith) in
           subst P (sym n) ((first, all_map _ _ (λ y h. scored_total.trans t x y first h) xs s.0), s)
     ] refl
 
@@ -138,7 +139,7 @@ ranked_insert xs place t x r p e absent fits =
 pub ranked_remove : (xs : List Scored) (place : ℕ) → IsRanking xs → IsRanking (remove xs place)
 ranked_remove xs place r = record { sorted = sorted_remove xs place r.sorted; in_range = all_remove (λ pair. FitsSigned w128 pair.0) xs place r.in_range }
 
-equal_from : (o : Ordering) → IsTrue (is_eq o) → o ≡ Equal
+pub equal_from : (o : Ordering) → IsTrue (is_eq o) → o ≡ Equal
 equal_from Less h = absurd (true≢false (sym h))
 equal_from Equal h = refl
 equal_from Greater h = absurd (true≢false (sym h))

@@ -1,4 +1,5 @@
 pub mod Order
+pub mod Edits
 pub mod Shape
 pub mod Falls
 pub mod Key

@@ -1,11 +1,12 @@
 -- The order of members with scores.
-use Rattle.std.specs.Prelude.{Bool, FitsSigned, List, cond, count_by, ℕ, ℤ}
+use Rattle.std.specs.Prelude.{Bool, FitsSigned, List, cond, count_by, get_or, length, ℕ, ℤ, ◌<◌, ◌≡◌}
 use Rattle.std.specs.Int.{w128}
 use Rattle.std.specs.List.{AllByRecursion}
 use Rattle.std.specs.Cmp.Lexicographic.{slice_cmp}
-use Rattle.std.specs.List.Sorted.{IsPartitionedBy, IsStrictlySortedBy}
+use Rattle.std.specs.List.Sorted.{IsStrictlySortedBy}
 use Rattle.std.specs.Ordering.{int_cmp, is_le, is_lt, nat_cmp, on, then_cmp}
 use Rattle.std.specs.declared.cmp.Ordering.{Ordering}
+use Rattle.std.specs.declared.cmp.Ordering.TheVariants.{Less}
 
 -- a member with its score
 abbrev pub Scored : Type 0
@@ -23,9 +24,13 @@ goes_before target pair = is_lt (scored_cmp pair target)
 abbrev pub rank_of : Scored → List Scored → ℕ
 rank_of target pairs = count_by (goes_before target) pairs
 
--- no pair that goes before another stands behind one that does not
-pub record IsCut (target : Scored) (pairs : List Scored) : Type 0 where
-  pub cut : IsPartitionedBy (goes_before target) pairs
+-- each of these pairs goes before another
+pub record AreBefore (target : Scored) (pairs : List Scored) : Type 0 where
+  pub each : (place : ℕ) (d : Scored) → place < length pairs → scored_cmp (get_or pairs place d) target ≡ Less
+
+-- each of these pairs goes after another
+pub record AreAfter (target : Scored) (pairs : List Scored) : Type 0 where
+  pub each : (place : ℕ) (d : Scored) → place < length pairs → scored_cmp target (get_or pairs place d) ≡ Less
 
 -- whether a pair's score is below another, or perhaps that very one
 abbrev pub is_below : ℤ → Bool → Scored → Bool

@@ -1,5 +1,5 @@
 -- What a tree of blocks is seen as, and what holds of it.
-use Rattle.std.specs.Prelude.{◌≡◌, Box, ℕ, ◌+◌, ◌<◌, ◌≤◌, max, List, Option, None, Some, [], ◌++◌, length}
+use Rattle.std.specs.Prelude.{◌≡◌, Box, ℕ, ℤ, pos, ◌+◌, ◌<◌, ◌≤◌, max, List, Option, None, Some, [], ◌∷◌, ◌++◌, length}
 use Rattle.std.specs.declared.alloc.Global.{Global}
 use Rattle.zq_ranked.specs.Order.{Scored}
 use Rattle.zq_ranked.specs.declared.fork.Fork.{Fork}
@@ -20,9 +20,26 @@ GrowsByAtMostOne old new = (old ≤ new) × (new ≤ old + 1)
 abbrev pub IsWithin : List Scored × ℕ → Type 0
 IsWithin v = v.1 ≤ length v.0
 
--- the block has pairs, the sides have no more levels than pairs, and it is known how many come before the block
+-- the score of the first pair, if there is one
+abbrev pub first_score : List Scored → ℤ
+first_score [] = pos 0
+first_score (x ∷ xs) = x.0
+
+-- the score of the last pair, if there is one
+abbrev pub last_score : List Scored → ℤ
+last_score [] = pos 0
+last_score (x ∷ []) = x.0
+last_score (x ∷ (y ∷ ys)) = last_score (y ∷ ys)
+
+-- the scores at the ends of the block are known
+pub record HasEnds (f : Fork) : Type 0 where
+  pub first : f.first ≡ first_score f.block.items
+  pub last : f.last ≡ last_score f.block.items
+
+-- the block has pairs, whose ends are known, the sides have no more levels than pairs, and it is known how many come before the block
 pub record IsCounted (f : Fork) : Type 0 where
   pub filled : 0 < length f.block.items
+  pub ends : HasEnds f
   pub before : f.before ≡ length f.left.0
   pub left : IsWithin f.left
   pub right : IsWithin f.right
@@ -44,6 +61,11 @@ pub record IsBare (f : Fork) : Type 0 where
   pub right : f.right ≡ ([], 0)
   pub before : f.before ≡ 0
   pub height : f.height ≡ 1
+
+-- the heights are the same
+pub record KeepsHeights (old new : Fork) : Type 0 where
+  pub left : new.left.1 ≡ old.left.1
+  pub right : new.right.1 ≡ old.right.1
 
 -- a fork of these pairs, whose sides had these heights before they were balanced
 pub record Balances (f : Fork) (pairs : List Scored) (l r : ℕ) : Type 0 where

@@ -1,6 +1,6 @@
 //! Rotations of forks.
 ghost use Rattle.std.specs.Prelude.{length, max, ◌+◌, ◌++◌, ◌<◌, ◌≡◌, ◌≤◌, ◌^◌};
-ghost use Rattle.zq_ranked.specs.Shape.{Balances, DifferByAtMost, IsCounted, IsFork, IsNearFork, IsWithin, pairs_of};
+ghost use Rattle.zq_ranked.specs.Shape.{Balances, DifferByAtMost, HasEnds, IsCounted, IsFork, IsNearFork, IsWithin, pairs_of};
 
 use crate::fork::Fork;
 use crate::tree::Tree;
@@ -83,6 +83,7 @@ fn raise_right(mut top: Box<Fork>) -> Box<Fork>
 /// A fork's block between other sides.
 fn join(left: Tree, before: usize, mut fork: Box<Fork>, right: Tree) -> Box<Fork>
     requires filled { 0 < length fork.value.block.items }
+    requires ends { HasEnds fork.value }
     requires before { before ≡ length left.0 }
     requires left_within { IsWithin left }
     requires right_within { IsWithin right }

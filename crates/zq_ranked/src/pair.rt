@@ -35,11 +35,21 @@ pub(crate) struct Key<'a> {
 
 impl Pair {
     /// A pair, with the member's bytes copied.
-    pub(crate) fn new(alloc: Global, score: i128, member: &[u8]) -> Result<Pair, AllocError>
-        ensures { IfOk result (λ pair. pair ≡ (score, member.now)) }
+    pub(crate) fn new(alloc: Global, key: &Key<'_>) -> Result<Pair, AllocError>
+        ensures { IfOk result (λ pair. pair ≡ pair_of_key key.now) }
     {
-        let member = SmallVec::from_slice(alloc, member)?;
-        Ok(Pair { score, member })
+        let member = SmallVec::from_slice(alloc, key.member)?;
+        Ok(Pair {
+            score: key.score,
+            member,
+        })
+    }
+
+    /// The score.
+    pub(crate) fn score(&self) -> i128
+        ensures { result ≡ self.now.0 }
+    {
+        self.score
     }
 
     /// Where this pair stands to another.

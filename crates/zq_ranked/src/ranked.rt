@@ -1,5 +1,5 @@
 //! `Ranked`.
-ghost use Rattle.std.specs.Prelude.{Contains, IfOk, IsTrue, List, OnErr, [], count_by, drop, if◌then◌else◌, insert, length, option_map, remove, reverse, slice_get, take, ◌-◌, ◌<◌, ◌≡◌, ◌≤◌, ◌↔◌};
+ghost use Rattle.std.specs.Prelude.{Contains, IfOk, IsTrue, List, OnErr, [], count_by, drop, false, if◌then◌else◌, insert, length, option_map, remove, reverse, slice_get, take, ◌-◌, ◌<◌, ◌≡◌, ◌≤◌, ◌↔◌};
 ghost use Rattle.zq_ranked.specs.Key.{lent_pair, pair_of_key};
 ghost use Rattle.zq_ranked.specs.Order.{IsRanking, is_below, rank_of};
 
@@ -96,6 +96,7 @@ impl Ranked {
     /// Puts a pair in at its place, and answers whether it was not there before. It takes memory where a block of pairs
     /// grows or is split, and for a member of more than 16 bytes. Where memory is refused, which is only for a pair that
     /// was not there, nothing changes.
+    #[tactic(auto, using(crate::proofs::Puts::ranking_put, crate::proofs::Puts::length_put))]
     pub fn insert(&mut self, score: i128, member: &[u8]) -> Result<bool, AllocError>
         ensures put { IfOk result (λ added. self.new ≡
             (if added then insert self.old (rank_of (score, member.now) self.old) (score, member.now) else self.old)) }
@@ -104,33 +105,28 @@ impl Ranked {
         ensures refused_absent { OnErr result (Contains self.old (score, member.now) → ⊥) }
     {
         let key = Key { score, member };
-        let place = self.place_of(&key);
-        if self.is_at(place, &key) {
-            return Ok(false);
-        }
         if self.len == usize::MAX {
-            return Err(AllocError);
+            return self.refuse(&key);
         }
-        let pair = Pair::new(self.alloc, score, member)?;
-        self.tree.insert(self.alloc, place, pair)?;
-        self.len += 1;
-        Ok(true)
+        let added = self.tree.insert(self.alloc, &key)?;
+        if added {
+            self.len += 1;
+        }
+        Ok(added)
     }
 
     /// Takes a pair out, and answers whether it was there. It takes no memory.
+    #[tactic(auto, using(crate::proofs::Puts::ranking_taken, crate::proofs::Puts::length_taken))]
     pub fn remove(&mut self, score: i128, member: &[u8]) -> bool
         ensures taken { self.new ≡
             (if result then remove self.old (rank_of (score, member.now) self.old) else self.old) }
         ensures present { IsTrue result ↔ Contains self.old (score, member.now) }
     {
-        let key = Key { score, member };
-        let place = self.place_of(&key);
-        if !self.is_at(place, &key) {
-            return false;
+        let taken = self.tree.remove(&Key { score, member });
+        if taken {
+            self.len -= 1;
         }
-        self.tree.remove(place);
-        self.len -= 1;
-        true
+        taken
     }
 
     /// The pairs from a place onward. A step takes constant time, but where a block of pairs ends the next is looked up
@@ -146,6 +142,17 @@ impl Ranked {
         ensures { result ≡ reverse (take place self.now) }
     {
         Backward::new(&self.tree, place.min(self.len))
+    }
+
+    /// Answers for a list that has no number for one more pair.
+    fn refuse(&self, key: &Key<'_>) -> Result<bool, AllocError>
+        ensures known { IfOk result (λ added. (added ≡ false) × Contains self.now (pair_of_key key.now)) }
+        ensures absent { OnErr result (Contains self.now (pair_of_key key.now) → ⊥) }
+    {
+        if self.is_at(self.place_of(key), key) {
+            return Ok(false);
+        }
+        Err(AllocError)
     }
 
     /// How many pairs go before one.

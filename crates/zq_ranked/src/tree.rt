@@ -1,10 +1,13 @@
 //! A list of pairs as a balanced tree of blocks.
-ghost use Rattle.std.specs.Prelude.{IfNone, IfSome, OnErr, OnOk, Some, [], drop, insert, length, remove, take, ◌+◌, ◌++◌, ◌-◌, ◌<◌, ◌≡◌, ◌≤◌, ◌^◌};
+ghost use Rattle.std.specs.Prelude.{Contains, IfNone, IfOk, IfSome, IsTrue, OnErr, Some, [], drop, length, take, ◌+◌, ◌++◌, ◌-◌, ◌<◌, ◌≡◌, ◌≤◌, ◌^◌, ◌↔◌};
+ghost use Rattle.std.specs.List.Sorted.{IsStrictlySortedBy};
+ghost use Rattle.zq_ranked.specs.Edits.{IsPut, IsTaken};
 ghost use Rattle.zq_ranked.specs.Key.{pair_of_key};
-ghost use Rattle.zq_ranked.specs.Order.{IsCut, rank_of};
-ghost use Rattle.zq_ranked.specs.Shape.{GrowsByAtMostOne, IsBare, IsFork, IsTree, IsWithin, view_of};
+ghost use Rattle.zq_ranked.specs.Order.{rank_of, scored_cmp};
+ghost use Rattle.zq_ranked.specs.Shape.{GrowsByAtMostOne, HasEnds, IsBare, IsFork, IsTree, IsWithin, view_of};
 
 use crate::balance::balanced;
+use crate::block::rank_in;
 use crate::fork::Fork;
 use crate::pair::{Key, Pair};
 use std::alloc::{AllocError, Global};
@@ -68,6 +71,13 @@ impl Tree {
         mem::replace(self, Tree::new())
     }
 
+    /// Whether there are no pairs.
+    pub(crate) fn is_empty(&self) -> bool
+        ensures { IsTrue result ↔ (length self.now.0 ≡ 0) }
+    {
+        self.root.is_none()
+    }
+
     /// How many blocks lie on the longest way down.
     pub(crate) fn height(&self) -> usize
         ensures { result ≡ self.now.1 }
@@ -119,23 +129,21 @@ impl Tree {
     }
 
     /// How many pairs go before another.
-    pub(crate) fn rank(&self, target: &Key<'_>) -> usize
-        requires cut { IsCut (pair_of_key target.now) self.now.0 }
+    pub(crate) fn rank(&self, key: &Key<'_>) -> usize
+        requires sorted { IsStrictlySortedBy scored_cmp self.now.0 }
         requires fits { length self.now.0 < 2 ^ 64 }
-        ensures { result ≡ rank_of (pair_of_key target.now) self.now.0 }
+        ensures { result ≡ rank_of (pair_of_key key.now) self.now.0 }
     {
         let Some(fork) = &self.root else {
             return 0;
         };
-        if !fork.block[0].is_before(target) {
-            return fork.left.rank(target);
+        if fork.is_left(key) {
+            return fork.left.rank(key);
         }
-        let after = fork.right.rank(target);
-        if after > 0 {
-            return fork.before + fork.block.len() + after;
+        if fork.is_right(key) {
+            return fork.before + fork.block.len() + fork.right.rank(key);
         }
-        let block = fork.block.as_slice();
-        fork.before + block.partition_point(|pair| pair.is_before(target))
+        fork.before + rank_in(fork.block.as_slice(), key)
     }
 
     /// Puts a block before all others.
@@ -176,47 +184,47 @@ impl Tree {
         Some(first)
     }
 
-    /// Puts a pair at a place. Where memory is refused the pairs stay.
+    /// Puts a pair at its place, and answers whether it was not there before. Where memory is refused the pairs stay.
     #[cycle(insert)]
-    pub(crate) fn insert(
-        &mut self,
-        alloc: Global,
-        place: usize,
-        pair: Pair,
-    ) -> Result<(), AllocError>
-        requires place { place ≤ length self.old.0 }
+    pub(crate) fn insert(&mut self, alloc: Global, key: &Key<'_>) -> Result<bool, AllocError>
+        requires sorted { IsStrictlySortedBy scored_cmp self.old.0 }
         requires fits { length self.old.0 + 1 < 2 ^ 64 }
-        ensures done { OnOk result (self.new.0 ≡ insert self.old.0 place pair) }
+        ensures put { IfOk result (λ added. IsPut (pair_of_key key.now) self.old.0 self.new.0 added) }
         ensures refused { OnErr result (self.new.0 ≡ self.old.0) }
+        ensures refused_absent { OnErr result (Contains self.old.0 (pair_of_key key.now) → ⊥) }
         ensures grows { GrowsByAtMostOne self.old.1 self.new.1 }
         ensures within { IsWithin self.new }
     {
         let Some(mut top) = self.root.take() else {
-            self.root = Some(Fork::of_one(alloc, pair)?);
-            return Ok(());
+            self.root = Some(Fork::of_one(alloc, key)?);
+            return Ok(true);
         };
-        let done = top.insert(alloc, place, pair);
-        self.root = Some(balanced(top));
-        done
+        let (added, heights) = match top.insert(alloc, key) {
+            Ok(change) => (Ok(change.pairs), change.heights),
+            Err(refused) => (Err(refused), true),
+        };
+        self.root = Some(if heights { balanced(top) } else { top });
+        added
     }
 
-    /// Takes the pair at a place out.
+    /// Takes a pair out, and answers whether it was there.
     #[cycle(remove)]
-    pub(crate) fn remove(&mut self, place: usize)
-        requires place { place < length self.old.0 }
+    pub(crate) fn remove(&mut self, key: &Key<'_>) -> bool
+        requires sorted { IsStrictlySortedBy scored_cmp self.old.0 }
         requires fits { length self.old.0 < 2 ^ 64 }
-        ensures pairs { self.new.0 ≡ remove self.old.0 place }
+        ensures taken { IsTaken (pair_of_key key.now) self.old.0 self.new.0 result }
         ensures shrinks { GrowsByAtMostOne self.new.1 self.old.1 }
         ensures within { IsWithin self.new }
     {
         let Some(mut top) = self.root.take() else {
-            unreachable!()
+            return false;
         };
-        top.remove(place);
+        let change = top.remove(key);
         if top.block.is_empty() {
             self.root = top.left.take().into_root();
-            return;
+            return change.pairs;
         }
-        self.root = Some(balanced(top));
+        self.root = Some(if change.heights { balanced(top) } else { top });
+        change.pairs
     }
 }

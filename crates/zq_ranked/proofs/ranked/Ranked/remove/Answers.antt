@@ -1,8 +1,13 @@
-use Rattle.std.proofs.Common.{arith}
-use Rattle.std.proofs.lemmas.Grind.{common_steps}
-use Rattle.zq_ranked.proofs.Sorted.{ranked_remove}
+use Rattle.std.proofs.Common.{arith, true}
+use Rattle.std.proofs.lemmas.Int.{to_z-of_z}
+use Rattle.std.specs.Int.{w128}
+use Rattle.zq_ranked.proofs.Puts.{length_taken, ranking_taken}
+use Rattle.zq_ranked.specs.Order.{Scored}
 use Rattle.zq_ranked.proofs.ranked.Ranked.remove.Goals as goal
 
 pub invariant_of-self : goal.invariant_of-self
 invariant_of-self c =
-    rw c.remove.ensures.pairs (ranked_remove c.self.inside.tree.0 c.place_of-place.result c.self.invariant.0, grind (arith, common_steps, c.self.invariant.1))
+    let xs = c.self.inside.tree.0 in
+    let t : Scored = (c.args.score, c.args.member.now) in
+    let taken = rw (to_z-of_z w128 c.args.score c.ranges.score, c.if-taken.true) at c.remove-taken.ensures.taken in
+    (ranking_taken t xs c.remove-taken.new.self.0 true c.self.invariant.0 taken, omega (arith, c.self.invariant.1, length_taken t xs c.remove-taken.new.self.0 c.self.invariant.0.sorted taken))

@@ -1,0 +1,3 @@
+/// No memory was left.
+#[derive(Clone, Copy, PartialEq, Eq, Debug, Drop)]
+pub struct NoMemory;

@@ -1,0 +1,4 @@
+pub mod Moves
+pub mod Lent
+pub mod Readings
+pub mod Merging

@@ -1,0 +1,5 @@
+pub mod Replies
+pub mod Ranges
+pub mod Plan
+pub mod Run
+pub mod Examples

@@ -1,0 +1,33 @@
+//! Commands of a priority queue, read from the words of a request (Redis command reference: sorted sets, with
+//! PING and DEL): what each asks for, or the first reason for which the words are no command, and the heaps that
+//! it works in.
+#![tactic(auto)]
+
+mod bound;
+mod command;
+mod flags;
+mod heaps;
+mod kind;
+mod name;
+mod named;
+mod number;
+mod options;
+mod pair;
+mod pairs;
+mod range;
+mod refused;
+#[cfg(test)]
+mod tests;
+mod word;
+mod zadd;
+mod zrange;
+
+pub use bound::{Bound, Limit};
+pub use command::Command;
+pub use flags::Flags;
+pub use heaps::Heaps;
+pub use kind::Kind;
+pub use pair::Pair;
+pub use pairs::Pairs;
+pub use range::{Range, Window};
+pub use refused::Refused;
