@@ -75,14 +75,6 @@ less_from Less h = refl
 less_from Equal h = absurd (true≢false (sym h))
 less_from Greater h = absurd (true≢false (sym h))
 
--- none are before any
-pub none_before : (t : Scored) (l : List Scored) → length l ≡ 0 → AreBefore t l
-none_before t l e = record { each = λ k d h. absurd (omega (arith, e, h)) }
-
--- none are after any
-pub none_after_it : (t : Scored) (l : List Scored) → length l ≡ 0 → AreAfter t l
-none_after_it t l e = record { each = λ k d h. absurd (omega (arith, e, h)) }
-
 module _ (t : Scored) (l b r : List Scored) (c : Scored) (s : IsStrictlySortedBy scored_cmp (l ++ (b ++ r))) (filled : 0 < length b) where
   seam : (d : Scored) → get_or (l ++ (b ++ r)) (length l) d ≡ get_or b 0 d
   seam d =

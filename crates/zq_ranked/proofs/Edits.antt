@@ -1,5 +1,5 @@
 -- Edits of three lists one after another.
-use Rattle.std.proofs.Common.{◌≡◌, ℕ, ◌-◌, ◌<◌, ◌≤◌, List, [], ◌∷◌, ◌++◌, length, refl, ap, ◌∙◌, arith, append_assoc}
+use Rattle.std.proofs.Common.{◌≡◌, ℕ, ◌-◌, ◌<◌, ◌≤◌, List, ◌++◌, length, refl, ap, ◌∙◌, append_assoc}
 use Rattle.std.specs.List.{insert, remove}
 use Rattle.std.proofs.lemmas.List.Edits.{insert-append_left, insert-append_right, remove-append_left, remove-append_right}
 
@@ -8,17 +8,9 @@ module _ {X : Type 0} where
   pub insert_second : (l b r : List X) (n : ℕ) (x : X) → length l ≤ n → n - length l ≤ length b → insert (l ++ (b ++ r)) n x ≡ l ++ (insert b (n - length l) x ++ r)
   insert_second l b r n x h k = insert-append_right l (b ++ r) (length l) n x refl h ∙ ap (λ p. l ++ p) (insert-append_left b r (n - length l) x k)
 
-  -- a place in the third list
-  pub insert_third : (l b r : List X) (n : ℕ) (x : X) → length l ≤ n → length b ≤ n - length l → insert (l ++ (b ++ r)) n x ≡ l ++ (b ++ insert r (n - length l - length b) x)
-  insert_third l b r n x h k = insert-append_right l (b ++ r) (length l) n x refl h ∙ ap (λ p. l ++ p) (insert-append_right b r (length b) (n - length l) x refl k)
-
   -- a place in the second list
   pub remove_second : (l b r : List X) (n : ℕ) → length l ≤ n → n - length l < length b → remove (l ++ (b ++ r)) n ≡ l ++ (remove b (n - length l) ++ r)
   remove_second l b r n h k = remove-append_right l (b ++ r) (length l) n refl h ∙ ap (λ p. l ++ p) (remove-append_left b r (n - length l) k)
-
-  -- a place in the third list
-  pub remove_third : (l b r : List X) (n : ℕ) → length l ≤ n → length b ≤ n - length l → remove (l ++ (b ++ r)) n ≡ l ++ (b ++ remove r (n - length l - length b))
-  remove_third l b r n h k = remove-append_right l (b ++ r) (length l) n refl h ∙ ap (λ p. l ++ p) (remove-append_right b r (length b) (n - length l) refl k)
 
   -- a place in the first of two lists, before a third
   pub insert_lower : (l u r : List X) (n : ℕ) (x : X) → n ≤ length l → insert (l ++ u) n x ++ r ≡ insert l n x ++ (u ++ r)
@@ -27,13 +19,3 @@ module _ {X : Type 0} where
   -- a place in the second of two lists, before a third
   pub insert_upper : (l u r : List X) (n : ℕ) (x : X) → length l ≤ n → insert (l ++ u) n x ++ r ≡ l ++ (insert u (n - length l) x ++ r)
   insert_upper l u r n x h = ap (λ p. p ++ r) (insert-append_right l u (length l) n x refl h) ∙ append_assoc l (insert u (n - length l) x) r
-
-  -- no item is left of a list of one
-  remove_single : (b : List X) (w : ℕ) → length b ≡ 1 → w ≡ 0 → remove b w ≡ []
-  remove_single [] w h e = absurd (omega (arith, h))
-  remove_single (x ∷ []) w h e = rw e refl
-  remove_single (x ∷ (y ∷ t)) w h e = absurd (omega (arith, h))
-
-  -- the only place in the second list
-  pub remove_only : (l b r : List X) (n : ℕ) → length l ≤ n → n - length l < length b → length b ≡ 1 → remove (l ++ (b ++ r)) n ≡ l ++ r
-  remove_only l b r n h k e = remove_second l b r n h k ∙ ap (λ p. l ++ (p ++ r)) (remove_single b (n - length l) e (omega arith))

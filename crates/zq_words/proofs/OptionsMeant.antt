@@ -5,7 +5,7 @@ use Rattle.std.specs.List.{list_any}
 use Rattle.std.specs.Option.{option_and_then, option_map}
 use Rattle.std.specs.Prelude.{Bool, List, None, Option, Some, [], false, length, nat_le, refl, true, ◌||◌, ◌∷◌, ◌≡◌}
 use Rattle.zq_words.proofs.Limits.{some_eq}
-use Rattle.zq_words.specs.Command.{by_score, or_else, zrange}
+use Rattle.zq_words.specs.Command.{or_else, zrange}
 use Rattle.zq_words.specs.Options.{ByScores, LimitTo, RangeOption, Rev, WithScores, is_by_scores, is_rev, is_with_scores, limit_in, limits_in, window_of}
 use Rattle.zq_words.specs.OptionsRead.{next_window, no_options, ranged, read, with_option}
 use Rattle.zq_words.specs.Words.{Word}
