@@ -1,5 +1,5 @@
 //! `PosHeap`.
-ghost use Rattle.std.specs.Prelude.{List, None, Some, IfErr, IfOk, IfSome, IsNone, IsTrue, OnErr, OnOk, [], is_some, length, option_map, slice_get, ◌+◌, ◌<◌, ◌≤◌, ◌≡◌, ◌↔◌, ℕ};
+ghost use Rattle.std.specs.Prelude.{List, None, Some, IfErr, IfOk, IfSome, IsNone, IsTrue, OnErr, OnOk, [], is_some, length, option_map, slice_get, ◌+◌, ◌<◌, ◌≤◌, ◌^◌, ◌≡◌, ◌↔◌, ℕ};
 ghost use Rattle.std.specs.FinMap.{contains_key, empty, get, insert, len as map_len, remove};
 ghost use Rattle.zq_posheap.specs.First.{IsFirst};
 ghost use Rattle.zq_posheap.specs.InOrder.{ListsInOrder};
@@ -62,7 +62,8 @@ impl<V: Drop> PosHeap<V> {
 
     /// How many members there are.
     pub fn len(&self) -> usize
-        ensures { result ≡ map_len self.now.held }
+        ensures number { result ≡ map_len self.now.held }
+        ensures small { result < 2 ^ 63 }
     {
         self.heap.members.len()
     }

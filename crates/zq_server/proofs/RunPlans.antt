@@ -1,7 +1,7 @@
 -- What a loop over the parts of a command comes to.
 
 use Rattle.std.proofs.Common.{ap, arith, inr, refl, ◌∙◌}
-use Rattle.std.specs.Prelude.{List, Some, length, slice_get, slice_index, ℕ, ◌+◌, ◌<◌, ◌≡◌}
+use Rattle.std.specs.Prelude.{List, Some, length, slice_get, slice_index, ℕ, ◌+◌, ◌<◌, ◌≡◌, ◌≢◌}
 use Rattle.zq_model.specs.Sets.{LAST}
 use Rattle.zq_server.proofs.InTurn.{StandsAfter, stands_cut, stands_next, stands_whole}
 use Rattle.zq_server.specs.Cut.{cut_text}
@@ -27,9 +27,9 @@ module _ {X : Type 0} (f : HeapImage → X → Part) (xs : List X) (s t : HeapIm
 
   -- where the part at i was refused
   pub ran_cut : (fault : MakeFault) (i : ℕ) (x : X) → StandsAfter f xs i s t counted made → slice_get xs i ≡ Some x → 0 < length (f t x).moves →
-      (fault ≡ WrongHeap → ⊥) → (fault ≡ Worn → slice_index t.image.vector SITE ≡ LAST) → (bytes : Word) → bytes ≡ cut_reply (cut_text fault) made → RunsPlan s (in_turn f xs s) t bytes
-  ran_cut WrongHeap i x here at more home last bytes is = absurd (home refl)
-  ran_cut NoMemory i x here at more home last bytes is =
-      let stands = stands_cut f xs i s t counted made here in refused made (inr (acts_left i x here at more)) stands.1 is
-  ran_cut Worn i x here at more home last bytes is =
+      (fault ≡ WrongHeap → ⊥) → (fault ≡ Worn → slice_index t.image.vector SITE ≡ LAST) → (fault ≡ NoMemory → slice_index t.image.vector SITE ≢ LAST) → (bytes : Word) → bytes ≡ cut_reply (cut_text fault) made → RunsPlan s (in_turn f xs s) t bytes
+  ran_cut WrongHeap i x here at more home last left bytes is = absurd (home refl)
+  ran_cut NoMemory i x here at more home last left bytes is =
+      let stands = stands_cut f xs i s t counted made here in refused made (inr (acts_left i x here at more, left refl)) stands.1 is
+  ran_cut Worn i x here at more home last left bytes is =
       let stands = stands_cut f xs i s t counted made here in worn made (acts_left i x here at more) stands.1 (last refl) is

@@ -1,10 +1,9 @@
 -- What each command makes of a heap, and its reply.
 
 use Rattle.zq_model.specs.Score.{score_of}
-use Rattle.std.specs.FinMap as map
 use Rattle.std.specs.Fmt.{signed_decimal}
 use Rattle.zq_model.specs.Operation as model
-use Rattle.std.specs.Prelude.{All, Bool, Err, List, None, Ok, Option, Some, [], codes, decimal, false, if◌then◌else◌, is_none, is_some, length, slice_index, take, true, ℕ, ℤ, ◌++◌, ◌+◌, ◌<◌, ◌∷◌, ◌≡◌, ◌≤◌, ◌⊎◌}
+use Rattle.std.specs.Prelude.{All, Bool, Err, List, None, Ok, Option, Some, [], codes, decimal, false, if◌then◌else◌, is_none, is_some, length, slice_index, take, true, ℕ, ℤ, ◌++◌, ◌+◌, ◌<◌, ◌∷◌, ◌≡◌, ◌≢◌, ◌≤◌, ◌⊎◌}
 use Rattle.zq_dots.specs.Placed.{LONGEST}
 use Rattle.zq_model.specs.Image.{empty_image, entry_at, image_after}
 use Rattle.zq_model.specs.Rule.{Greatest}
@@ -13,8 +12,7 @@ use Rattle.zq_resp.specs.Reply.{after_text, bulk, line, reply_bytes}
 use Rattle.zq_resp.specs.declared.reply.Reply.{Reply}
 use Rattle.zq_server.specs.Command.{Command, Ping, Reading, Refusal, Score, Syntax, Unknown, Words, Zadd, Zcard, Zrem, Zscore, command_of}
 use Rattle.zq_server.specs.Words.{Word}
-use Rattle.zq_shard.specs.Queues.{entries_at}
-use Rattle.zq_shard.specs.Shard.{HeapImage, next_operation}
+use Rattle.zq_shard.specs.Shard.{HeapImage, next_operation, queue_at}
 
 -- an act on a member of a key
 pub record Move : Type 0 where
@@ -28,11 +26,11 @@ SITE = 0
 
 -- the one heap of a server that has taken nothing
 abbrev pub no_keys : HeapImage
-no_keys = record { heap = 0; heaps = 1; image = empty_image }
+no_keys = record { heap = 0; heaps = 1; rule = Greatest; image = empty_image }
 
 -- the score of a member of a key
 abbrev pub score_in : HeapImage → Word → Word → Option ℤ
-score_in s key member = score_of Greatest (entry_at s.image.members (key, member))
+score_in s key member = score_of s.rule (entry_at s.image.members (key, member))
 
 -- the heap after the site's act
 abbrev pub after : Move → HeapImage → HeapImage
@@ -96,17 +94,17 @@ plan_of (Ping message) s = reading (ping_reply message)
 plan_of (Zadd key pairs) s = in_turn (zadd_part key) pairs s
 plan_of (Zrem key members) s = in_turn (zrem_part key) members s
 plan_of (Zscore key member) s = reading (score_reply (score_in s key member))
-plan_of (Zcard key) s = reading (number (map.len (entries_at s.image.members key)))
+plan_of (Zcard key) s = reading (number (length (queue_at s key)))
 
 -- an error with the number of the acts that stand
 abbrev pub cut_reply : Word → ℕ → Word
 cut_reply text k = 45 ∷ line (text ++ after_text (Some k))
 
--- the heap and the reply after a plan: all of it; or its first acts and not all, where memory was refused or the site's counter was at its last value;
--- or nothing, where there was no memory for the reply
+-- the heap and the reply after a plan: all of it; or its first acts and not all, where memory was refused and the site's counter was not at its last
+-- value, or where it was; or nothing, where there was no memory for the command or its reply
 pub data RunsPlan (s : HeapImage) (plan : Plan) (t : HeapImage) (reply : Word) : Type 0 where
   whole : t ≡ after_all plan.moves s → reply ≡ plan.reply → RunsPlan s plan t reply
-  refused : (k : ℕ) → (k ≡ 0) ⊎ (k < length plan.moves) → t ≡ after_all (take k plan.moves) s → reply ≡ cut_reply (codes "OOM after") k → RunsPlan s plan t reply
+  refused : (k : ℕ) → (k ≡ 0) ⊎ ((k < length plan.moves) × (slice_index t.image.vector SITE ≢ LAST)) → t ≡ after_all (take k plan.moves) s → reply ≡ cut_reply (codes "OOM after") k → RunsPlan s plan t reply
   worn : (k : ℕ) → k < length plan.moves → t ≡ after_all (take k plan.moves) s → slice_index t.image.vector SITE ≡ LAST → reply ≡ cut_reply (codes "ERR worn after") k → RunsPlan s plan t reply
 
 abbrev pub refusal_text : Refusal → Word

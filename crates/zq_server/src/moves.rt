@@ -1,6 +1,6 @@
 //! What the writing commands make, part by part.
 
-ghost use Rattle.std.specs.Prelude.{All, IfOk, IsErrOf, IsTrue, OnErr, length, map, slice_index, if◌then◌else◌, ◌<◌, ◌≡◌, ◌≤◌};
+ghost use Rattle.std.specs.Prelude.{All, IfOk, IsErrOf, IsTrue, OnErr, length, map, slice_index, if◌then◌else◌, ◌<◌, ◌≡◌, ◌≢◌, ◌≤◌};
 ghost use Rattle.std.specs.Option.{is_some};
 ghost use Rattle.zq_model.specs.Operation.{Drop as ModelDrop};
 ghost use Rattle.zq_model.specs.Sets.{LAST};
@@ -67,6 +67,7 @@ fn put_one(
     ensures unchanged { OnErr result (shard.new ≡ shard.old) }
     ensures home { IsErrOf result MakeFault.WrongHeap → ⊥ }
     ensures worn { IsErrOf result MakeFault.Worn → slice_index shard.old.image.vector 0 ≡ LAST }
+    ensures no_memory { IsErrOf result MakeFault.NoMemory → slice_index shard.old.image.vector 0 ≢ LAST }
     ensures heaps { shard.new.heaps ≡ 1 }
     ensures heap { shard.new.heap ≡ 0 }
 {
@@ -134,6 +135,7 @@ fn drop_one(
     ensures there { OnErr result (0 < length (zrem_part key.now shard.old member.now).moves) }
     ensures home { IsErrOf result MakeFault.WrongHeap → ⊥ }
     ensures worn { IsErrOf result MakeFault.Worn → slice_index shard.old.image.vector 0 ≡ LAST }
+    ensures no_memory { IsErrOf result MakeFault.NoMemory → slice_index shard.old.image.vector 0 ≢ LAST }
     ensures heaps { shard.new.heaps ≡ 1 }
     ensures heap { shard.new.heap ≡ 0 }
 {

@@ -15,7 +15,7 @@ use zq_resp::{Reply, Request};
 use zq_shard::Shard;
 
 /// A server of one site with one heap, which keeps what it is given in memory alone.
-#[derive(Debug, Drop)]
+#[derive(Drop)]
 pub struct Plain {
     site: SiteNo,
     shard: Shard,

@@ -1,12 +1,17 @@
-pub mod Outcomes
-mod Advanced
 pub mod ByBytes
-pub mod QueueSteps
-pub mod QueuesSteps
-pub mod Counts
+pub mod Members
+pub mod Gathering
+pub mod AtKeys
+pub mod Outcomes
+pub mod Looking
+pub mod Changed
 pub mod SetSteps
-pub mod Copies
-pub mod EmptyQueues
-pub mod SameMaps
-pub mod QueueLengths
 pub mod Meant
+pub mod BoundedSteps
+pub mod Joined
+pub mod Within
+pub mod SameQueues
+pub mod Blocks
+pub mod KeysInOrder
+pub mod Rowed
+pub mod SameRules

@@ -1,16 +1,25 @@
 -- A fact for one outcome of a call, from others for it.
 
 use Rattle.std.proofs.Common.{Err, Ok, Result}
-use Rattle.std.specs.Prelude.{OnErr, OnOk}
-
-pub on_ok : {X E P Q S : Type 0} (r : Result X E) → OnOk r Q → OnOk r S → (Q → S → P) → OnOk r P
-on_ok (Ok x) q s f = f q s
-on_ok (Err e) q s f = tt {0}
-
-pub on_err : {X E P Q : Type 0} (r : Result X E) → OnErr r Q → (Q → P) → OnErr r P
-on_err (Ok x) q f = tt {0}
-on_err (Err e) q f = f q
+use Rattle.std.specs.Prelude.{IfOk, OnErr, OnOk}
 
 pub if_err : {X E P : Type 0} (r : Result X E) → P → OnErr r P
 if_err (Ok x) p = tt {0}
 if_err (Err e) p = p
+
+pub ok_map : {X E P Q : Type 0} (r : Result X E) → OnOk r P → (P → Q) → OnOk r Q
+ok_map (Ok x) p f = f p
+ok_map (Err e) p f = tt {0}
+
+pub err_map : {X E P Q : Type 0} (r : Result X E) → OnErr r P → (P → Q) → OnErr r Q
+err_map (Ok x) p f = tt {0}
+err_map (Err e) p f = f p
+
+pub if_ok_map : {X E : Type 0} {P Q : X → Type 0} (r : Result X E) → IfOk r P → ((x : X) → P x → Q x) → IfOk r Q
+if_ok_map (Ok x) p f = f x p
+if_ok_map (Err e) p f = tt {0}
+
+-- what either outcome gives
+pub either : {X E P Q S : Type 0} (r : Result X E) → OnOk r P → OnErr r Q → (P → S) → (Q → S) → S
+either (Ok x) p q f g = f p
+either (Err e) p q f g = g q

@@ -1,17 +1,18 @@
 -- A heap that holds the image of a closed set, and one more operation.
 
-use Rattle.std.proofs.Common.{List, ap, inl, inr, subst, sym, ◌∙◌, ◌∷◌, ◌≡◌}
+use Rattle.std.proofs.Common.{List, [], ap, ap₂, inl, inr, subst, sym, ◌∙◌, ◌∷◌, ◌++◌, ◌≡◌}
 use Rattle.zq_dots.specs.Placed.{IsRanged, Placed}
 use Rattle.zq_model.proofs.Made.{making_closed, making_image, making_world}
 use Rattle.zq_model.proofs.NewOperation.{closed_after, new_has_seen}
 use Rattle.zq_model.proofs.Same.{image_of-same}
 use Rattle.zq_model.proofs.StepImages.{image_of-step}
 use Rattle.zq_model.proofs.Taken.{known_here, taken_known, taking_new}
-use Rattle.zq_model.proofs.Worlds.{vector_is}
-use Rattle.zq_model.specs.Image.{image_after, image_of}
+use Rattle.zq_model.proofs.Worlds.{closed_union, vector_is}
+use Rattle.zq_model.proofs.JoinImages.{join-union}
+use Rattle.zq_model.specs.Image.{empty_image, image_after, image_of, join}
 use Rattle.zq_model.specs.Operation.{Operation}
 use Rattle.zq_model.specs.Sets.{AreSame, IsHeaps, IsIn, IsMade, IsNew, IsVector, IsWorld, Known, New, taken_of, vector_of}
-use Rattle.zq_shard.specs.Shard.{HeapImage, HoldsImage, IsOfHeap}
+use Rattle.zq_shard.specs.Shard.{HeapImage, HoldsImage, IsOfHeap, IsSameHeap}
 
 made : (s : HeapImage) (p : Placed) (S : List Operation) → IsRanged p → IsOfHeap s p → p.operation.seen ≡ s.image.vector → HoldsImage s S → IsMade s.heaps S p.operation
 made s p S sound here seen holds = record {
@@ -71,3 +72,20 @@ known_holds s o S here answer holds world =
       closed = closed_after S o holds.closed (holds.closed.before o i);
       image = holds.image ∙ image_of-same s.heaps S (o ∷ S) s.heap (more_is_same o S i) holds.world;
     }
+
+-- the join has the union of the sets
+pub merged_holds : (s t u : HeapImage) (S T : List Operation) → IsSameHeap s t → u.heap ≡ s.heap → u.heaps ≡ s.heaps → u.image ≡ join s.image t.image →
+    HoldsImage s S → HoldsImage t T → IsWorld s.heaps (S ++ T) → HoldsImage u (S ++ T)
+merged_holds s t u S T same heap heaps joined first second world = record {
+  world = subst (λ K. IsWorld K (S ++ T)) (sym heaps) world;
+  closed = closed_union S T first.closed second.closed;
+  image = joined ∙ ap₂ join first.image (second.image ∙ ap (image_of T) (sym same.heap)) ∙ join-union s.heaps S T s.heap world first.closed second.closed ∙ ap (image_of (S ++ T)) (sym heap);
+}
+
+-- a heap that has taken nothing
+pub nothing_held : (s : HeapImage) → s.image ≡ empty_image → HoldsImage s []
+nothing_held s is = record {
+  world = record { each = λ o i. absurd i; one = λ o p i. absurd i };
+  closed = record { before = λ o i. absurd i };
+  image = is;
+}

@@ -1,31 +1,70 @@
--- The keys of a heap with the entries of their members.
+-- The keys of a heap with the queues of their members.
 
-use Rattle.std.specs.FinMap.{empty, find, get, keys}
-use Rattle.std.specs.Prelude.{List, Some, Vec, flat_map, map, unwrap_or, ℕ, ◌≡◌, ◌≢◌}
+use Rattle.std.specs.Coded.{Coded, code_by, coded×}
+use Rattle.std.specs.FinMap.{empty, find, get, keys, len}
+use Rattle.std.specs.Ordering.{eq_by_cmp}
+use Rattle.std.specs.Prelude.{List, None, Option, Some, Vec, flat_map, if◌then◌else◌, ◌==◌, map, refl, unwrap_or, ℕ, ◌++◌, ◌≡◌, ◌≢◌}
 use Rattle.std.specs.declared.alloc.Global.{Global}
-use Rattle.zq_model.specs.Image.{Members, Place, entry_after, entry_at, map_on, place_cmp, place_of, put_entry}
+use Rattle.zq_model.specs.Codes.{members_code}
+use Rattle.zq_model.specs.Image.{Entry, Members, Place, entry_after, entry_at, join_entry, map_on, no_additions, place_cmp, place_of, put_entry, unless_bare}
 use Rattle.zq_model.specs.Operation.{Operation}
-use Rattle.zq_shard.specs.Queue.{Entries, by_bytes, bytes_cmp}
+use Rattle.zq_model.specs.Rule.{Rule}
+use Rattle.zq_queue.specs.Codes.{rule_code}
+use Rattle.zq_queue.specs.Entries.{Entries, bytes_cmp, joined_entries}
+use Rattle.zq_queue.specs.Queued.{Queued}
+
+-- a rule, and the members of all keys with their entries
+pub record Keyed : Type 0 where
+  pub rule : Rule
+  pub members : Members
+
+abbrev pub keyed_code : Coded Keyed
+keyed_code = code_by (Rule × Members) (coded× rule_code members_code) (λ q. (q.rule, q.members)) (λ p. record { rule = p.0; members = p.1 }) (λ _. refl)
+
+-- the pairs of a map by the bytes of their keys
+abbrev pub by_bytes : {X : Type 0} → List (Vec ℕ Global × X) → List (List ℕ × X)
+by_bytes pairs = map (λ e. (e.0.items, e.1)) pairs
+
+abbrev pub entries_or_none : Option Queued → Entries
+entries_or_none None = empty
+entries_or_none (Some queue) = queue.entries
 
 -- the entries of a key, none where the key is not there
-abbrev pub queue_in : List (List ℕ × Entries) → List ℕ → Entries
-queue_in queues key = unwrap_or (find bytes_cmp key queues) empty
+abbrev pub entries_in : List (List ℕ × Queued) → List ℕ → Entries
+entries_in queues key = entries_or_none (find bytes_cmp key queues)
 
 -- the members of a key, as places
-abbrev pub places_of : (List ℕ × Entries) → List Place
-places_of queue = map (λ member. (queue.0, member)) (keys queue.1)
+abbrev pub places_of : (List ℕ × Queued) → List Place
+places_of queue = map (λ member. (queue.0, member)) (keys queue.1.entries)
 
 -- the members of all keys with their entries
-abbrev pub members_in : List (List ℕ × Entries) → Members
-members_in queues = map_on place_cmp (λ q. get (queue_in queues q.0) q.1) (flat_map places_of queues)
+abbrev pub members_in : List (List ℕ × Queued) → Members
+members_in queues = map_on place_cmp (λ q. get (entries_in queues q.0) q.1) (flat_map places_of queues)
 
 -- the members that a map of the code keeps
-abbrev pub members_of : List (Vec ℕ Global × Entries) → Members
+abbrev pub members_of : List (Vec ℕ Global × Queued) → Members
 members_of pairs = members_in (by_bytes pairs)
 
--- a key without members is not there
-abbrev pub NoneIsEmpty : List (List ℕ × Entries) → Type 0
-NoneIsEmpty queues = (key : List ℕ) (entries : Entries) → find bytes_cmp key queues ≡ Some entries → entries ≢ empty
+-- each key's queue has this rule, and a key without members is not there
+abbrev pub AreQueues : Rule → List (List ℕ × Queued) → Type 0
+AreQueues rule queues = (key : List ℕ) (queue : Queued) → find bytes_cmp key queues ≡ Some queue → (queue.rule ≡ rule) × (queue.entries ≢ empty)
+
+-- the queues are as they were, but for one key, which has this one
+abbrev pub HasAt : {X : Type 0} → List ℕ → Option X → List (List ℕ × X) → List (List ℕ × X) → Type 0
+HasAt k w old new = (q : List ℕ) → find bytes_cmp q new ≡ (if eq_by_cmp bytes_cmp q k then w else find bytes_cmp q old)
+
+-- the queue, where it has members
+abbrev pub unless_empty : Queued → Option Queued
+unless_empty queue = if len queue.entries == 0 then None else Some queue
+
+-- what f makes of a value that is there
+abbrev pub and_then : {X Y : Type 0} → (X → Option Y) → Option X → Option Y
+and_then f None = None
+and_then f (Some x) = f x
+
+-- the queue of a key of what two sides have together, where it has members
+abbrev pub queue_joined : Rule → List ℕ → List ℕ → Option Queued → Option Queued → Option Queued
+queue_joined rule u v a b = unless_empty (record { rule = rule; entries = joined_entries u v (entries_or_none a) (entries_or_none b) })
 
 -- the members of one key with their entries
 abbrev pub entries_at : Members → List ℕ → Entries
@@ -34,3 +73,11 @@ entries_at members key = map_on bytes_cmp (λ member. get members (key, member))
 -- the members after a new operation
 abbrev pub members_after : Operation → Members → Members
 members_after o members = put_entry members (place_of o) (entry_after o.act o.site o.n o.seen (entry_at members (place_of o)))
+
+-- what two sides with these vectors have together
+abbrev pub members_joined : List ℕ → List ℕ → Members → Members → Members
+members_joined u v a b = map_on place_cmp (λ q. unless_bare (join_entry u v (entry_at a q) (entry_at b q))) (keys a ++ keys b)
+
+-- an entry that a member had, without additions where it did not stand
+abbrev pub or_none : Option Entry → Entry
+or_none entry = unwrap_or entry no_additions

@@ -7,5 +7,6 @@ abbrev pub heap_image_of : Inside → HeapImage
 heap_image_of s = record {
   heap = s.heap;
   heaps = s.heaps;
-  image = record { vector = s.vector; members = s.queues };
+  rule = s.queues.rule;
+  image = record { vector = s.vector; members = s.queues.members };
 }

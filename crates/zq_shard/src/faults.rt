@@ -53,3 +53,25 @@ impl From<AllocError> for TakeFault {
         TakeFault::NoMemory
     }
 }
+
+/// Why two heaps were not merged.
+#[derive(Clone, Copy, Debug, PartialEq, Eq)]
+pub enum MergeFault {
+    /// The heap or the number of heaps is another.
+    WrongHeap,
+    /// The rule is another.
+    WrongRule,
+    /// A growth was refused.
+    NoMemory,
+}
+
+impl From<AllocError> for MergeFault {
+    ghost use Rattle.std.specs.Prelude.{◌≡◌};
+    ghost use Rattle.zq_shard.specs.declared.faults.MergeFault.{MergeFault};
+
+    ghost from_gives = { λ _ fault. fault ≡ MergeFault.NoMemory };
+
+    fn from(_error: AllocError) -> MergeFault {
+        MergeFault::NoMemory
+    }
+}

@@ -1,14 +1,21 @@
 //! One heap of a site: the image of the operations that the site has taken there, kept by making
-//! operations and by taking those of others.
+//! operations, by taking those of others and by merging what others have.
 #![tactic(auto)]
 
 mod faults;
-mod queue;
+mod joins;
+mod lending;
+mod listing;
+mod merging;
 mod queues;
+mod readings;
+mod row;
 mod shard;
+mod steps;
 mod taken;
 
-pub use faults::{MakeFault, TakeFault};
+pub use faults::{MakeFault, MergeFault, TakeFault};
+pub use row::{Row, RowRef};
 pub use shard::Shard;
 pub use taken::Taken;
 

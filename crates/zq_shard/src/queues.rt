@@ -1,137 +1,255 @@
-ghost use Rattle.std.specs.Prelude.{◌≡◌, ◌↔◌, ◌∷◌, [], length, IfOk, IsTrue, OnErr, OnOk, false, ◌<◌, ◌^◌};
+ghost use Rattle.std.specs.Prelude.{◌≡◌, ◌≢◌, ◌↔◌, ◌∷◌, [], IfNone, IfOk, IfSome, IsTrue, List, None, Some, ℕ, OnErr, OnOk, length, option_map};
 ghost use Rattle.std.specs.FinMap as map;
-ghost use Rattle.zq_model.specs.Image.{entry_at};
+ghost use Rattle.zq_dots.specs.Rule.{rule_of};
+ghost use Rattle.zq_model.specs.Image.{entry_at, is_bare, place_of, put_entry};
 ghost use Rattle.zq_model.specs.Queue.{queue_of};
-ghost use Rattle.zq_model.specs.Rule.{Greatest};
 ghost use Rattle.zq_model.specs.Score.{score_of};
-ghost use Rattle.zq_shard.specs.Queue.{by_bytes, is_bump};
-ghost use Rattle.zq_shard.specs.Queues.{NoneIsEmpty, entries_at, members_after, members_of};
+ghost use Rattle.zq_queue.specs.Entries.{HasRoomFor, bytes_cmp, entries_after, set_entry};
+ghost use Rattle.zq_queue.specs.Queued.{Queued};
+ghost use Rattle.zq_queue.specs.Listed.{listed};
+ghost use Rattle.zq_shard.specs.Queues.{AreQueues, HasAt, and_then, by_bytes, entries_at, entries_in, members_after, or_none, unless_empty};
 
-use crate::queue::Queue;
+use indexmap::IndexMap;
 use std::alloc::{AllocError, Global};
-use std::collections::BTreeMap;
 use std::marker::Model;
-use zq_dots::Op;
+use zq_dots::{Op, Rule, Vector};
+use zq_entry::Entry;
+use zq_posheap::Seeded;
+use zq_queue::Queue;
 
 /// The keys of a heap with their queues. A key without members is not there.
-#[derive(Debug, Drop)]
-pub struct Queues {
-    queues: BTreeMap<Vec<u8>, Queue>,
+#[derive(Drop)]
+pub(crate) struct Queues {
+    pub(crate) rule: Rule,
+    pub(crate) queues: IndexMap<Vec<u8>, Queue, Seeded>,
 }
 
 impl Model for Queues {
-    ghost use Rattle.zq_model.specs.Image.{Members};
-    ghost use Rattle.zq_shard.specs.Codes.{members_code};
-    ghost use Rattle.zq_shard.specs.Queue.{by_bytes};
-    ghost use Rattle.zq_shard.specs.Queues.{NoneIsEmpty, members_of};
+    ghost use Rattle.zq_dots.specs.Rule.{rule_of};
+    ghost use Rattle.zq_shard.specs.Queues.{AreQueues, Keyed, by_bytes, keyed_code, members_of};
 
-    ghost Value = { Members };
+    ghost Value = { Keyed };
 
-    ghost coded = { members_code };
+    ghost coded = { keyed_code };
 
-    ghost view = { λ q. members_of q.queues.entries };
+    ghost view = { λ q. record { rule = rule_of q.rule; members = members_of q.queues.entries } };
 
-    ghost invariant = { λ q. NoneIsEmpty (by_bytes q.queues.entries) };
+    ghost invariant = { λ q. AreQueues (rule_of q.rule) (by_bytes q.queues.entries) };
 }
 
 impl Queues {
-    /// No keys.
-    pub fn new(alloc: Global) -> Queues
-        ensures { result ≡ map.empty }
+    /// No keys. Keys and members will be placed by the hasher.
+    pub fn new(alloc: Global, rule: Rule, hasher: Seeded) -> Queues
+        ensures rule { result.rule ≡ rule_of rule }
+        ensures members { result.members ≡ map.empty }
     {
         Queues {
-            queues: BTreeMap::new(alloc),
+            rule,
+            queues: IndexMap::with_hasher(alloc, hasher),
+        }
+    }
+
+    /// Which of the values of a member's additions is its score.
+    pub fn rule(&self) -> Rule
+        ensures { rule_of result ≡ self.now.rule }
+    {
+        self.rule
+    }
+
+    /// Whether the other has the same rule.
+    pub fn has_rule_of(&self, other: &Queues) -> bool
+        ensures { IsTrue result ↔ (self.now.rule ≡ other.now.rule) }
+    {
+        self.rule == other.rule
+    }
+
+    /// The queue of a key, which has members.
+    pub fn queue(&self, key: &[u8]) -> Option<&Queue>
+        ensures entries { IfSome result (λ queue. queue.now.entries ≡ entries_at self.now.members key.now) }
+        ensures rule { IfSome result (λ queue. queue.now.rule ≡ self.now.rule) }
+        ensures list { IfSome result (λ queue. listed queue.now.rule queue.now.entries ≡ queue_of self.now.rule key.now (self.now.members ∷ [])) }
+        ensures absent { IfNone result (entries_at self.now.members key.now ≡ map.empty) }
+        ensures no_list { IfNone result (queue_of self.now.rule key.now (self.now.members ∷ []) ≡ []) }
+    {
+        self.queues.get(key)
+    }
+
+    /// The entry of a member of a key, and `None` where it does not stand.
+    pub fn entry(&self, key: &[u8], member: &[u8]) -> Option<&Entry>
+        ensures { option_map (λ entry. entry.now) result ≡ map.get self.now.members (key.now, member.now) }
+    {
+        match self.queue(key) {
+            Some(queue) => queue.entry(member),
+            None => None,
         }
     }
 
     /// The score of a member of a key, and `None` where it does not stand.
     pub fn score(&self, key: &[u8], member: &[u8]) -> Option<i128>
-        ensures { result ≡ score_of Greatest (entry_at self.now (key.now, member.now)) }
+        ensures { result ≡ score_of self.now.rule (entry_at self.now.members (key.now, member.now)) }
     {
-        match self.queues.get(key) {
+        match self.queue(key) {
             Some(queue) => queue.score(member),
             None => None,
         }
     }
 
-    /// The number of members of a key.
-    pub fn count(&self, key: &[u8]) -> usize
-        ensures number { result ≡ map.len (entries_at self.now key.now) }
-        ensures queue { result ≡ length (queue_of Greatest key.now (self.now ∷ [])) }
-        ensures small { result < 2 ^ 63 }
+    /// Takes a new operation, and answers what its member had.
+    pub fn take(&mut self, alloc: Global, op: &Op) -> Result<Option<Entry>, AllocError>
+        requires { HasRoomFor op.now.operation (entries_at self.old.members op.now.operation.key) }
+        ensures rule { self.new.rule ≡ self.old.rule }
+        ensures before { IfOk result (λ before. before ≡ map.get self.old.members (place_of op.now.operation)) }
+        ensures taken { OnOk result (self.new.members ≡ members_after op.now.operation self.old.members) }
+        ensures refused { OnErr result (self.new ≡ self.old) }
     {
-        match self.queues.get(key) {
-            Some(queue) => queue.len(),
-            None => 0,
-        }
+        take(&mut self.queues, alloc, self.rule, op)
+    }
+
+    /// Gives a member of a key this entry, and takes it out where there is none.
+    pub fn put_back(
+        &mut self,
+        alloc: Global,
+        key: &[u8],
+        member: &[u8],
+        before: Option<Entry>,
+    ) -> Result<(), AllocError>
+        ensures rule { self.new.rule ≡ self.old.rule }
+        ensures back { OnOk result (self.new.members ≡ put_entry self.old.members (key.now, member.now) (or_none before)) }
+        ensures refused { OnErr result (self.new ≡ self.old) }
+    {
+        put_back(&mut self.queues, alloc, self.rule, key, member, before)
     }
 
     /// Equal queues.
     pub fn copy(&self, alloc: Global) -> Result<Queues, AllocError>
         ensures { IfOk result (λ copy. copy ≡ self.now) }
     {
+        let hasher = *self.queues.hasher();
+        let mut queues = IndexMap::with_capacity_and_hasher(alloc, self.queues.len(), hasher)?;
+        copy_into(&mut queues, alloc, &self.queues)?;
         Ok(Queues {
-            queues: copy(&self.queues, alloc)?,
+            rule: self.rule,
+            queues,
         })
     }
 
-    /// Whether it has the same members with the same entries.
+    /// Whether it has the same rule, and the same members with the same entries.
     pub fn same(&self, other: &Queues) -> bool
         ensures { IsTrue result ↔ (self.now ≡ other.now) }
     {
-        let (mine, theirs) = (self.queues.iter(), other.queues.iter());
-        self.queues.len() == other.queues.len()
-            && mine.zip(theirs).all(|((key, queue), (their_key, their_queue))| {
-                key == their_key && queue.same(their_queue)
-            })
-    }
-
-    /// Takes a new Put or Drop. A Drop is never refused.
-    pub fn take(&mut self, alloc: Global, op: &Op) -> Result<(), AllocError>
-        requires { is_bump op.now.operation.act ≡ false }
-        ensures taken { OnOk result (self.new ≡ members_after op.now.operation self.old) }
-        ensures refused { OnErr result (self.new ≡ self.old) }
-    {
-        take(&mut self.queues, alloc, op)
+        self.rule == other.rule && are_same(&self.queues, &other.queues)
     }
 }
 
-/// Takes a new Put or Drop.
-fn take(queues: &mut BTreeMap<Vec<u8>, Queue>, alloc: Global, op: &Op) -> Result<(), AllocError>
-    requires act { is_bump op.now.operation.act ≡ false }
-    requires none_is_empty { NoneIsEmpty (by_bytes queues.old.entries) }
-    ensures taken { OnOk result (members_of queues.new.entries ≡ members_after op.now.operation (members_of queues.old.entries)) }
-    ensures refused { OnErr result (members_of queues.new.entries ≡ members_of queues.old.entries) }
-    ensures none_is_empty { NoneIsEmpty (by_bytes queues.new.entries) }
+/// Takes a new operation, and answers what its member had.
+fn take(
+    queues: &mut IndexMap<Vec<u8>, Queue, Seeded>,
+    alloc: Global,
+    rule: Rule,
+    op: &Op,
+) -> Result<Option<Entry>, AllocError>
+    requires room { HasRoomFor op.now.operation (entries_in (by_bytes queues.old.entries) op.now.operation.key) }
+    requires kept { AreQueues (rule_of rule) (by_bytes queues.old.entries) }
+    ensures before { IfOk result (λ before. before ≡ map.get (entries_in (by_bytes queues.old.entries) op.now.operation.key) op.now.operation.member) }
+    ensures taken { OnOk result (HasAt op.now.operation.key (unless_empty (record { rule = rule_of rule; entries = entries_after op.now.operation (entries_in (by_bytes queues.old.entries) op.now.operation.key) }))
+        (by_bytes queues.old.entries) (by_bytes queues.new.entries)) }
+    ensures refused { OnErr result (by_bytes queues.new.entries ≡ by_bytes queues.old.entries) }
 {
     let key = op.key();
     if let Some(queue) = queues.get_mut(key) {
-        queue.take(alloc, op)?;
+        let before = queue.take(alloc, op)?;
         if queue.is_empty() {
-            queues.remove(key);
+            drop(queues.swap_remove(key));
+        }
+        return Ok(before);
+    }
+    let mut queue = Queue::new(alloc, rule, *queues.hasher());
+    drop(queue.take(alloc, op)?);
+    add(queues, alloc, key, queue)?;
+    Ok(None)
+}
+
+/// Gives a member of a key this entry, and takes it out where there is none.
+fn put_back(
+    queues: &mut IndexMap<Vec<u8>, Queue, Seeded>,
+    alloc: Global,
+    rule: Rule,
+    key: &[u8],
+    member: &[u8],
+    before: Option<Entry>,
+) -> Result<(), AllocError>
+    requires kept { AreQueues (rule_of rule) (by_bytes queues.old.entries) }
+    ensures back { OnOk result (HasAt key.now (unless_empty (record { rule = rule_of rule; entries = set_entry (entries_in (by_bytes queues.old.entries) key.now) member.now (or_none before) }))
+        (by_bytes queues.old.entries) (by_bytes queues.new.entries)) }
+    ensures refused { OnErr result (by_bytes queues.new.entries ≡ by_bytes queues.old.entries) }
+{
+    if let Some(queue) = queues.get_mut(key) {
+        queue.put_back(member, before)?;
+        if queue.is_empty() {
+            drop(queues.swap_remove(key));
         }
         return Ok(());
     }
-    let mut queue = Queue::new(alloc);
-    queue.take(alloc, op)?;
+    let mut queue = Queue::new(alloc, rule, *queues.hasher());
+    queue.put_back(member, before)?;
+    add(queues, alloc, key, queue)
+}
+
+/// Adds a key that is not there with its queue, unless that has no members.
+pub(crate) fn add(
+    queues: &mut IndexMap<Vec<u8>, Queue, Seeded>,
+    alloc: Global,
+    key: &[u8],
+    queue: Queue,
+) -> Result<(), AllocError>
+    requires absent { map.find bytes_cmp key.now (by_bytes queues.old.entries) ≡ None }
+    ensures added { OnOk result (HasAt key.now (unless_empty queue) (by_bytes queues.old.entries) (by_bytes queues.new.entries)) }
+    ensures refused { OnErr result (by_bytes queues.new.entries ≡ by_bytes queues.old.entries) }
+{
     if !queue.is_empty() {
-        queues.insert(Vec::from_slice(alloc, key)?, queue)?;
+        let key = Vec::from_slice(alloc, key)?;
+        drop(queues.insert(key, queue)?);
     }
     Ok(())
 }
 
-/// A map of equal queues.
-fn copy(
-    queues: &BTreeMap<Vec<u8>, Queue>,
+/// Adds copies of these queues where there are none.
+fn copy_into(
+    queues: &mut IndexMap<Vec<u8>, Queue, Seeded>,
     alloc: Global,
-) -> Result<BTreeMap<Vec<u8>, Queue>, AllocError>
-    requires none_is_empty { NoneIsEmpty (by_bytes queues.now.entries) }
-    ensures same { IfOk result (λ copy. members_of copy.entries ≡ members_of queues.now.entries) }
-    ensures none_is_empty { IfOk result (λ copy. NoneIsEmpty (by_bytes copy.entries)) }
+    source: &IndexMap<Vec<u8>, Queue, Seeded>,
+) -> Result<(), AllocError>
+    requires empty { queues.old.entries ≡ [] }
+    ensures { OnOk result ((q : List ℕ) → map.find bytes_cmp q (by_bytes queues.new.entries) ≡ and_then unless_empty (map.find bytes_cmp q (by_bytes source.now.entries))) }
 {
-    let mut copied = BTreeMap::new(alloc);
-    for (key, queue) in queues {
-        copied.insert(Vec::from_slice(alloc, key)?, queue.copy(alloc)?)?;
+    for (key, queue) in source {
+        add(queues, alloc, key, queue.copy(alloc)?)?;
     }
-    Ok(copied)
+    Ok(())
+}
+
+/// Whether both have the same keys with the same queues.
+fn are_same(
+    queues: &IndexMap<Vec<u8>, Queue, Seeded>,
+    others: &IndexMap<Vec<u8>, Queue, Seeded>,
+) -> bool
+    ensures { IsTrue result ↔ ((q : List ℕ) → map.find bytes_cmp q (by_bytes queues.now.entries) ≡ map.find bytes_cmp q (by_bytes others.now.entries)) }
+{
+    are_within(queues, others) && are_within(others, queues)
+}
+
+/// Whether the others have each of these keys with the same queue.
+fn are_within(
+    queues: &IndexMap<Vec<u8>, Queue, Seeded>,
+    others: &IndexMap<Vec<u8>, Queue, Seeded>,
+) -> bool
+    ensures { IsTrue result ↔ ((q : List ℕ) (queue : Queued) → map.find bytes_cmp q (by_bytes queues.now.entries) ≡ Some queue → map.find bytes_cmp q (by_bytes others.now.entries) ≡ Some queue) }
+{
+    for (key, queue) in queues {
+        match others.get(key) {
+            Some(other) if queue.same(other) => {}
+            _ => return false,
+        }
+    }
+    true
 }

@@ -5,9 +5,10 @@ use super::*;
 use std::alloc::Global;
 use std::process::Abort;
 use std::test::Fail;
-use zq_dots::{Act, Op, Score, SiteNo};
+use zq_dots::{Act, Op, Rule, Score, SiteNo};
+use zq_posheap::Seeded;
 
-/// The sites 0 and 1.
+/// Two sites.
 #[derive(Clone, Copy)]
 enum Site {
     A,
@@ -18,34 +19,51 @@ enum Site {
 enum Step {
     /// A site puts a member of the key q at this score.
     Put(Site, u8, i64),
+    /// A site adds to a member of the key q.
+    Bump(Site, u8, i64),
     /// A site drops a member of the key q.
     Drop(Site, u8),
     /// A site is handed the operation that was made as the nth, counted from 0, and answers so.
     Give(Site, usize, Taken),
+    /// A site merges what the other has.
+    Merge(Site),
     /// A member of the key q has this score at a site.
     Score(Site, u8, Option<i128>),
+    /// The first of the key q at a site.
+    Top(Site, Option<(i128, u8)>),
+    /// A member of the key q has this rank at a site, and this one from the other end.
+    Ranks(Site, u8, Option<usize>, Option<usize>),
+    /// So many scores of the key q are below this one, and so many below it or at it.
+    Below(Site, i128, usize, usize),
+    /// The members of the key q at a site, in order.
+    Order(Site, &'static [u8]),
+    /// The first so many of them.
+    First(Site, usize, &'static [u8]),
+    /// Those from one place up to another.
+    Slice(Site, usize, usize, &'static [u8]),
+    /// The same of the turned order.
+    Turned(Site, usize, usize, &'static [u8]),
     /// The key q has so many members at a site.
     Count(Site, usize),
     /// Whether the two sites' heaps are the same.
     Same(bool),
 }
 
-/// A heap at two sites, and what they made there.
+/// A heap at two sites, their numbers, and what they made there.
 #[derive(Drop)]
 struct Sites {
     a: Shard,
     b: Shard,
+    numbers: [u8; 2],
     made: Vec<Op>,
 }
 
 impl Sites {
-    fn new(alloc: Global, heap: u8, heaps: u8) -> Sites
-        requires heaps { IsHeaps heaps }
-        requires heap { heap < heaps }
-    {
+    fn new(alloc: Global, numbers: [u8; 2], rule: Rule) -> Sites {
         Sites {
-            a: Shard::new(alloc, heap, heaps),
-            b: Shard::new(alloc, heap, heaps),
+            a: Shard::new_ruled(alloc, 0, 1, rule, Seeded::new(1)),
+            b: Shard::new_ruled(alloc, 0, 1, rule, Seeded::new(2)),
+            numbers,
             made: Vec::new(alloc),
         }
     }
@@ -60,8 +78,8 @@ impl Sites {
     /// A site makes an operation on a member of the key q.
     fn make(&mut self, alloc: Global, site: Site, member: u8, act: Act) -> Result<(), Fail> {
         let op = match site {
-            Site::A => make(&mut self.a, alloc, 0, b'q', member, act)?,
-            Site::B => make(&mut self.b, alloc, 1, b'q', member, act)?,
+            Site::A => make(&mut self.a, alloc, self.numbers[0], member, act)?,
+            Site::B => make(&mut self.b, alloc, self.numbers[1], member, act)?,
         };
         Ok(self.made.push(op)?)
     }
@@ -70,8 +88,16 @@ impl Sites {
     fn give(&mut self, alloc: Global, site: Site, nth: usize) -> Result<Taken, Fail> {
         let op = self.made.get(nth).ok_or("an operation")?;
         match site {
-            Site::A => take(&mut self.a, alloc, op),
-            Site::B => take(&mut self.b, alloc, op),
+            Site::A => Ok(self.a.take(alloc, op)?),
+            Site::B => Ok(self.b.take(alloc, op)?),
+        }
+    }
+
+    /// A site merges what the other has.
+    fn merge(&mut self, alloc: Global, site: Site) -> Result<(), Fail> {
+        match site {
+            Site::A => Ok(self.a.merge(alloc, &self.b)?),
+            Site::B => Ok(self.b.merge(alloc, &self.a)?),
         }
     }
 
@@ -84,64 +110,107 @@ impl Sites {
         step: &Step,
     ) -> Result<(), Fail> {
         match *step {
-            Step::Put(site, member, score) => self.make(alloc, site, member, put(score)?)?,
+            Step::Put(site, member, score) => {
+                self.make(alloc, site, member, Act::Put(number(score)?))?
+            }
+            Step::Bump(site, member, score) => {
+                self.make(alloc, site, member, Act::Bump(number(score)?))?
+            }
             Step::Drop(site, member) => self.make(alloc, site, member, Act::Drop)?,
             Step::Give(site, op, answer) => {
                 assert_eq!(rt; self.give(alloc, site, op)?, answer, "step {nth}");
             }
-            Step::Score(site, member, score) => {
-                assert_eq!(rt; self.at(site).score(b"q", &[member]), score, "step {nth}");
-            }
-            Step::Count(site, count) => {
-                assert_eq!(rt; self.at(site).count(b"q"), count, "step {nth}");
-            }
+            Step::Merge(site) => self.merge(alloc, site)?,
             Step::Same(same) => assert_eq!(rt; self.a.same(&self.b), same, "step {nth}"),
+            _ => assert!(rt; shows(alloc, step, self)?, "step {nth}"),
         }
         Ok(())
     }
 }
 
-/// Follows the steps from two empty heaps, `heap` of `heaps`.
+/// Whether a site shows what the step says.
+fn shows(alloc: Global, step: &Step, sites: &Sites) -> Result<bool, Fail> {
+    match *step {
+        Step::Score(site, member, score) => Ok(sites.at(site).score(b"q", &[member]) == score),
+        Step::Count(site, count) => Ok(sites.at(site).count(b"q") == count),
+        Step::Top(site, first) => Ok(is_top(sites.at(site), first)),
+        Step::Ranks(site, member, rank, turned) => {
+            let shard = sites.at(site);
+            Ok(shard.rank(b"q", &[member]) == rank && shard.turned_rank(b"q", &[member]) == turned)
+        }
+        Step::Below(site, score, below, at) => {
+            let shard = sites.at(site);
+            Ok(
+                shard.count_below(b"q", score, false) == below
+                    && shard.count_below(b"q", score, true) == at,
+            )
+        }
+        Step::Order(site, members) => Ok(are(&sites.at(site).in_order(alloc, b"q")?, members)),
+        Step::First(site, count, members) => {
+            Ok(are(&sites.at(site).first(alloc, b"q", count)?, members))
+        }
+        Step::Slice(site, from, to, members) => {
+            Ok(are(&sites.at(site).slice(alloc, b"q", from, to)?, members))
+        }
+        Step::Turned(site, from, to, members) => {
+            Ok(are(
+                &sites.at(site).slice_turned(alloc, b"q", from, to)?,
+                members,
+            ))
+        }
+        _ => Ok(false),
+    }
+}
+
+/// Whether the first of the key q has this score and this member of one byte.
+fn is_top(shard: &Shard, first: Option<(i128, u8)>) -> bool {
+    match (shard.top(b"q"), first) {
+        (Some((score, member)), Some((expected, byte))) => score == expected
+            && member == [byte].as_slice(),
+        (None, None) => true,
+        _ => false,
+    }
+}
+
+/// Whether these pairs are of these members of one byte each.
+fn are(pairs: &[(i128, &[u8])], members: &[u8]) -> bool {
+    if pairs.len() != members.len() {
+        return false;
+    }
+    for (pair, member) in pairs.iter().zip(members) {
+        if pair.1 != [*member].as_slice() {
+            return false;
+        }
+    }
+    true
+}
+
+fn number(score: i64) -> Result<Score, &'static str> {
+    Score::new(score).ok_or("a score")
+}
+
+/// Makes the next operation of a site on a member of the key q.
+fn make(shard: &mut Shard, alloc: Global, site: u8, member: u8, act: Act) -> Result<Op, Fail> {
+    let site = SiteNo::new(site).ok_or("a site")?;
+    Ok(shard.make(alloc, site, b"q", &[member], act)?)
+}
+
+/// Follows the steps from two empty heaps of sites with these numbers.
 ///
 /// A table of steps and one loop, since a proof of a test grows with its calls times the values that
 /// are alive at them.
-fn follow(rt: &impl Abort, alloc: Global, heap: u8, heaps: u8, steps: &[Step]) -> Result<(), Fail>
-    requires heaps { IsHeaps heaps }
-    requires heap { heap < heaps }
-{
-    let mut sites = Sites::new(alloc, heap, heaps);
+fn follow(
+    rt: &impl Abort,
+    alloc: Global,
+    numbers: [u8; 2],
+    rule: Rule,
+    steps: &[Step],
+) -> Result<(), Fail> {
+    let mut sites = Sites::new(alloc, numbers, rule);
     for (nth, step) in steps.iter().enumerate() {
         sites.follow(rt, alloc, nth, step)?;
     }
     Ok(())
-}
-
-fn put(score: i64) -> Result<Act, &'static str> {
-    Score::new(score).map(Act::Put).ok_or("a score")
-}
-
-/// Makes the next operation of a site, a Put or a Drop.
-fn make(
-    shard: &mut Shard,
-    alloc: Global,
-    site: u8,
-    key: u8,
-    member: u8,
-    act: Act,
-) -> Result<Op, Fail> {
-    let site = SiteNo::new(site).ok_or("a site")?;
-    match act {
-        Act::Bump(_) => Err(Fail::from("a Bump")),
-        Act::Put(_) | Act::Drop => Ok(shard.make(alloc, site, &[key], &[member], act)?),
-    }
-}
-
-/// Hands a Put or Drop to a heap.
-pub fn take(shard: &mut Shard, alloc: Global, op: &Op) -> Result<Taken, Fail> {
-    match op.act() {
-        Act::Bump(_) => Err(Fail::from("a Bump")),
-        Act::Put(_) | Act::Drop => Ok(shard.take(alloc, op)?),
-    }
 }
 
 #[test]
@@ -149,14 +218,18 @@ fn what_is_made_stands(rt: HostRuntime) -> Result<(), Fail> {
     follow(
         &rt,
         rt.alloc(),
-        1,
-        2,
+        [0, 1],
+        Rule::High,
         &[
             Step::Count(Site::A, 0),
+            Step::Top(Site::A, None),
+            Step::Order(Site::A, b""),
             Step::Put(Site::A, b'x', 3),
             Step::Put(Site::A, b'b', -4),
+            Step::Bump(Site::A, b'y', 7),
             Step::Score(Site::A, b'x', Some(3)),
             Step::Score(Site::A, b'b', Some(-4)),
+            Step::Score(Site::A, b'y', None),
             Step::Count(Site::A, 2),
             Step::Drop(Site::A, b'x'),
             Step::Score(Site::A, b'x', None),
@@ -166,12 +239,96 @@ fn what_is_made_stands(rt: HostRuntime) -> Result<(), Fail> {
 }
 
 #[test]
+fn a_queue_is_read_in_order(rt: HostRuntime) -> Result<(), Fail> {
+    follow(
+        &rt,
+        rt.alloc(),
+        [7, 63],
+        Rule::High,
+        &[
+            Step::Put(Site::A, b'd', 4),
+            Step::Put(Site::A, b'b', 2),
+            Step::Put(Site::B, b'c', 2),
+            Step::Put(Site::B, b'a', 7),
+            Step::Merge(Site::A),
+            Step::Top(Site::A, Some((2, b'b'))),
+            Step::Order(Site::A, b"bcda"),
+            Step::First(Site::A, 2, b"bc"),
+            Step::First(Site::A, 9, b"bcda"),
+            Step::Slice(Site::A, 1, 3, b"cd"),
+            Step::Slice(Site::A, 3, 9, b"a"),
+            Step::Slice(Site::A, 3, 1, b""),
+            Step::Turned(Site::A, 0, 2, b"ad"),
+            Step::Turned(Site::A, 3, 9, b"b"),
+            Step::Ranks(Site::A, b'd', Some(2), Some(1)),
+            Step::Ranks(Site::A, b'z', None, None),
+            Step::Below(Site::A, 2, 0, 2),
+            Step::Below(Site::A, 5, 3, 3),
+            Step::Bump(Site::A, b'a', -9),
+            Step::Top(Site::A, Some((-2, b'a'))),
+            Step::Order(Site::A, b"abcd"),
+            Step::Drop(Site::A, b'a'),
+            Step::Top(Site::A, Some((2, b'b'))),
+        ],
+    )
+}
+
+#[test]
+fn a_merge_that_takes_the_first_away_leaves_the_next(rt: HostRuntime) -> Result<(), Fail> {
+    follow(
+        &rt,
+        rt.alloc(),
+        [7, 63],
+        Rule::High,
+        &[
+            Step::Put(Site::A, b'x', 1),
+            Step::Put(Site::A, b'y', 2),
+            Step::Merge(Site::B),
+            Step::Top(Site::B, Some((1, b'x'))),
+            Step::Drop(Site::A, b'x'),
+            Step::Merge(Site::B),
+            Step::Top(Site::B, Some((2, b'y'))),
+            Step::Count(Site::B, 1),
+            Step::Same(true),
+            Step::Drop(Site::B, b'y'),
+            Step::Merge(Site::A),
+            Step::Top(Site::A, None),
+            Step::Count(Site::A, 0),
+            Step::Same(true),
+        ],
+    )
+}
+
+#[test]
+fn bumps_made_apart_add_up(rt: HostRuntime) -> Result<(), Fail> {
+    follow(
+        &rt,
+        rt.alloc(),
+        [7, 63],
+        Rule::Low,
+        &[
+            Step::Put(Site::A, b'x', 10),
+            Step::Give(Site::B, 0, Taken::New),
+            Step::Bump(Site::A, b'x', 5),
+            Step::Bump(Site::B, b'x', 7),
+            Step::Merge(Site::A),
+            Step::Score(Site::A, b'x', Some(22)),
+            Step::Give(Site::B, 1, Taken::New),
+            Step::Give(Site::B, 1, Taken::Known),
+            Step::Score(Site::B, b'x', Some(22)),
+            Step::Give(Site::A, 2, Taken::Known),
+            Step::Same(true),
+        ],
+    )
+}
+
+#[test]
 fn a_removal_keeps_what_it_had_not_seen(rt: HostRuntime) -> Result<(), Fail> {
     follow(
         &rt,
         rt.alloc(),
-        0,
-        1,
+        [0, 1],
+        Rule::High,
         &[
             Step::Put(Site::A, b'x', 3),
             Step::Give(Site::B, 0, Taken::New),
@@ -190,8 +347,8 @@ fn of_additions_made_apart_the_greatest_counts(rt: HostRuntime) -> Result<(), Fa
     follow(
         &rt,
         rt.alloc(),
-        0,
-        1,
+        [0, 1],
+        Rule::High,
         &[
             Step::Put(Site::A, b'x', 5),
             Step::Put(Site::B, b'x', 9),
@@ -204,12 +361,30 @@ fn of_additions_made_apart_the_greatest_counts(rt: HostRuntime) -> Result<(), Fa
 }
 
 #[test]
+fn by_the_other_rule_the_least_counts(rt: HostRuntime) -> Result<(), Fail> {
+    follow(
+        &rt,
+        rt.alloc(),
+        [0, 1],
+        Rule::Low,
+        &[
+            Step::Put(Site::A, b'x', 5),
+            Step::Put(Site::B, b'x', 9),
+            Step::Merge(Site::A),
+            Step::Merge(Site::B),
+            Step::Score(Site::A, b'x', Some(5)),
+            Step::Top(Site::B, Some((5, b'x'))),
+        ],
+    )
+}
+
+#[test]
 fn an_early_operation_waits_for_its_past(rt: HostRuntime) -> Result<(), Fail> {
     follow(
         &rt,
         rt.alloc(),
-        0,
-        2,
+        [7, 63],
+        Rule::High,
         &[
             Step::Put(Site::A, b'a', 1),
             Step::Put(Site::A, b'y', 2),
@@ -219,22 +394,6 @@ fn an_early_operation_waits_for_its_past(rt: HostRuntime) -> Result<(), Fail> {
             Step::Give(Site::B, 1, Taken::New),
             Step::Give(Site::B, 1, Taken::Known),
             Step::Count(Site::B, 2),
-        ],
-    )
-}
-
-#[test]
-fn heaps_are_the_same_where_they_have_taken_the_same(rt: HostRuntime) -> Result<(), Fail> {
-    follow(
-        &rt,
-        rt.alloc(),
-        0,
-        1,
-        &[
-            Step::Same(true),
-            Step::Put(Site::A, b'x', 3),
-            Step::Same(false),
-            Step::Give(Site::B, 0, Taken::New),
             Step::Same(true),
         ],
     )
@@ -242,25 +401,32 @@ fn heaps_are_the_same_where_they_have_taken_the_same(rt: HostRuntime) -> Result<
 
 #[test]
 fn what_was_put_and_dropped_leaves_no_trace_but_in_the_vector(rt: HostRuntime) -> Result<(), Fail> {
-    let alloc = rt.alloc();
-    let (mut a, mut b) = (Shard::new(alloc, 0, 1), Shard::new(alloc, 0, 1));
-    make(&mut a, alloc, 0, b'q', b'x', put(3)?)?;
-    make(&mut a, alloc, 0, b'q', b'x', Act::Drop)?;
-    make(&mut b, alloc, 0, b'q', b'y', Act::Drop)?;
-    assert!(rt; !a.same(&b));
-    make(&mut b, alloc, 0, b'r', b'y', Act::Drop)?;
-    assert!(rt; a.same(&b));
-    Ok(())
+    follow(
+        &rt,
+        rt.alloc(),
+        [5, 5],
+        Rule::High,
+        &[
+            Step::Same(true),
+            Step::Put(Site::A, b'x', 3),
+            Step::Same(false),
+            Step::Drop(Site::A, b'x'),
+            Step::Drop(Site::B, b'y'),
+            Step::Same(false),
+            Step::Drop(Site::B, b'z'),
+            Step::Same(true),
+        ],
+    )
 }
 
 #[test]
 fn a_copy_goes_on_alone(rt: HostRuntime) -> Result<(), Fail> {
     let alloc = rt.alloc();
     let mut shard = Shard::new(alloc, 0, 1);
-    make(&mut shard, alloc, 0, b'q', b'x', put(3)?)?;
+    drop(make(&mut shard, alloc, 0, b'x', Act::Put(number(3)?))?);
     let copy = shard.copy(alloc)?;
     assert!(rt; copy.same(&shard));
-    make(&mut shard, alloc, 0, b'q', b'y', put(4)?)?;
+    drop(make(&mut shard, alloc, 0, b'y', Act::Put(number(4)?))?);
     assert_eq!(rt; (copy.count(b"q"), shard.count(b"q")), (1, 2));
     Ok(())
 }
@@ -270,12 +436,84 @@ fn a_member_of_another_heap_is_refused(rt: HostRuntime) -> Result<(), Fail> {
     let alloc = rt.alloc();
     let mut shard = Shard::new(alloc, 1, 2);
     let site = SiteNo::new(0).ok_or("a site")?;
-    assert_eq!(rt; (shard.heap(), shard.heaps()), (1, 2));
+    assert_eq!(rt;
+        (shard.heap(), shard.heaps(), shard.rule()),
+        (1, 2, Rule::High)
+    );
     let elsewhere = shard.draft(alloc, site, b"q", b"a", Act::Drop).err();
     assert_eq!(rt; elsewhere, Some(MakeFault::WrongHeap));
-    let op = make(&mut shard, alloc, 0, b'q', b'x', put(3)?)?;
+    let op = make(&mut shard, alloc, 0, b'x', Act::Put(number(3)?))?;
     assert_eq!(rt; (op.dot().n, shard.vector().get(site)), (1, 1));
     let other = Shard::new(alloc, 0, 2).judge(&op).err();
     assert_eq!(rt; other, Some(TakeFault::WrongHeap));
+    Ok(())
+}
+
+#[test]
+fn what_is_not_of_one_kind_is_not_merged(rt: HostRuntime) -> Result<(), Fail> {
+    let alloc = rt.alloc();
+    let mut shard = Shard::new(alloc, 0, 2);
+    let heap = Shard::new(alloc, 1, 2);
+    let heaps = Shard::new(alloc, 0, 3);
+    let rule = Shard::new_ruled(alloc, 0, 2, Rule::Low, Seeded::new(0));
+    let faults = [
+        shard.merge(alloc, &heap).err(),
+        shard.merge(alloc, &heaps).err(),
+        shard.merge(alloc, &rule).err(),
+    ];
+    let expected = [
+        Some(MergeFault::WrongHeap),
+        Some(MergeFault::WrongHeap),
+        Some(MergeFault::WrongRule),
+    ];
+    assert_eq!(rt; faults, expected);
+    Ok(())
+}
+
+/// Whether these rows are of these keys and members of one byte each.
+fn are_rows(rows: &[RowRef<'_>], places: &[(u8, u8)]) -> bool {
+    if rows.len() != places.len() {
+        return false;
+    }
+    for (row, (key, member)) in rows.iter().zip(places) {
+        if row.key != [*key].as_slice()
+            || row.member != [*member].as_slice()
+            || row.entry.is_bare()
+        {
+            return false;
+        }
+    }
+    true
+}
+
+#[test]
+fn rows_come_by_key_and_then_by_member(rt: HostRuntime) -> Result<(), Fail> {
+    let alloc = rt.alloc();
+    let mut shard = Shard::new(alloc, 0, 1);
+    let site = SiteNo::new(63).ok_or("a site")?;
+    let places = [
+        (b'q', b'x'),
+        (b'p', b'z'),
+        (b'q', b'a'),
+        (b'r', b'b'),
+        (b'p', b'c'),
+    ];
+    for (key, member) in places {
+        drop(shard.make(alloc, site, &[key], &[member], Act::Put(number(1)?))?);
+    }
+    drop(shard.make(alloc, site, b"r", b"b", Act::Drop)?);
+    let sorted = [(b'p', b'c'), (b'p', b'z'), (b'q', b'a'), (b'q', b'x')];
+    assert!(rt; are_rows(&shard.rows(alloc)?, &sorted));
+    Ok(())
+}
+
+#[test]
+fn of_no_rows_is_the_heap_of_the_vector(rt: HostRuntime) -> Result<(), Fail> {
+    let alloc = rt.alloc();
+    let mut made = Shard::new(alloc, 0, 1);
+    drop(make(&mut made, alloc, 7, b'x', Act::Drop)?);
+    let shard = Shard::of_rows(alloc, 0, 1, Rule::Low, made.vector(), &[], Seeded::new(1))?;
+    assert!(rt; shard.vector() == made.vector() && shard.rule() == Rule::Low);
+    assert_eq!(rt; shard.count(b"q"), 0);
     Ok(())
 }

@@ -30,7 +30,8 @@ returns-in-Err-clause-ran c =
     rw c.in-Err.ensures.unchanged
     (ran_cut (zrem_part c.args.key.now) (views words) c.args.shard.now c.loop-member.shard c.loop-member.removed c.loop-member.removed c.in-Err.fault i c.deref.result.now
     c.loop-member.invariant.stands (word_at words i c.member-item.result c.deref.result.now c.loop-member-test.true c.member-item.is c.deref.ensures.value) c.in-Err.ensures.there
-    (λ e. c.in-Err.ensures.home (ap (λ fault. Err fault) e)) (λ e. c.in-Err.ensures.worn (ap (λ fault. Err fault) e)) _ c.cut_reply.ensures.bytes)
+    (λ e. c.in-Err.ensures.home (ap (λ fault. Err fault) e)) (λ e. c.in-Err.ensures.worn (ap (λ fault. Err fault) e))
+    (λ e. c.in-Err.ensures.no_memory (ap (λ fault. Err fault) e)) _ c.cut_reply.ensures.bytes)
 
 pub loop-member-preserved : goal.loop-member-preserved
 loop-member-preserved c =

@@ -31,7 +31,8 @@ returns-in-Err-clause-ran c =
     rw c.in-Err.ensures.unchanged
     (ran_cut (zadd_part c.args.key.now) (map pair_shown pairs) c.args.shard.now c.loop-pair.shard c.loop-pair.added c.loop-pair.done c.in-Err.fault i _
     c.loop-pair.invariant.stands (pair_at pairs i c.loop-pair-test.true) (omega arith) (λ e. c.in-Err.ensures.home (ap (λ fault. Err fault) e))
-    (λ e. c.in-Err.ensures.worn (ap (λ fault. Err fault) e)) _ c.cut_reply.ensures.bytes)
+    (λ e. c.in-Err.ensures.worn (ap (λ fault. Err fault) e))
+    (λ e. c.in-Err.ensures.no_memory (ap (λ fault. Err fault) e)) _ c.cut_reply.ensures.bytes)
 
 pub loop-pair-preserved : goal.loop-pair-preserved
 loop-pair-preserved c =

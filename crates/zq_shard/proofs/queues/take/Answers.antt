@@ -1,88 +1,76 @@
-use Rattle.std.proofs.Common.{IsSome, true≢false, List, None, Some, Vec, ap, refl, subst, sym, unwrap_or, ℕ, ◌∙◌}
-use Rattle.std.specs.FinMap.{empty}
-use Rattle.std.specs.Map.{KeepsOthers, lookup}
-use Rattle.std.specs.Ordering.{eq_by_cmp}
-use Rattle.std.specs.declared.alloc.Global.{Global}
-use Rattle.zq_shard.proofs.ByBytes.{at, others_same, others_twice, vec_cmp, written_back}
-use Rattle.zq_shard.proofs.EmptyQueues.{removed_none_is_empty, written_none_is_empty}
+use Rattle.std.proofs.Common.{IsSome, None, Some, ap, refl, subst, sym, true≢false, ◌∙◌, ◌≡◌}
+use Rattle.std.specs.FinMap.{find, get, get-empty}
+use Rattle.zq_dots.specs.Rule.{rule_of}
+use Rattle.zq_queue.specs.Entries.{HasRoomFor, bytes_cmp, entries_after}
+use Rattle.zq_queue.specs.Queued.{Queued}
+use Rattle.zq_shard.proofs.AtKeys.{key_entries, removed_at, written_at}
+use Rattle.zq_shard.proofs.ByBytes.{found, written_back}
 use Rattle.zq_shard.proofs.Outcomes.{if_err}
-use Rattle.zq_shard.proofs.QueuesSteps.{members_taken}
-use Rattle.zq_shard.specs.Queue.{Entries, by_bytes, entries_after}
-use Rattle.zq_shard.specs.Queues.{NoneIsEmpty, members_of}
+use Rattle.zq_shard.specs.Queues.{HasAt, by_bytes, entries_in, unless_empty}
 use Rattle.zq_shard.proofs.queues.take.Goals as goal
+use Rattle.zq_shard.proofs.queues.take.Goals.{In_ok-before, In_ok-take, else-is_empty, then-is_empty}
 
-pub returns-in_err-take-clause-refused : goal.returns-in_err-take-clause-refused
-returns-in_err-take-clause-refused c =
-    if_err c.from_residual.result (ap members_of ((c.get_mut.follows.holds c.take.new.self).0
-    ∙ written_back c.key-key.result.now c.take.new.self c.args.queues.now.entries (sym c.in-Some.ensures.value ∙ ap Some (sym c.in_err-take.ensures.refused))))
+-- what the operation makes of the key's queue
+is_after : (c : In_ok-before) → c.take.new.self ≡ record { rule = rule_of c.args.rule; entries = entries_after c.args.op.now.operation (entries_in (by_bytes c.args.queues.now.entries) c.args.op.now.operation.key) }
+is_after c =
+    let rule = c.in_ok-before.ensures.rule ∙ (c.requires.kept c.key-key.result.now c.in-Some.queue.now (found c.args.queues.now.entries c.key-key.result.now ∙ sym c.in-Some.ensures.value)).0 in
+    let entries = c.in_ok-before.ensures.taken ∙ ap (entries_after c.args.op.now.operation) (sym (key_entries c.args.queues.now.entries c.key-key.result.now c.args.op.now.operation.key (Some c.in-Some.queue.now) c.key-key.ensures.same c.in-Some.ensures.value)) in
+    λ i. record { rule = rule i; entries = entries i }
 
-pub returns-then-is_empty-clause-taken : goal.returns-then-is_empty-clause-taken
-returns-then-is_empty-clause-taken c =
-    let written = (c.get_mut.follows.holds c.take.new.self).3 (subst IsSome c.in-Some.ensures.value refl) in
-    members_taken c.args.op.now.operation c.key-key.result.now None c.args.queues.now.entries c.remove.new.self.entries c.in-Some.queue.now c.key-key.ensures.same
-    (ap (λ r. unwrap_or r empty) (sym c.in-Some.ensures.value))
-    (sym (c.is_empty.ensures.0 c.if-is_empty.true) ∙ c.in_ok-take.ensures.taken)
-    c.remove.ensures.updates.1
-    (others_twice c.key-key.result.now c.args.queues.now.entries (c.get_mut.follows.lender c.take.new.self).entries c.remove.new.self.entries written.3 c.remove.ensures.updates.3)
+pub take-requires : goal.take-requires
+take-requires c = subst (HasRoomFor c.args.op.now.operation) (key_entries c.args.queues.now.entries c.key-key.result.now c.args.op.now.operation.key (Some c.in-Some.queue.now) c.key-key.ensures.same c.in-Some.ensures.value) c.requires.room
 
-pub returns-else-is_empty-clause-taken : goal.returns-else-is_empty-clause-taken
-returns-else-is_empty-clause-taken c =
-    let written = (c.get_mut.follows.holds c.take.new.self).3 (subst IsSome c.in-Some.ensures.value refl) in
-    members_taken c.args.op.now.operation c.key-key.result.now (Some c.take.new.self) c.args.queues.now.entries (c.get_mut.follows.lender c.take.new.self).entries c.in-Some.queue.now c.key-key.ensures.same
-    (ap (λ r. unwrap_or r empty) (sym c.in-Some.ensures.value))
-    c.in_ok-take.ensures.taken
-    written.1
-    written.3
+pub returns-in_err-before-clause-refused : goal.returns-in_err-before-clause-refused
+returns-in_err-before-clause-refused c =
+    if_err c.from_residual.result (ap by_bytes ((c.get_mut.follows.holds c.take.new.self).0
+    ∙ written_back c.key-key.result.now c.take.new.self c.args.queues.now.entries (sym c.in-Some.ensures.value ∙ ap Some (sym c.in_err-before.ensures.refused))))
 
-pub returns-in_ok-insert-clause-taken : goal.returns-in_ok-insert-clause-taken
-returns-in_ok-insert-clause-taken c =
-    let key = c.in_ok-from_slice.field-0 in
-    let items = c.in_ok-from_slice.ensures.items in
+pub returns-in-Some-clause-before : goal.returns-in-Some-clause-before
+returns-in-Some-clause-before c = c.in_ok-before.ensures.before ∙ ap (λ es. get es c.args.op.now.operation.member) (sym (key_entries c.args.queues.now.entries c.key-key.result.now c.args.op.now.operation.key (Some c.in-Some.queue.now) c.key-key.ensures.same c.in-Some.ensures.value))
+
+pub take-requires-2 : goal.take-requires-2
+take-requires-2 c = subst (HasRoomFor c.args.op.now.operation) (key_entries c.args.queues.now.entries c.key-key.result.now c.args.op.now.operation.key None c.key-key.ensures.same c.in_default.ensures.value ∙ sym c.new-queue.ensures.entries) c.requires.room
+
+pub add-requires : goal.add-requires
+add-requires c = record {
+  absent = ap (λ m. find bytes_cmp c.key-key.result.now (by_bytes m.entries)) c.get_mut.follows.holds-at-none ∙ found c.args.queues.now.entries c.key-key.result.now ∙ sym c.in_default.ensures.value;
+}
+
+pub returns-clause-before : goal.returns-clause-before
+returns-clause-before c = sym (ap (λ es. get es c.args.op.now.operation.member) (key_entries c.args.queues.now.entries c.key-key.result.now c.args.op.now.operation.key None c.key-key.ensures.same c.in_default.ensures.value) ∙ get-empty bytes_cmp c.args.op.now.operation.member)
+
+abbrev at_key : (c : In_ok-before) → Queued
+at_key c = record { rule = rule_of c.args.rule; entries = entries_after c.args.op.now.operation (entries_in (by_bytes c.args.queues.now.entries) c.args.op.now.operation.key) }
+
+pub returns-in-Some-clause-taken : goal.returns-in-Some-clause-taken
+returns-in-Some-clause-taken c =
+    let d = (goal.at.returns-in-Some-clause-taken c).In_ok-before in
     let old = c.args.queues.now.entries in
-    let new = c.insert.new.self.entries in
-    let updates = c.in_ok-insert.ensures.updates in
-    members_taken c.args.op.now.operation key.items (Some c.take-2.new.self) old new empty (items ∙ c.key-key.ensures.same)
-    (ap (λ (k : List ℕ). unwrap_or (lookup (at k) old) empty) items ∙ ap (λ r. unwrap_or r empty) (sym c.in_default.ensures.value))
-    (c.in_ok-take-2.ensures.taken ∙ ap (entries_after c.args.op.now.operation) c.new-queue.ensures)
-    updates.1
-    (subst (λ (es : List (Vec ℕ Global × Entries)). KeepsOthers (eq_by_cmp vec_cmp) (at key.items) es new) (ap (λ m. m.entries) c.get_mut.follows.holds-at-none) updates.3)
-
-pub returns-else-not-is_empty-clause-taken : goal.returns-else-not-is_empty-clause-taken
-returns-else-not-is_empty-clause-taken c =
-    ap (λ m. members_of m.entries) c.get_mut.follows.holds-at-none
-    ∙ members_taken c.args.op.now.operation c.key-key.result.now None c.args.queues.now.entries c.args.queues.now.entries empty c.key-key.ensures.same
-    (ap (λ r. unwrap_or r empty) (sym c.in_default.ensures.value))
-    (sym (c.is_empty-2.ensures.0 c.if-not-is_empty.false) ∙ c.in_ok-take-2.ensures.taken ∙ ap (entries_after c.args.op.now.operation) c.new-queue.ensures)
-    (sym c.in_default.ensures.value)
-    (others_same c.key-key.result.now c.args.queues.now.entries)
-
-pub returns-in_err-take-clause-none_is_empty : goal.returns-in_err-take-clause-none_is_empty
-returns-in_err-take-clause-none_is_empty c =
-    subst (λ (es : List (Vec ℕ Global × Entries)). NoneIsEmpty (by_bytes es))
-    (sym ((c.get_mut.follows.holds c.take.new.self).0
-    ∙ written_back c.key-key.result.now c.take.new.self c.args.queues.now.entries (sym c.in-Some.ensures.value ∙ ap Some (sym c.in_err-take.ensures.refused))))
-    c.requires.none_is_empty
-
-pub returns-then-is_empty-clause-none_is_empty : goal.returns-then-is_empty-clause-none_is_empty
-returns-then-is_empty-clause-none_is_empty c =
+    let key = c.key-key.result.now in
     let written = (c.get_mut.follows.holds c.take.new.self).3 (subst IsSome c.in-Some.ensures.value refl) in
-    removed_none_is_empty c.key-key.result.now c.args.queues.now.entries c.remove.new.self.entries c.requires.none_is_empty
-    c.remove.ensures.updates.1
-    (others_twice c.key-key.result.now c.args.queues.now.entries (c.get_mut.follows.lender c.take.new.self).entries c.remove.new.self.entries written.3 c.remove.ensures.updates.3)
+    subst (λ k. HasAt k (unless_empty (at_key d)) (by_bytes old) (by_bytes c.if-is_empty.queues.entries)) c.key-key.ensures.same
+    (elim c.if-is_empty.branch [
+      | then-is_empty w ↦
+          subst (λ m. HasAt key (unless_empty (at_key d)) (by_bytes old) (by_bytes m.entries)) (sym w.queues-is)
+          (removed_at key c.take.new.self (at_key d) old (c.get_mut.follows.lender c.take.new.self).entries w.swap_remove.new.self.entries
+          w.swap_remove.ensures.updates.1 written.3 w.swap_remove.ensures.updates.3 (is_after d) (c.is_empty.ensures.0 w.if-is_empty.true))
+      | else-is_empty w ↦
+          subst (λ m. HasAt key (unless_empty (at_key d)) (by_bytes old) (by_bytes m.entries)) (sym w.queues-is)
+          (written_at key c.take.new.self (at_key d) old (c.get_mut.follows.lender c.take.new.self).entries written.1 written.3 (is_after d)
+          (λ is. true≢false (sym (c.is_empty.ensures.1 is) ∙ w.if-is_empty.false)))
+    ])
 
-pub returns-else-is_empty-clause-none_is_empty : goal.returns-else-is_empty-clause-none_is_empty
-returns-else-is_empty-clause-none_is_empty c =
-    let written = (c.get_mut.follows.holds c.take.new.self).3 (subst IsSome c.in-Some.ensures.value refl) in
-    written_none_is_empty c.key-key.result.now c.take.new.self c.args.queues.now.entries (c.get_mut.follows.lender c.take.new.self).entries c.requires.none_is_empty
-    written.1
-    written.3
-    (λ is. true≢false (sym (c.is_empty.ensures.1 is) ∙ c.if-is_empty.false))
+-- what the operation makes of a key that is not there
+is_new : (c : In_ok-take) → c.take-2.new.self ≡ record { rule = rule_of c.args.rule; entries = entries_after c.args.op.now.operation (entries_in (by_bytes c.args.queues.now.entries) c.args.op.now.operation.key) }
+is_new c =
+    let rule = c.in_ok-take.ensures.rule ∙ c.new-queue.ensures.rule in
+    let entries = c.in_ok-take.ensures.taken ∙ ap (entries_after c.args.op.now.operation) (c.new-queue.ensures.entries ∙ sym (key_entries c.args.queues.now.entries c.key-key.result.now c.args.op.now.operation.key None c.key-key.ensures.same c.in_default.ensures.value)) in
+    λ i. record { rule = rule i; entries = entries i }
 
-pub returns-in_ok-insert-clause-none_is_empty : goal.returns-in_ok-insert-clause-none_is_empty
-returns-in_ok-insert-clause-none_is_empty c =
-    let updates = c.in_ok-insert.ensures.updates in
-    let key = c.in_ok-from_slice.field-0 in
-    written_none_is_empty key.items c.take-2.new.self c.args.queues.now.entries c.insert.new.self.entries c.requires.none_is_empty
-    updates.1
-    (subst (λ (es : List (Vec ℕ Global × Entries)). KeepsOthers (eq_by_cmp vec_cmp) (at key.items) es c.insert.new.self.entries) (ap (λ m. m.entries) c.get_mut.follows.holds-at-none) updates.3)
-    (λ is. true≢false (sym (c.is_empty-2.ensures.1 is) ∙ c.if-not-is_empty.true))
+pub returns-clause-taken : goal.returns-clause-taken
+returns-clause-taken c =
+    let d = (goal.at.returns-clause-taken c).In_ok-take in
+    let new = by_bytes c.add.new.queues.entries in
+    subst (λ k. HasAt k (unless_empty (record { rule = rule_of c.args.rule; entries = entries_after c.args.op.now.operation (entries_in (by_bytes c.args.queues.now.entries) c.args.op.now.operation.key) })) (by_bytes c.args.queues.now.entries) new) c.key-key.ensures.same
+    (subst (λ (q : Queued). HasAt c.key-key.result.now (unless_empty q) (by_bytes c.args.queues.now.entries) new) (is_new d)
+    (subst (λ m. HasAt c.key-key.result.now (unless_empty c.take-2.new.self) (by_bytes m.entries) new) c.get_mut.follows.holds-at-none c.in_ok-add.ensures.added))

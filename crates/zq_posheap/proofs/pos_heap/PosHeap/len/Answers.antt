@@ -8,7 +8,7 @@ use Rattle.zq_posheap.specs.Listing.{entry_row}
 use Rattle.zq_posheap.specs.Moves.{shown}
 use Rattle.zq_posheap.proofs.pos_heap.PosHeap.len.Goals as goal
 
-pub returns : goal.returns
-returns g c =
+pub returns-clause-number : goal.returns-clause-number
+returns-clause-number g c =
     let es = c.self.inside.heap.members.entries in
     c.len.ensures.len ∙ sym (length-map es entry_row) ∙ length-listing (seen_in shown es) _ (listed es c.len.ensures.unique) ∙ ap (λ m. len m.held) c.self.view_is

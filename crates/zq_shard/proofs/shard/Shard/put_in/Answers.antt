@@ -1,12 +1,42 @@
+use Rattle.std.proofs.Common.{ap, ap₂, subst, sym, ◌∙◌, ◌≡◌}
 use Rattle.std.specs.Prelude.{slice_set}
-use Rattle.zq_model.specs.Sets.{IsCounters}
-use Rattle.std.proofs.Common.{subst, sym}
-use Rattle.zq_shard.proofs.Advanced.{counters_set}
+use Rattle.zq_model.specs.Bounded.{IsBounded}
+use Rattle.zq_model.specs.Image.{image_after}
+use Rattle.zq_model.specs.Sets.{New, taken_of}
+use Rattle.zq_shard.proofs.BoundedSteps.{new_bounded, new_has_room}
+use Rattle.zq_shard.proofs.SetSteps.{new_holds}
+use Rattle.zq_shard.specs.Shard.{HeapImage, IsOfHeap}
+use Rattle.zq_shard.specs.ShardView.{heap_image_of}
 use Rattle.zq_shard.proofs.shard.Shard.put_in.Goals as goal
+use Rattle.zq_shard.proofs.shard.Shard.put_in.Goals.{After-set}
+
+-- the image after the operation
+image_is : (c : After-set) → record { vector = c.set.new.self; members = c.take.new.self.members } ≡ image_after c.args.op.now.operation (heap_image_of c.self.inside).image
+image_is c =
+    let vector = c.set.ensures ∙ ap₂ (slice_set c.self.inside.vector) c.dot-dot.ensures.site c.dot-dot.ensures.n in
+    λ i. record { vector = vector i; members = c.in_ok-before.ensures.taken i }
+
+pub take-requires : goal.take-requires
+take-requires c =
+    new_has_room (heap_image_of c.self.inside) c.args.op.now c.self.invariant c.ranged.ensures
+    (subst (λ (s : HeapImage). taken_of s.image.vector c.args.op.now.operation ≡ New) (sym c.self.view_is) c.requires.new)
 
 pub invariant_of-self-2 : goal.invariant_of-self-2
-invariant_of-self-2 c = record {
-  heaps = c.self.invariant.heaps;
-  heap = c.self.invariant.heap;
-  counters = subst IsCounters (sym c.set.ensures) (counters_set c.self.inside.vector c.dot-dot.result.site c.dot-dot.result.n c.self.invariant.counters c.dot-dot.ensures.bounded);
-}
+invariant_of-self-2 c =
+    let d = (goal.at.invariant_of-self-2 c).After-set in
+    record {
+      heaps = c.self.invariant.heaps;
+      heap = c.self.invariant.heap;
+      bounded =
+          subst (IsBounded c.self.inside.heaps c.self.inside.heap) (sym (image_is d))
+          (new_bounded (heap_image_of c.self.inside) c.args.op.now c.self.invariant c.ranged.ensures
+          (subst (λ (s : HeapImage). IsOfHeap s c.args.op.now) (sym c.self.view_is) c.requires.placed)
+          (subst (λ (s : HeapImage). taken_of s.image.vector c.args.op.now.operation ≡ New) (sym c.self.view_is) c.requires.new));
+    }
+
+pub returns-clause-set : goal.returns-clause-set
+returns-clause-set c = λ S holds world.
+    let d = (goal.at.returns-clause-set c).After-set in
+    let o = c.args.op.now.operation in
+    new_holds c.args.self.now _ o S c.requires.placed.heap (ap (λ (s : HeapImage). s.heap) c.self.view_is) (ap (λ (s : HeapImage). s.heaps) c.self.view_is)
+    (image_is d ∙ ap (λ (s : HeapImage). image_after o s.image) c.self.view_is) c.requires.new holds world

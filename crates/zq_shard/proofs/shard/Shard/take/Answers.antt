@@ -1,14 +1,7 @@
 use Rattle.std.proofs.Common.{ap, refl, sym, ◌∙◌}
-use Rattle.zq_shard.proofs.SetSteps.{known_holds, new_holds}
+use Rattle.zq_shard.proofs.SetSteps.{known_holds}
 use Rattle.zq_shard.specs.Taken.{answer_of}
 use Rattle.zq_shard.proofs.shard.Shard.take.Goals as goal
-
-pub returns-in_ok-put_in-in-New-clause-set : goal.returns-in_ok-put_in-in-New-clause-set
-returns-in_ok-put_in-in-New-clause-set c = λ S holds world _.
-    let here = c.in_ok-judge.ensures.placed.0 refl in
-    let t = c.in_ok-put_in-in-New.ensures in
-    new_holds c.args.self.now c.put_in.new.self c.args.op.now.operation S here.heap t.heap t.heaps t.taken
-    (sym c.in_ok-judge.ensures.judged ∙ ap answer_of c.in-New.is) holds world
 
 pub returns-in-Known-clause-set : goal.returns-in-Known-clause-set
 returns-in-Known-clause-set c = λ S holds world _.

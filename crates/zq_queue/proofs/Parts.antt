@@ -1,0 +1,49 @@
+-- Parts of lists by places, and of turned lists.
+use Rattle.std.proofs.Common.{ap, arith, refl, sym, ◌∙◌}
+use Rattle.std.proofs.lemmas.List.{drop-take, get_or-drop, get_or-reverse, get_or-take, length-drop, length-reverse, length-take, map-append, nil_from_length, reverse-append, same_lists}
+use Rattle.std.specs.Prelude.{List, [], drop, get_or, length, map, min, reverse, take, ℕ, ◌++◌, ◌+◌, ◌-◌, ◌<◌, ◌≡◌, ◌≤◌, ◌∷◌}
+use Rattle.zq_queue.specs.Listed.{part}
+
+module _ {X : Type 0} (xs : List X) where
+  length-part : (from to : ℕ) → length (part from to xs) ≡ min (to - from) (length xs - from)
+  length-part from to = length-take (to - from) (drop from xs) ∙ ap (min (to - from)) (length-drop from xs)
+
+  -- what of the first so many stands from a place on
+  pub part_of_firsts : (from to : ℕ) → from < to → drop from (take to xs) ≡ part from to xs
+  part_of_firsts from to lower =
+      let sum : from + (to - from) ≡ to = omega (arith, lower) in
+      ap (λ n. drop from (take n xs)) (sym sum) ∙ drop-take from (to - from) xs
+
+  -- nothing stands from a place on up to one that is no further
+  pub part_empty : (from to : ℕ) → to ≤ from → part from to xs ≡ []
+  part_empty from to low = ap (λ n. take n (drop from xs)) (let none : to - from ≡ 0 = omega (arith, low) in none)
+
+  -- nor past the end
+  pub part_past : (from to : ℕ) → length (take to xs) ≤ from → from < to → part from to xs ≡ []
+  part_past from to past lower = nil_from_length (part from to xs) (omega (arith, length-part from to, past, lower, length-take to xs))
+
+  -- a part of the turned list is a part of the list, turned
+  pub turned_part : (from to : ℕ) → reverse (part (length xs - to) (length xs - from) xs) ≡ part from to (reverse xs)
+  turned_part from to =
+      let n = length xs in
+      let inner = part (n - to) (n - from) xs in
+      let long = length-part (n - to) (n - from) in
+      let turned = length-reverse inner in
+      let outer = length-take (to - from) (drop from (reverse xs)) in
+      let rest = length-drop from (reverse xs) in
+      let whole = length-reverse xs in
+      same_lists (reverse inner) (part from to (reverse xs)) (omega (arith, long, turned, outer, rest, whole)) (λ k d within.
+      let here : k < length inner = omega (arith, within, turned) in
+      let j = length inner - 1 - k in
+      let in_part : j < n - from - (n - to) = omega (arith, here, long) in
+      let at : n - to + j ≡ n - 1 - (from + k) = omega (arith, here, long) in
+      get_or-reverse inner k d here ∙ get_or-take (n - from - (n - to)) (drop (n - to) xs) j d in_part ∙ get_or-drop (n - to) xs j d
+      ∙ ap (λ i. get_or xs i d) at
+      ∙ sym (get_or-take (to - from) (drop from (reverse xs)) k d (omega (arith, here, long)) ∙ get_or-drop from (reverse xs) k d
+      ∙ get_or-reverse xs (from + k) d (omega (arith, here, long))))
+
+-- a map of a turned list
+pub map_reversed : {X Y : Type 0} (f : X → Y) (xs : List X) → map f (reverse xs) ≡ reverse (map f xs)
+map_reversed f [] = refl
+map_reversed f (x ∷ xs) =
+    ap (map f) (reverse-append (x ∷ []) xs) ∙ map-append f (reverse xs) (x ∷ []) ∙ ap (λ ys. ys ++ f x ∷ []) (map_reversed f xs) ∙ sym (reverse-append (f x ∷ []) (map f xs))

@@ -1,0 +1,163 @@
+-- Where a member stands in its key's queue, counted from the first and from the last.
+use Rattle.std.proofs.Common.{ap, arith, inl, inr, refl, subst, sym, ◌∙◌}
+use Rattle.std.proofs.lemmas.Bool.{cases_lt, cond-false, cond-true, false_from_ne_true}
+use Rattle.std.proofs.lemmas.Bool.Decides.{nat_tests}
+use Rattle.std.proofs.lemmas.Cmp.{tied_itself}
+use Rattle.std.proofs.lemmas.List.{get_or-reverse, get_or_default, length-reverse}
+use Rattle.std.proofs.lemmas.List.Sums.{position_or_len_is, sum_by-cons}
+use Rattle.std.proofs.lemmas.Option.{none-some}
+use Rattle.std.specs.FinMap.{get}
+use Rattle.std.specs.List.{position, position_or_len}
+use Rattle.std.specs.Ordering.{is_lt, ordering_reverse}
+use Rattle.std.specs.Prelude.{Bool, Contains, List, None, Some, [], cond, count_by, false, get_or, length, nat_lt, option_map, pos, reverse, suc, true, zero, ℕ, ℤ, ◌+◌, ◌-◌, ◌<◌, ◌∷◌, ◌≡◌, ◌≢◌}
+use Rattle.std.specs.declared.cmp.Ordering.TheVariants.{Less}
+use Rattle.zq_model.proofs.Places.{bytes_same, same_bytes}
+use Rattle.zq_model.proofs.Rising.{scored_total}
+use Rattle.zq_model.specs.Image.{Entry}
+use Rattle.zq_model.specs.Meaning.{IsRising, Scored, scored_cmp}
+use Rattle.zq_model.specs.Rule.{Rule}
+use Rattle.zq_model.specs.Score.{score_of}
+use Rattle.zq_model.specs.Sets.{IsIn}
+use Rattle.zq_posheap.proofs.Lists.{option_map_some}
+use Rattle.zq_posheap.proofs.ScoresOf.{get-scores_of}
+use Rattle.zq_posheap.specs.Members.{scores_of}
+use Rattle.zq_queue.proofs.Listeds.{contains_in, listed_in_order, listed_rises, listed_score}
+use Rattle.zq_queue.proofs.Helds.{score_held}
+use Rattle.zq_queue.specs.Entries.{Entries, entry_in}
+use Rattle.zq_queue.specs.Listed.{is_of_member, listed}
+use Rattle.zq_queue.specs.Queued.{AreScored, Held, entries_of}
+
+-- ---- the first place that passes
+
+module _ {X : Type 0} (p : X → Bool) (xs : List X) where
+  from_place : (n : ℕ) → position_or_len p xs ≡ n → position p xs ≡ cond (nat_lt n (length xs)) (Some n) None
+  from_place n is = ap (λ i. cond (nat_lt i (length xs)) (Some i) None) is
+
+  pub position_at : (i : ℕ) (d : X) → i < length xs → ((k : ℕ) → k < i → p (get_or xs k d) ≡ false) → p (get_or xs i d) ≡ true → position p xs ≡ Some i
+  position_at i d within before here =
+      let test : nat_lt i (length xs) ≡ true = grind (arith, nat_tests) in
+      from_place i (position_or_len_is p xs i d (omega (arith, within)) before (λ _. here)) ∙ cond-true _ (Some i) None test
+
+  pub position_none : (d : X) → ((k : ℕ) → k < length xs → p (get_or xs k d) ≡ false) → position p xs ≡ None
+  position_none d none =
+      let test : nat_lt (length xs) (length xs) ≡ false = grind (arith, nat_tests) in
+      from_place (length xs) (position_or_len_is p xs (length xs) d (omega arith) none (λ l. absurd (omega (arith, l)))) ∙ cond-false _ (Some (length xs)) None test
+
+-- ---- a rising list
+
+not_less : (x y : Scored) → scored_cmp y x ≡ Less → is_lt (scored_cmp x y) ≡ false
+not_less x y less = ap is_lt (scored_total.antisymm x y ∙ ap ordering_reverse less)
+
+abbrev goes_before : Scored → Scored → Bool
+goes_before y x = is_lt (scored_cmp x y)
+
+count_none : (xs : List Scored) (y : Scored) → ((x : Scored) → IsIn x xs → scored_cmp y x ≡ Less) → count_by (goes_before y) xs ≡ 0
+count_none [] y above = refl
+count_none (x ∷ xs) y above =
+    sum_by-cons (λ z. cond (goes_before y z) 1 0) x xs ∙ (λ k. cond (not_less x y (above x (inl refl)) k) 1 0 + count_none xs y (λ z i. above z (inr i)) k)
+
+-- as many go before an element as its index says
+count_index : (xs : List Scored) → IsRising xs → (i : ℕ) (d : Scored) → i < length xs → count_by (goes_before (get_or xs i d)) xs ≡ i
+count_index [] up i d within = absurd (omega (arith, within))
+count_index (x ∷ xs) up zero d within =
+    sum_by-cons (λ z. cond (goes_before x z) 1 0) x xs ∙ (λ k. cond (ap is_lt (tied_itself scored_total x) k) 1 0 + count_none xs x up.0 k)
+count_index (x ∷ xs) up (suc i) d within =
+    let y : Scored = get_or xs i d in
+    let l : i < length xs = omega (arith, within) in
+    let less : scored_cmp x y ≡ Less = up.0 y (contains_in y xs (i, l, get_or_default xs i y d l)) in
+    let e : count_by (goes_before y) (x ∷ xs) ≡ 1 + i
+    = sum_by-cons (λ z. cond (goes_before y z) 1 0) x xs ∙ (λ k. cond (ap is_lt less k) 1 0 + count_index xs up.1 i d l k) in
+    omega (arith, e)
+
+-- ---- a member that does not stand
+
+module _ (rule : Rule) (entries : Entries) (m : List ℕ) (none : score_of rule (entry_in entries m) ≡ None) where
+  not_its : (k : ℕ) (d : Scored) → k < length (listed rule entries) → is_of_member m (get_or (listed rule entries) k d) ≡ false
+  not_its k d within = false_from_ne_true _ (λ is.
+      let z : Scored = get_or (listed rule entries) k d in
+      let here = contains_in z (listed rule entries) (k, within, get_or_default (listed rule entries) k z d within) in
+      none-some z.0 (sym none ∙ ap (λ n. score_of rule (entry_in entries n)) (sym (same_bytes z.1 m is)) ∙ listed_score rule entries z.0 z.1 here))
+
+  -- has no rank
+  pub no_rank : position (is_of_member m) (listed rule entries) ≡ None
+  no_rank = position_none (is_of_member m) (listed rule entries) (pos 0, []) (λ k within. not_its k (pos 0, []) within)
+
+  pub no_turned_rank : position (is_of_member m) (reverse (listed rule entries)) ≡ None
+  no_turned_rank = position_none (is_of_member m) (reverse (listed rule entries)) (pos 0, []) (λ k within.
+      let l : k < length (listed rule entries) = omega (arith, within, length-reverse (listed rule entries)) in
+      ap (is_of_member m) (get_or-reverse (listed rule entries) k (pos 0, []) l) ∙ not_its (length (listed rule entries) - 1 - k) (pos 0, []) (omega (arith, l)))
+
+-- ---- the queue
+
+module _ (rule : Rule) (held : Held) (all : AreScored rule held) (m : List ℕ) where
+  abbrev queue : List Scored
+  queue = listed rule (entries_of held)
+
+  abbrev is_its : Scored → Bool
+  is_its = is_of_member m
+
+  -- a pair of the member is in the map
+  got_at : (k : ℕ) (d : Scored) → k < length queue → is_its (get_or queue k d) ≡ true → get (scores_of held) m ≡ Some (get_or queue k d).0
+  got_at k d within is =
+      let z : Scored = get_or queue k d in
+      ap (get (scores_of held)) (sym (same_bytes z.1 m is)) ∙ ((listed_in_order rule held all).lists.has z).0 (k, within, get_or_default queue k z d within)
+
+  module _ (p : ℤ × Entry) (there : get held m ≡ Some p) where
+    abbrev its : Scored
+    its = (p.0, m)
+
+    place : Contains queue its
+    place = ((listed_in_order rule held all).lists.has its).1 (get-scores_of held m ∙ ap (option_map (λ q. q.0)) there)
+
+    count_is : count_by (goes_before its) queue ≡ place.0
+    count_is = ap (λ y. count_by (goes_before y) queue) (sym place.2) ∙ count_index queue (listed_rises rule (entries_of held)) place.0 its place.1
+
+    -- how many go before it is below the length
+    pub count_within : count_by (λ z. is_lt (scored_cmp z its)) queue < length queue
+    count_within = omega (arith, count_is, place.1)
+
+    passes : is_its (get_or queue place.0 its) ≡ true
+    passes = ap is_its place.2 ∙ bytes_same m m refl
+
+    -- no other pair is the member's
+    others_fail : (k : ℕ) → k < length queue → k ≢ place.0 → is_its (get_or queue k its) ≡ false
+    others_fail k within apart = false_from_ne_true _ (λ is.
+        let member : (get_or queue k its).1 ≡ m = same_bytes (get_or queue k its).1 m is in
+        let here : (get_or queue place.0 its).1 ≡ m = ap (λ z. z.1) place.2 in
+        let once = (listed_in_order rule held all).lists.once in
+        elim (cases_lt k place.0) [
+          | inl l ↦ once k place.0 its l place.1 (member ∙ sym here)
+          | inr g ↦ once place.0 k its (omega (arith, g, apart)) within (here ∙ sym member)
+        ])
+
+    -- its rank is how many go before it
+    pub rank_is : Some (count_by (λ z. is_lt (scored_cmp z its)) queue) ≡ position is_its queue
+    rank_is = ap (λ n. Some n) count_is ∙ sym (position_at is_its queue place.0 its place.1 (λ k l. others_fail k (omega (arith, l, place.1)) (λ e. absurd (omega (arith, l, e)))) passes)
+
+    -- its rank from the last is how many go after it
+    pub turned_rank_is : Some (length queue - 1 - count_by (λ z. is_lt (scored_cmp z its)) queue) ≡ position is_its (reverse queue)
+    turned_rank_is =
+        let n = length queue in
+        let i = n - 1 - place.0 in
+        let long = length-reverse queue in
+        let within : i < n = omega (arith, place.1) in
+        let back : n - 1 - i ≡ place.0 = omega (arith, place.1) in
+        ap (λ c. Some (length queue - 1 - c)) count_is
+        ∙ sym (position_at is_its (reverse queue) i its (omega (arith, within, long))
+        (λ k l. ap is_its (get_or-reverse queue k its (omega (arith, l, within))) ∙ others_fail (n - 1 - k) (omega (arith, place.1)) (λ e. absurd (omega (arith, l, e, place.1))))
+        (ap is_its (get_or-reverse queue i its within) ∙ ap (λ j. is_its (get_or queue j its)) back ∙ passes))
+
+  -- ---- the same, by the score
+
+  held_some : (x : ℤ) → score_of rule (entry_in (entries_of held) m) ≡ Some x → (p : ℤ × Entry) × (get held m ≡ Some p) × (p.0 ≡ x)
+  held_some x is = option_map_some (λ p. p.0) (get held m) x (sym (score_held rule held all m) ∙ is)
+
+  module _ (x : ℤ) (is : score_of rule (entry_in (entries_of held) m) ≡ Some x) where
+    pub rank_of : Some (count_by (λ z. is_lt (scored_cmp z (x, m))) queue) ≡ position is_its queue
+    rank_of = let p = held_some x is in subst (λ y. Some (count_by (λ z. is_lt (scored_cmp z (y, m))) queue) ≡ position is_its queue) p.2 (rank_is p.0 p.1)
+
+    pub turned_rank_of : Some (length queue - 1 - count_by (λ z. is_lt (scored_cmp z (x, m))) queue) ≡ position is_its (reverse queue)
+    turned_rank_of = let p = held_some x is in subst (λ y. Some (length queue - 1 - count_by (λ z. is_lt (scored_cmp z (y, m))) queue) ≡ position is_its (reverse queue)) p.2 (turned_rank_is p.0 p.1)
+
+    pub rank_within : count_by (λ z. is_lt (scored_cmp z (x, m))) queue < length queue
+    rank_within = let p = held_some x is in subst (λ y. count_by (λ z. is_lt (scored_cmp z (y, m))) queue < length queue) p.2 (count_within p.0 p.1)

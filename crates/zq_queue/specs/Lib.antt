@@ -1,0 +1,6 @@
+pub mod Entries
+pub mod Codes
+pub mod Queued
+pub mod Listed
+pub mod Lent
+pub mod Built

@@ -1,0 +1,156 @@
+//! What changes the entries of a queue.
+
+ghost use Rattle.std.specs.Prelude.{IfOk, List, None, Some, OnErr, OnOk, false, true, unwrap_or, ℕ, ◌*◌, ◌-◌, ◌≡◌};
+ghost use Rattle.zq_entry.specs.Within.{AreSumsWithin};
+ghost use Rattle.zq_model.specs.Operation.{Drop as ActDrop, MOST, is_bump};
+ghost use Rattle.zq_dots.specs.Rule.{rule_of};
+ghost use Rattle.zq_queue.specs.Queued.{AreScored, entries_of};
+ghost use Rattle.zq_posheap.specs.Members.{HasPlace, IsPlaceOf};
+ghost use Rattle.std.specs.FinMap.{get, insert};
+ghost use Rattle.zq_model.specs.Image.{entry_after, is_bare, no_additions};
+ghost use Rattle.zq_queue.specs.Entries.{HasRoomFor, entries_after, entry_in, set_entry};
+
+use crate::queue::Queue;
+use std::alloc::{AllocError, Global};
+use zq_dots::{Act, Op, Rule};
+use zq_entry::Entry;
+use zq_posheap::{Place, PosHeap};
+
+/// What an operation makes of an entry. Additions that it takes away are not copied.
+fn changed(alloc: Global, entry: &Entry, op: &Op) -> Result<Entry, AllocError>
+    requires { is_bump op.now.operation.act ≡ true → AreSumsWithin op.now.operation.site (MOST * (op.now.operation.n - 1)) entry.now }
+    ensures { IfOk result (λ new. new ≡ entry_after op.now.operation.act op.now.operation.site op.now.operation.n op.now.operation.seen entry.now) }
+{
+    match op.act() {
+        Act::Put(score) => {
+            let mut changed = unseen(alloc, entry, op)?;
+            changed.put(alloc, op.dot(), score, op.seen())?;
+            Ok(changed)
+        }
+        Act::Bump(increment) => {
+            let mut changed = entry.copy(alloc)?;
+            changed.bump(alloc, op.dot(), increment, op.seen())?;
+            Ok(changed)
+        }
+        Act::Drop => unseen(alloc, entry, op),
+    }
+}
+
+/// A copy of the additions that an operation had not seen.
+fn unseen(alloc: Global, entry: &Entry, op: &Op) -> Result<Entry, AllocError>
+    ensures { (site n : ℕ) → IfOk result (λ new. new ≡ entry_after ActDrop site n op.now.operation.seen entry.now) }
+{
+    entry.merge(alloc, op.seen(), &Entry::new(), op.seen())
+}
+
+/// Gives the member at a place another entry, or takes it out where that is bare, and answers the entry that it had.
+fn exchange(members: &mut PosHeap<Entry>, rule: Rule, place: Place, entry: Entry) -> Entry
+    requires scored { AreScored (rule_of rule) members.old.held }
+    requires place { HasPlace members.old place }
+    ensures scored { AreScored (rule_of rule) members.new.held }
+    ensures before { (member : List ℕ) → IsPlaceOf members.old member place → get (entries_of members.old.held) member ≡ Some result }
+    ensures set { (member : List ℕ) → IsPlaceOf members.old member place → entries_of members.new.held ≡ set_entry (entries_of members.old.held) member entry }
+{
+    match entry.score(rule) {
+        Some(score) => members.replace_at(place, score, entry),
+        None => {
+            drop(entry);
+            let (_, before) = members.remove_at(place);
+            before
+        }
+    }
+}
+
+impl Queue {
+    /// Takes a new operation on one of its members, and answers the entry that the member had: it is moved out, and only
+    /// what stays of it is copied. A member whose last addition goes does not stand any more. Where memory is refused
+    /// nothing changes.
+    pub fn take(&mut self, alloc: Global, op: &Op) -> Result<Option<Entry>, AllocError>
+        requires { HasRoomFor op.now.operation self.old.entries }
+        ensures rule { self.new.rule ≡ self.old.rule }
+        ensures taken { OnOk result (self.new.entries ≡ entries_after op.now.operation self.old.entries) }
+        ensures before { IfOk result (λ before. before ≡ get self.old.entries op.now.operation.member) }
+        ensures refused { OnErr result (self.new ≡ self.old) }
+    {
+        match self.members.find(op.member()) {
+            Some(place) => {
+                let (_, entry) = self.members.at(place);
+                let entry = changed(alloc, entry, op)?;
+                Ok(Some(exchange(&mut self.members, self.rule, place, entry)))
+            }
+            None => {
+                let entry = changed(alloc, &Entry::new(), op)?;
+                self.add(op.member(), entry)?;
+                Ok(None)
+            }
+        }
+    }
+
+    /// Adds a member that does not stand, unless its entry is bare.
+    pub(crate) fn add(&mut self, member: &[u8], entry: Entry) -> Result<(), AllocError>
+        requires { get self.old.entries member.now ≡ None }
+        ensures rule { self.new.rule ≡ self.old.rule }
+        ensures added { OnOk result (self.new.entries ≡ set_entry self.old.entries member.now entry) }
+        ensures refused { OnErr result (self.new ≡ self.old) }
+    {
+        if let Some(score) = entry.score(self.rule) {
+            self.members.insert(member, score, entry)?;
+        }
+        Ok(())
+    }
+
+    /// Gives a member back the entry that it had, or takes it out where it had none, so that a change is undone. A bare
+    /// entry counts as none. Where memory is refused, which is only for a member that does not stand, nothing changes.
+    pub fn put_back(&mut self, member: &[u8], before: Option<Entry>) -> Result<(), AllocError>
+        ensures rule { self.new.rule ≡ self.old.rule }
+        ensures back { OnOk result (self.new.entries ≡ set_entry self.old.entries member.now (unwrap_or before no_additions)) }
+        ensures refused { OnErr result (self.new ≡ self.old) }
+        ensures absent { OnErr result (get self.old.entries member.now ≡ None) }
+    {
+        match before {
+            Some(entry) => self.set(member, entry),
+            None => {
+                drop(self.members.remove(member));
+                Ok(())
+            }
+        }
+    }
+
+    /// Gives a member this entry, whether it stands or not.
+    fn set(&mut self, member: &[u8], entry: Entry) -> Result<(), AllocError>
+        ensures rule { self.new.rule ≡ self.old.rule }
+        ensures set { OnOk result (self.new.entries ≡ set_entry self.old.entries member.now entry) }
+        ensures refused { OnErr result (self.new ≡ self.old) }
+        ensures absent { OnErr result (get self.old.entries member.now ≡ None) }
+    {
+        match entry.score(self.rule) {
+            Some(score) => {
+                let given = self.members.set(member, score, entry)?;
+                drop(given);
+            }
+            None => {
+                drop(entry);
+                drop(self.members.remove(member));
+            }
+        }
+        Ok(())
+    }
+
+    /// Adds a member that does not stand, with its entry. Where memory is refused nothing changes.
+    pub fn push(&mut self, member: &[u8], entry: Entry) -> Result<(), AllocError>
+        requires absent { get self.old.entries member.now ≡ None }
+        requires some { is_bare entry ≡ false }
+        ensures rule { self.new.rule ≡ self.old.rule }
+        ensures pushed { OnOk result (self.new.entries ≡ insert self.old.entries member.now entry) }
+        ensures refused { OnErr result (self.new ≡ self.old) }
+    {
+        self.add(member, entry)
+    }
+
+    /// Makes room for so many members more, so that they are added without growth.
+    pub fn reserve(&mut self, additional: usize) -> Result<(), AllocError>
+        ensures { self.new ≡ self.old }
+    {
+        self.members.reserve(additional)
+    }
+}

@@ -1,0 +1,17 @@
+//! The members of one key with their entries, by which the key's queue is read: its members with their scores, by score
+//! and then by the members' bytes.
+//!
+//! A member's score and its entry lie in one slot of a positioned heap, so that a call looks its member up once.
+#![tactic(auto)]
+
+mod changes;
+mod copies;
+pub mod laws;
+mod merges;
+mod queue;
+mod readings;
+mod rows;
+#[cfg(test)]
+mod tests;
+
+pub use queue::Queue;

@@ -1,0 +1,45 @@
+use Rattle.std.proofs.Common.{Some, ap, refl, sym, true≢false, ◌∙◌, ◌≡◌}
+use Rattle.std.proofs.lemmas.Option.{none-some, same_Some}
+use Rattle.std.specs.Map.Iter.{deref_pair}
+use Rattle.std.specs.Option.{option_copied}
+use Rattle.zq_shard.proofs.ByBytes.{found}
+use Rattle.zq_shard.proofs.Within.{within_end, within_source, within_start, within_turn}
+use Rattle.zq_shard.proofs.queues.are_within.Goals as goal
+
+pub loop-key-init : goal.loop-key-init
+loop-key-init c =
+    let gives = c.into_iter-key-iterator.ensures.into_iter_gives in
+    within_start c.args.queues.now.entries c.into_iter-key-iterator.result c.args.others.now.entries gives.0 gives.4
+
+pub loop-key-preserved : goal.loop-key-preserved
+loop-key-preserved c =
+    within_turn deref_pair c.args.queues.now.entries c.loop-key.key-iterator c.next.new.self c.args.others.now.entries c.next.result c.loop-key.invariant c.next.ensures.steps
+    (c.in-Some.key, c.in-Some.queue) c.in-Some.is
+    (found c.args.others.now.entries c.in-Some.key.now.items ∙ sym c.in-Some-get.ensures.value ∙ ap Some (sym (c.same.ensures.0 c.if-same.true)))
+
+pub returns-in_default : goal.returns-in_default
+returns-in_default c = (
+  λ t. absurd (true≢false (sym t)),
+  λ all.
+      let mine = within_source deref_pair c.args.queues.now.entries c.loop-key.key-iterator c.next.new.self c.args.others.now.entries c.next.result c.loop-key.invariant c.next.ensures.steps
+      (c.in-Some.key, c.in-Some.queue) c.in-Some.is in
+      let both : Some c.in-Some.queue.now ≡ Some c.in-Some-get.other.now
+      = sym (all c.in-Some.key.now.items c.in-Some.queue.now mine) ∙ found c.args.others.now.entries c.in-Some.key.now.items ∙ sym c.in-Some-get.ensures.value in
+      absurd (true≢false (sym (c.same.ensures.1 (same_Some _ _ both)) ∙ c.if-same.false)),
+)
+
+pub returns-in_default-2 : goal.returns-in_default-2
+returns-in_default-2 c = (
+  λ t. absurd (true≢false (sym t)),
+  λ all.
+      let mine = within_source deref_pair c.args.queues.now.entries c.loop-key.key-iterator c.next.new.self c.args.others.now.entries c.next.result c.loop-key.invariant c.next.ensures.steps
+      (c.in-Some.key, c.in-Some.queue) c.in-Some.is in
+      absurd (none-some c.in-Some.queue.now (ap option_copied (sym c.in_default.is) ∙ c.get.ensures.value ∙ sym (found c.args.others.now.entries c.in-Some.key.now.items)
+      ∙ all c.in-Some.key.now.items c.in-Some.queue.now mine)),
+)
+
+pub returns : goal.returns
+returns c = (
+  λ _. within_end deref_pair c.args.queues.now.entries c.loop-key.key-iterator c.next.new.self c.args.others.now.entries c.next.result c.loop-key.invariant c.next.ensures.steps c.in-None.is,
+  λ _. refl,
+)

@@ -1,0 +1,12 @@
+use Rattle.std.proofs.Common.{ap, map, sym, ◌∙◌}
+use Rattle.zq_queue.specs.Lent.{lent_pair}
+use Rattle.zq_shard.proofs.Outcomes.{if_ok_map}
+use Rattle.zq_shard.proofs.Meant.{queue_meant}
+use Rattle.zq_shard.specs.Shard.{HeapImage, queue_at}
+use Rattle.zq_shard.proofs.shard.Shard.in_order.Goals as goal
+
+pub returns-in-Some-clause-meant : goal.returns-in-Some-clause-meant
+returns-in-Some-clause-meant c = λ S q meant. if_ok_map c.in_order.result c.in_order.ensures (λ pairs is. is ∙ (c.in-Some.ensures.list ∙ ap (λ (s : HeapImage). queue_at s c.args.key.now) c.self.view_is ∙ queue_meant c.args.self.now S c.args.key.now q meant))
+
+pub returns-in-None-clause-meant : goal.returns-in-None-clause-meant
+returns-in-None-clause-meant c = λ S q meant. ap (map lent_pair) c.new.ensures.items ∙ (sym c.in-None.ensures.no_list ∙ ap (λ (s : HeapImage). queue_at s c.args.key.now) c.self.view_is ∙ queue_meant c.args.self.now S c.args.key.now q meant)

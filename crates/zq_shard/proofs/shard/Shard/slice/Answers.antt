@@ -1,0 +1,13 @@
+use Rattle.std.proofs.Common.{ap, map, sym, ◌∙◌}
+use Rattle.zq_queue.specs.Lent.{lent_pair}
+use Rattle.zq_shard.proofs.Outcomes.{if_ok_map}
+use Rattle.zq_queue.specs.Listed.{part}
+use Rattle.zq_shard.proofs.Meant.{part_nothing, queue_meant}
+use Rattle.zq_shard.specs.Shard.{HeapImage, queue_at}
+use Rattle.zq_shard.proofs.shard.Shard.slice.Goals as goal
+
+pub returns-in-Some-clause-meant : goal.returns-in-Some-clause-meant
+returns-in-Some-clause-meant c = λ S q meant. if_ok_map c.slice.result c.slice.ensures (λ pairs is. is ∙ ap (part c.args.from c.args.to) (c.in-Some.ensures.list ∙ ap (λ (s : HeapImage). queue_at s c.args.key.now) c.self.view_is ∙ queue_meant c.args.self.now S c.args.key.now q meant))
+
+pub returns-in-None-clause-meant : goal.returns-in-None-clause-meant
+returns-in-None-clause-meant c = λ S q meant. ap (map lent_pair) c.new.ensures.items ∙ part_nothing c.args.from c.args.to ∙ ap (part c.args.from c.args.to) (sym c.in-None.ensures.no_list ∙ ap (λ (s : HeapImage). queue_at s c.args.key.now) c.self.view_is ∙ queue_meant c.args.self.now S c.args.key.now q meant)

@@ -1,0 +1,198 @@
+//! How a shard makes and takes operations.
+ghost use Rattle.std.specs.Prelude.{◌≡◌, ◌≢◌, ◌≤◌, ◌↔◌, ◌∷◌, IfErr, IfOk, IfSome, IsErrOf, IsOk, List, OnErr, OnOk, false, length, slice_index};
+ghost use Rattle.std.specs.FinMap as map;
+ghost use Rattle.zq_dots.specs.Act.{act_of};
+ghost use Rattle.zq_dots.specs.Placed.{IsRanged, LONGEST};
+ghost use Rattle.zq_model.specs.Bounded.{IsBounded};
+ghost use Rattle.zq_model.specs.Heaps as place;
+ghost use Rattle.zq_model.specs.Image.{image_after, image_taken, is_bare, place_of};
+ghost use Rattle.zq_model.specs.Operation.{Operation};
+ghost use Rattle.zq_model.specs.Sets as sets;
+ghost use Rattle.zq_model.specs.Sets.{IsWorld, LAST, taken_of};
+ghost use Rattle.zq_shard.specs.Queues.{or_none};
+ghost use Rattle.zq_shard.specs.Shard.{HoldsImage, IsOfHeap, next_operation, with_entry, with_vector};
+ghost use Rattle.zq_shard.specs.Taken.{answer_of};
+
+use crate::faults::{MakeFault, TakeFault};
+use crate::shard::Shard;
+use crate::taken::Taken;
+use std::alloc::{AllocError, Global};
+use zq_dots::{Act, Op, SiteNo, Vector, heap_of};
+use zq_entry::Entry;
+
+impl Shard {
+    /// The next operation of a site, which is not yet taken. Two drafts of a site with nothing
+    /// taken in between have the same dot: at most one of them may be put in or sent.
+    ///
+    /// `WrongHeap` where the member lies in another heap, else `Worn` where the site's counter is at
+    /// its last value, else `NoMemory` where a copy of the key or the member found no memory.
+    pub fn draft(
+        &self,
+        alloc: Global,
+        site: SiteNo,
+        key: &[u8],
+        member: &[u8],
+        act: Act,
+    ) -> Result<Op, MakeFault>
+        requires key { length key.now ≤ LONGEST }
+        requires member { length member.now ≤ LONGEST }
+        ensures wrong_heap { IsErrOf result MakeFault.WrongHeap ↔ (place.heap_of key.now member.now self.now.heaps ≢ self.now.heap) }
+        ensures worn { IsErrOf result MakeFault.Worn ↔ ((place.heap_of key.now member.now self.now.heaps ≡ self.now.heap) × (slice_index self.now.image.vector site ≡ LAST)) }
+        ensures made { IfOk result (λ op. op ≡ next_operation self.now site key.now member.now (act_of act)) }
+        ensures placed { IfOk result (λ op. IsOfHeap self.now op) }
+        ensures new { IfOk result (λ op. taken_of self.now.image.vector op.operation ≡ sets.New) }
+        ensures sound { IfOk result (λ op. IsRanged op) }
+    {
+        if heap_of(key, member, self.heaps) != self.heap {
+            return Err(MakeFault::WrongHeap);
+        }
+        let dot = self.vector.next(site)?;
+        let key = Vec::from_slice(alloc, key)?;
+        let member = Vec::from_slice(alloc, member)?;
+        Ok(Op::new(self.heap, self.heaps, dot, self.vector, key, member, act))
+    }
+
+    /// Takes an operation of this heap that is New here, and answers what its member had before.
+    /// Where memory is short nothing changes.
+    pub fn put_in(&mut self, alloc: Global, op: &Op) -> Result<Option<Entry>, AllocError>
+        requires placed { IsOfHeap self.old op.now }
+        requires new { taken_of self.old.image.vector op.now.operation ≡ sets.New }
+        ensures heap { self.new.heap ≡ self.old.heap }
+        ensures heaps { self.new.heaps ≡ self.old.heaps }
+        ensures rule { self.new.rule ≡ self.old.rule }
+        ensures before { IfOk result (λ before. before ≡ map.get self.old.image.members (place_of op.now.operation)) }
+        ensures taken { OnOk result (self.new.image ≡ image_after op.now.operation self.old.image) }
+        ensures set { OnOk result ((S : List Operation) → HoldsImage self.old S → IsWorld self.old.heaps (op.now.operation ∷ S) → HoldsImage self.new (op.now.operation ∷ S)) }
+        ensures refused { OnErr result (self.new ≡ self.old) }
+    {
+        ranged(op);
+        let before = self.queues.take(alloc, op)?;
+        let dot = op.dot();
+        self.vector.set(dot.site, dot.n);
+        Ok(before)
+    }
+
+    /// Gives a member back what it had before an operation, and takes it out where that is nothing.
+    /// The vector stays. It undoes an operation where [`Shard::set_vector`] sets the vector back
+    /// too. Where memory is short nothing changes.
+    pub fn put_back(
+        &mut self,
+        alloc: Global,
+        key: &[u8],
+        member: &[u8],
+        before: Option<Entry>,
+    ) -> Result<(), AllocError>
+        requires full { IfSome before (λ entry. is_bare entry ≡ false) }
+        requires bounded { IsBounded self.old.heaps self.old.heap (with_entry (key.now, member.now) (or_none before) self.old.image) }
+        ensures heap { self.new.heap ≡ self.old.heap }
+        ensures heaps { self.new.heaps ≡ self.old.heaps }
+        ensures rule { self.new.rule ≡ self.old.rule }
+        ensures image { OnOk result (self.new.image ≡ with_entry (key.now, member.now) (or_none before) self.old.image) }
+        ensures refused { OnErr result (self.new ≡ self.old) }
+    {
+        self.queues.put_back(alloc, key, member, before)
+    }
+
+    /// Sets its vector to one in which its members keep their bounds.
+    pub fn set_vector(&mut self, vector: &Vector)
+        requires { IsBounded self.old.heaps self.old.heap (with_vector vector.now self.old.image) }
+        ensures heap { self.new.heap ≡ self.old.heap }
+        ensures heaps { self.new.heaps ≡ self.old.heaps }
+        ensures rule { self.new.rule ≡ self.old.rule }
+        ensures image { self.new.image ≡ with_vector vector.now self.old.image }
+    {
+        self.vector = *vector;
+    }
+
+    /// Makes the next operation of a site and takes it. Faults are those of [`Shard::draft`], and
+    /// `NoMemory` also where the image cannot grow; after each nothing has changed.
+    pub fn make(
+        &mut self,
+        alloc: Global,
+        site: SiteNo,
+        key: &[u8],
+        member: &[u8],
+        act: Act,
+    ) -> Result<Op, MakeFault>
+        requires key { length key.now ≤ LONGEST }
+        requires member { length member.now ≤ LONGEST }
+        ensures wrong_heap { IsErrOf result MakeFault.WrongHeap ↔ (place.heap_of key.now member.now self.old.heaps ≢ self.old.heap) }
+        ensures worn { IsErrOf result MakeFault.Worn ↔ ((place.heap_of key.now member.now self.old.heaps ≡ self.old.heap) × (slice_index self.old.image.vector site ≡ LAST)) }
+        ensures made { IfOk result (λ op. op ≡ next_operation self.old site key.now member.now (act_of act)) }
+        ensures placed { IfOk result (λ op. IsOfHeap self.old op) }
+        ensures sound { IfOk result (λ op. IsRanged op) }
+        ensures heap { self.new.heap ≡ self.old.heap }
+        ensures heaps { self.new.heaps ≡ self.old.heaps }
+        ensures rule { self.new.rule ≡ self.old.rule }
+        ensures taken { IfOk result (λ op. self.new.image ≡ image_after op.operation self.old.image) }
+        ensures set { IfOk result (λ op. (S : List Operation) → HoldsImage self.old S → HoldsImage self.new (op.operation ∷ S)) }
+        ensures refused { OnErr result (self.new ≡ self.old) }
+    {
+        let op = self.draft(alloc, site, key, member, act)?;
+        drop(self.put_in(alloc, &op)?);
+        Ok(op)
+    }
+
+    /// What becomes of an operation that is handed to this heap: `Known` where the vector has its
+    /// dot, else `Early` where it does not cover what the operation has seen, else `New`.
+    ///
+    /// `WrongHeap` where the heap, the number of heaps or the member's hash is another.
+    pub fn judge(&self, op: &Op) -> Result<Taken, TakeFault>
+        ensures judged { IfOk result (λ taken. answer_of taken ≡ taken_of self.now.image.vector op.now.operation) }
+        ensures placed { IsOk result ↔ IsOfHeap self.now op.now }
+        ensures wrong_heap { IfErr result (λ fault. fault ≡ TakeFault.WrongHeap) }
+    {
+        if op.heap() != self.heap
+            || op.heaps() != self.heaps
+            || heap_of(op.key(), op.member(), self.heaps) != self.heap
+        {
+            return Err(TakeFault::WrongHeap);
+        }
+        if self.vector.has(op.dot()) {
+            return Ok(Taken::Known);
+        }
+        if self.vector.covers(op.seen()) {
+            Ok(Taken::New)
+        } else {
+            Ok(Taken::Early)
+        }
+    }
+
+    /// Takes an operation of another site where it is New; what is Known or Early changes nothing.
+    /// The answer is that of [`Shard::judge`], and `NoMemory` where a New one finds no memory; after
+    /// a fault nothing has changed.
+    pub fn take(&mut self, alloc: Global, op: &Op) -> Result<Taken, TakeFault>
+        ensures judged { IfOk result (λ taken. answer_of taken ≡ taken_of self.old.image.vector op.now.operation) }
+        ensures wrong_heap { IsErrOf result TakeFault.WrongHeap ↔ (IsOfHeap self.old op.now → ⊥) }
+        ensures no_memory { IsErrOf result TakeFault.NoMemory → taken_of self.old.image.vector op.now.operation ≡ sets.New }
+        ensures heap { self.new.heap ≡ self.old.heap }
+        ensures heaps { self.new.heaps ≡ self.old.heaps }
+        ensures rule { self.new.rule ≡ self.old.rule }
+        ensures image { OnOk result (self.new.image ≡ image_taken op.now.operation self.old.image) }
+        ensures set { IfOk result (λ taken. (S : List Operation) → HoldsImage self.old S → IsWorld self.old.heaps (op.now.operation ∷ S) → (answer_of taken ≡ sets.Early → ⊥) → HoldsImage self.new (op.now.operation ∷ S)) }
+        ensures refused { OnErr result (self.new ≡ self.old) }
+    {
+        match self.judge(op)? {
+            Taken::New => {
+                drop(self.put_in(alloc, op)?);
+                Ok(Taken::New)
+            }
+            Taken::Known => Ok(Taken::Known),
+            Taken::Early => Ok(Taken::Early),
+        }
+    }
+}
+
+/// What the type of an operation keeps of its numbers.
+fn ranged(op: &Op)
+    ensures { IsRanged op.now }
+{
+    let _heaps = op.heaps();
+    let _heap = op.heap();
+    let dot = op.dot();
+    let _site = dot.site.value();
+    let _seen = op.seen();
+    let _key = op.key();
+    let _member = op.member();
+    let _act = op.act();
+}
