@@ -2,6 +2,6 @@ pub mod Dates
 pub mod Steps
 pub mod NewRecords
 mod Tails
-mod Kept
+pub mod Kept
 mod Sets
 mod Reached

@@ -7,7 +7,7 @@ use Rattle.std.proofs.lemmas.List.{append_assoc, length-append, length-drop, tak
 use Rattle.std.specs.Prelude.{List, [], drop, length, nat_le, refl, take, ℕ, ◌++◌, ◌+◌, ◌-◌, ◌<◌, ◌≡◌, ◌≤◌, ◌⊎◌}
 use Rattle.zq_history.proofs.Steps.{are_rising-joined, are_rising-own, are_steps_over-append, steps_image-append}
 use Rattle.zq_history.proofs.Tails.{tail_after-append, tail_after-behind}
-use Rattle.zq_history.specs.Books.{Book, Record, Step, tail_after}
+use Rattle.zq_history.specs.Books.{Book, Record, Step, advanced, tail_after, touched}
 use Rattle.zq_history.specs.Reach.{IsReachedBy, IsWorked, KEPT, LONG, cut_of}
 
 -- what was cut off a tail, and how it stands to the whole
@@ -43,6 +43,7 @@ reached_through c b a xs ys second first =
     record {
       heap = second.heap ∙ first.heap;
       heaps = second.heaps ∙ first.heaps;
+      rule = second.rule ∙ first.rule;
       legal = are_steps_over-append a.heap xs ys a.state first.legal (rw (← first.heap, ← first.state) second.legal);
       state = second.state ∙ rw (first.state, steps_image-append xs ys a.state) refl;
       rising = are_rising-joined (a.stamp + 1) b.stamp c.stamp xs ys (omega (arith, first.stamp)) second.stamp first.rising second.rising;
@@ -79,11 +80,44 @@ worked_reaches b a stamp steps is later =
     record {
       heap = is.heap;
       heaps = is.heaps;
+      rule = is.rule;
       legal = is.legal;
       state = is.state;
       rising = rw is.stamp_is (are_rising-own (a.stamp + 1) stamp steps (omega arith) is.own);
       stamp = omega (arith, is.stamp_is);
       count = is.count;
+      cut = tails.cut;
+      tail = tails.is;
+      long = tails.long;
+    }
+
+pub touched_reaches : (a : Book) (stamp : ℕ) → a.stamp ≤ stamp → IsReachedBy (touched a stamp) a []
+touched_reaches a stamp later = record {
+  heap = refl;
+  heaps = refl;
+  rule = refl;
+  legal = refl;
+  state = refl;
+  rising = refl;
+  stamp = later;
+  count = omega arith;
+  cut = [];
+  tail = refl;
+  long = inl refl;
+}
+
+pub advanced_reaches : (n : ℕ) (a : Book) → n ≤ cut_of (length a.tail) → IsReachedBy (advanced n a) a []
+advanced_reaches n a most =
+    let tails : IsCut a.tail (drop n a.tail) = cut_off n a.tail most in
+    record {
+      heap = refl;
+      heaps = refl;
+      rule = refl;
+      legal = refl;
+      state = refl;
+      rising = refl;
+      stamp = omega arith;
+      count = omega arith;
       cut = tails.cut;
       tail = tails.is;
       long = tails.long;

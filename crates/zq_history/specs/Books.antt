@@ -1,9 +1,10 @@
--- A book: the image of one heap, with the records that lead from an older image to it.
+-- A book: the image of one heap, with the rule of its scores and the records that lead from an older image to it.
 
 use Rattle.std.specs.Cmp.Lexicographic.{pointwise}
 use Rattle.std.specs.Prelude.{Bool, List, [], drop, length, map, nat_eq, nat_le, nat_lt, not, slice_index, take, true, ℕ, ◌&&◌, ◌++◌, ◌+◌, ◌==◌, ◌∷◌, ◌≡◌, ◌≤◌}
 use Rattle.zq_model.specs.Image.{Image, image_after, join}
 use Rattle.zq_model.specs.Operation.{Operation, has}
+use Rattle.zq_model.specs.Rule.{Rule}
 use Rattle.zq_model.specs.Sets.{SITES, covers}
 
 -- an operation that was made here, or made elsewhere and new here
@@ -18,6 +19,7 @@ pub record Record : Type 0 where
 pub record Book : Type 0 where
   pub heap : ℕ
   pub heaps : ℕ
+  pub rule : Rule
   pub base : Image
   pub state : Image
   pub tail : List Record
@@ -95,6 +97,7 @@ abbrev pub recorded : Book → ℕ → Change → Book
 recorded b stamp change = record {
   heap = b.heap;
   heaps = b.heaps;
+  rule = b.rule;
   base = b.base;
   state = image_after (operation_of change) b.state;
   tail = b.tail ++ record { stamp = stamp; change = change } ∷ [];
@@ -107,6 +110,7 @@ abbrev pub merged : Book → ℕ → Image → Book
 merged b stamp other = record {
   heap = b.heap;
   heaps = b.heaps;
+  rule = b.rule;
   base = join b.state other;
   state = join b.state other;
   tail = [];

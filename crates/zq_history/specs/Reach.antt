@@ -17,6 +17,7 @@ LONG = 4096
 pub record IsReachedBy (b a : Book) (steps : List Step) : Type 0 where
   pub heap : b.heap ≡ a.heap
   pub heaps : b.heaps ≡ a.heaps
+  pub rule : b.rule ≡ a.rule
   pub legal : are_steps_over a.heap a.state steps ≡ true
   pub state : b.state ≡ steps_image steps a.state
   pub rising : are_rising (a.stamp + 1) b.stamp steps ≡ true
@@ -38,6 +39,7 @@ cut_of n = if nat_le LONG n then n - KEPT else 0
 pub record IsWorked (b a : Book) (stamp : ℕ) (steps : List Step) : Type 0 where
   pub heap : b.heap ≡ a.heap
   pub heaps : b.heaps ≡ a.heaps
+  pub rule : b.rule ≡ a.rule
   pub legal : are_steps_over a.heap a.state steps ≡ true
   pub state : b.state ≡ steps_image steps a.state
   pub own : list_all (λ s. stamp_of s == stamp) steps ≡ true

@@ -6,11 +6,13 @@ ghost use Rattle.zq_history.specs.Reach.{IsReachedBy, IsWorked, Reached, cut_of}
 ghost use Rattle.zq_model.specs.Image.{Image};
 
 /// Every book is reached from itself, and what is reached from a book that was reached is reached. A call's work with a later stamp
-/// reaches.
+/// reaches, and so do a higher stamp alone and a cut of the tail alone.
 pub fn reaching()
     ensures itself { (a : Book) → Reached a a }
     ensures through { (c b a : Book) → Reached c b → Reached b a → Reached c a }
     ensures works { (b a : Book) (stamp : ℕ) (steps : List Step) → IsWorked b a stamp steps → a.stamp < stamp → IsReachedBy b a steps }
+    ensures touches { (a : Book) (stamp : ℕ) → a.stamp ≤ stamp → IsReachedBy (touched a stamp) a [] }
+    ensures advances { (n : ℕ) (a : Book) → n ≤ cut_of (length a.tail) → IsReachedBy (advanced n a) a [] }
 {}
 
 /// A call's work begins with a cut of the tail and the call's stamp, and goes on with each record and each merge.

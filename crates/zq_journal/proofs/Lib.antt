@@ -1,2 +1,6 @@
-pub mod Entered
 pub mod Missing
+pub mod Entered
+pub mod BoundedTails
+pub mod CutOff
+pub mod Replays
+pub mod MadeHere

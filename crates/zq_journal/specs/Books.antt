@@ -1,7 +1,8 @@
 -- Books that a call begins with, and what a book shows.
 
-use Rattle.std.specs.Prelude.{List, [], ℕ, ◌++◌, ◌≡◌}
-use Rattle.zq_history.specs.Books.{Book, Took, operations_of, recorded}
+use Rattle.std.specs.Prelude.{List, [], map, ℕ, ◌++◌, ◌∷◌, ◌≡◌}
+use Rattle.zq_history.specs.Books.{Book, Change, Recorded, Step, Took, operations_of, recorded}
+use Rattle.zq_history.specs.Undoing.{Leaf, undone}
 use Rattle.zq_model.specs.Image.{image_of}
 use Rattle.zq_model.specs.Operation.{Operation}
 use Rattle.zq_model.specs.Sets.{Early, IsClosed, IsWorld, Known, New, Taken, taken_of, vector_of}
@@ -17,6 +18,7 @@ abbrev pub opened : HeapImage → ℕ → ℕ → Book
 opened s stamp count = record {
   heap = s.heap;
   heaps = s.heaps;
+  rule = s.rule;
   base = s.image;
   state = s.image;
   tail = [];
@@ -24,11 +26,24 @@ opened s stamp count = record {
   count = count;
 }
 
+-- the book of a heap whose tail can be undone: its base has this vector, and the members that undoing the tail gives
+abbrev pub book_over : HeapImage → List ℕ → List Leaf → ℕ → ℕ → Book
+book_over s vector leaves stamp count = record {
+  heap = s.heap;
+  heaps = s.heaps;
+  rule = s.rule;
+  base = record { vector = vector; members = undone leaves s.image.members };
+  state = s.image;
+  tail = map (λ leaf. leaf.written) leaves;
+  stamp = stamp;
+  count = count;
+}
+
 abbrev pub base_of : Book → HeapImage
-base_of b = record { heap = b.heap; heaps = b.heaps; image = b.base }
+base_of b = record { heap = b.heap; heaps = b.heaps; rule = b.rule; image = b.base }
 
 abbrev pub state_of : Book → HeapImage
-state_of b = record { heap = b.heap; heaps = b.heaps; image = b.state }
+state_of b = record { heap = b.heap; heaps = b.heaps; rule = b.rule; image = b.state }
 
 -- S is what the base of the book has taken, a closed set, and with the tail it lies in one world
 pub record IsBased (b : Book) (S : List Operation) : Type 0 where
@@ -52,3 +67,16 @@ book_when Early b stamp o = b
 -- the book after an operation that is handed to it: what is known or early changes nothing
 abbrev pub book_taken : Book → ℕ → Operation → Book
 book_taken b stamp o = book_when (taken_of b.state.vector o) b stamp o
+
+-- the step of a record at this stamp
+abbrev pub step_of : ℕ → Change → Step
+step_of stamp change = Recorded (record { stamp = stamp; change = change })
+
+abbrev pub steps_when : Taken → ℕ → Operation → List Step
+steps_when New stamp o = step_of stamp (Took o) ∷ []
+steps_when Known stamp o = []
+steps_when Early stamp o = []
+
+-- the steps of a book to which an operation is handed
+abbrev pub steps_taken : Book → ℕ → Operation → List Step
+steps_taken b stamp o = steps_when (taken_of b.state.vector o) stamp o

@@ -1,3 +1,4 @@
+//! What a book refuses.
 use std::alloc::AllocError;
 
 /// Why an operation was not judged, or not taken.
@@ -21,3 +22,20 @@ impl From<AllocError> for TakeFault {
         TakeFault::NoMemory
     }
 }
+
+/// Why a heap was not merged.
+#[derive(Clone, Copy, Debug, PartialEq, Eq)]
+pub enum MergeFault {
+    /// Its number or its number of heaps is another.
+    WrongHeap,
+    /// Its rule is another.
+    WrongRule,
+    /// The book can count no further merge.
+    Worn,
+    /// A growth was refused.
+    NoMemory,
+}
+
+/// A cut of a tail stopped, this many records having been dropped. No cut stops: it takes no memory.
+#[derive(Clone, Copy, Debug, PartialEq, Eq)]
+pub struct Advanced(pub usize);

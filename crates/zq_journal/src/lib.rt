@@ -2,16 +2,21 @@
 //! that a peer can be given the operations that it lacks in place of the whole.
 #![tactic(auto)]
 
+mod audit;
 mod book;
+mod cutting;
 mod faults;
+mod recording;
 mod records;
 mod since;
-mod tail;
 
 pub use book::Book;
-pub use faults::TakeFault;
-pub use records::{Change, Record};
+pub use faults::{Advanced, MergeFault, TakeFault};
 pub use since::Since;
 
+#[cfg(test)]
+mod limit_tests;
+#[cfg(test)]
+mod test_calls;
 #[cfg(test)]
 mod tests;

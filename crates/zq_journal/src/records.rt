@@ -1,11 +1,13 @@
+//! The records of a book.
 ghost use Rattle.std.specs.Prelude.{◌≡◌};
 ghost use Rattle.zq_journal.specs.Records.{placed_in};
 
 use zq_dots::Op;
+use zq_entry::Entry;
 
 /// What an operation was to the book that recorded it.
 #[derive(Debug, Drop)]
-pub enum Change {
+pub(crate) enum Change {
     /// It was made here.
     Made(Op),
     /// It was made elsewhere, and new here.
@@ -14,7 +16,7 @@ pub enum Change {
 
 impl Change {
     /// The operation.
-    pub fn op(&self) -> &Op
+    pub(crate) fn op(&self) -> &Op
         ensures { result.now ≡ placed_in self.now }
     {
         match self {
@@ -23,9 +25,11 @@ impl Change {
     }
 }
 
-/// An operation that was new where it came, and the stamp of the call that brought it.
+/// An operation that was new where it came, the stamp of the call that brought it, and what its
+/// member had before it.
 #[derive(Debug, Drop)]
-pub struct Record {
-    pub stamp: u64,
-    pub what: Change,
+pub(crate) struct Record {
+    pub(crate) stamp: u64,
+    pub(crate) what: Change,
+    pub(crate) before: Option<Entry>,
 }

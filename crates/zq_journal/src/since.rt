@@ -1,4 +1,21 @@
-use zq_dots::Op;
+//! What a book tells a peer.
+ghost use Rattle.std.specs.List.{All};
+ghost use Rattle.std.specs.Prelude.{◌≡◌, IfOk, List, map, not};
+ghost use Rattle.zq_history.specs.Books.{operations_of};
+ghost use Rattle.zq_journal.specs.Answers.{IfOps, is_too_old};
+ghost use Rattle.zq_journal.specs.Books.{IsPeer, base_of};
+ghost use Rattle.zq_journal.specs.Records.{missing_of, placed_at};
+ghost use Rattle.zq_model.specs.Image.{image_of, join};
+ghost use Rattle.zq_model.specs.Operation.{Operation};
+ghost use Rattle.zq_model.specs.Sets as sets;
+ghost use Rattle.zq_model.specs.Tail.{AreNew, image_after_all, lacking};
+ghost use Rattle.zq_shard.specs.Shard.{IsOfHeap};
+
+use crate::book::Book;
+use crate::records::Record;
+use std::alloc::{AllocError, Global};
+use zq_dots::{Op, Vector};
+use zq_history::telling;
 
 /// What a peer lacks of a book.
 #[derive(Debug, Drop)]
@@ -7,4 +24,39 @@ pub enum Since {
     TooOld,
     /// It lacks these, the oldest first, and no others.
     Ops(Vec<Op>),
+}
+
+impl Book {
+    /// What a peer of this vector lacks: `TooOld` exactly where the vector does not cover the
+    /// base's, else those operations of the records that the vector lacks, oldest first. Each is New
+    /// to the peer where it comes, and all of them leave what merging the whole state would.
+    pub fn since(&self, alloc: Global, vector: &Vector) -> Result<Since, AllocError>
+        ensures too_old { IfOk result (λ since. is_too_old since ≡ not (sets.covers vector.now self.now.base.vector)) }
+        ensures ops { IfOk result (λ since. IfOps since (λ ops. ops ≡ map (placed_at self.now.heaps) (lacking vector.now (operations_of self.now.tail)))) }
+        ensures placed { IfOk result (λ since. IfOps since (λ ops. All (IsOfHeap (base_of self.now)) ops)) }
+        ensures new { IfOk result (λ since. IfOps since (λ ops. (S T : List Operation) → IsPeer self.now S T vector.now → AreNew (map (λ p. p.operation) ops) (image_of T self.now.heap))) }
+        ensures merges { IfOk result (λ since. IfOps since (λ ops. (S T : List Operation) → IsPeer self.now S T vector.now →
+            image_after_all (map (λ p. p.operation) ops) (image_of T self.now.heap) ≡ join (image_of T self.now.heap) self.now.state)) }
+    {
+        // What the records say to a peer.
+        telling();
+        if !vector.covers(&self.vector) {
+            return Ok(Since::TooOld);
+        }
+        Ok(Since::Ops(missing(alloc, &self.tail, vector)?))
+    }
+}
+
+/// The operations of the records that the vector lacks.
+fn missing(alloc: Global, tail: &[Record], vector: &Vector) -> Result<Vec<Op>, AllocError>
+    ensures { IfOk result (λ ops. ops.items ≡ missing_of vector.now tail.now) }
+{
+    let mut ops = Vec::new(alloc);
+    for kept in tail {
+        let op = kept.what.op();
+        if !vector.has(op.dot()) {
+            ops.push(op.copy(alloc)?)?;
+        }
+    }
+    Ok(ops)
 }

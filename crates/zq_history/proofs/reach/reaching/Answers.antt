@@ -1,5 +1,5 @@
 use Rattle.std.specs.Prelude.{◌++◌}
-use Rattle.zq_history.proofs.Reached.{reached_through, worked_reaches}
+use Rattle.zq_history.proofs.Reached.{advanced_reaches, reached_through, touched_reaches, worked_reaches}
 use Rattle.zq_history.proofs.reach.reaching.Goals as goal
 
 pub returns-clause-through : goal.returns-clause-through
@@ -7,3 +7,9 @@ returns-clause-through k = λ c b a second first. (first.0 ++ second.0, reached_
 
 pub returns-clause-works : goal.returns-clause-works
 returns-clause-works c = worked_reaches
+
+pub returns-clause-touches : goal.returns-clause-touches
+returns-clause-touches c = touched_reaches
+
+pub returns-clause-advances : goal.returns-clause-advances
+returns-clause-advances c = advanced_reaches

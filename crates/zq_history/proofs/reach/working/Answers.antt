@@ -16,6 +16,7 @@ returns-clause-records k = λ b a stamp steps c is over.
     record {
       heap = is.heap;
       heaps = is.heaps;
+      rule = is.rule;
       legal = are_steps_over-append a.heap steps last a.state is.legal (rw (← is.heap, ← is.state, over) refl);
       state = rw (is.state, steps_image-append steps last a.state) refl;
       own = rw (list_all-append (λ s. stamp_of s == stamp) steps last, is.own, same_stamp stamp) refl;
@@ -32,6 +33,7 @@ returns-clause-merges k = λ b a stamp steps other is.
     record {
       heap = is.heap;
       heaps = is.heaps;
+      rule = is.rule;
       legal = are_steps_over-append a.heap steps last a.state is.legal refl;
       state = rw (is.state, steps_image-append steps last a.state) refl;
       own = rw (list_all-append (λ s. stamp_of s == stamp) steps last, is.own, same_stamp stamp) refl;

@@ -1,4 +1,4 @@
-use Rattle.zq_history.proofs.Kept.{after_more, after_parts, kept_cut, kept_longer, undone_is}
+use Rattle.zq_history.proofs.Kept.{after_more, after_parts, after_replay, kept_cut, kept_longer, undone_cut, undone_is, undone_recorded}
 use Rattle.zq_history.proofs.undo.undoing.Goals as goal
 
 pub returns-clause-back : goal.returns-clause-back
@@ -15,3 +15,12 @@ returns-clause-parts c = after_parts
 
 pub returns-clause-more : goal.returns-clause-more
 returns-clause-more c = after_more
+
+pub returns-clause-records : goal.returns-clause-records
+returns-clause-records c = undone_recorded
+
+pub returns-clause-rest : goal.returns-clause-rest
+returns-clause-rest c = undone_cut
+
+pub returns-clause-replay : goal.returns-clause-replay
+returns-clause-replay c = after_replay

@@ -1,12 +1,13 @@
-use Rattle.std.proofs.Common.{List, ap, arith, map, rules, subst, sym, true, ℕ, ◌∙◌, ◌≡◌}
+use Rattle.std.proofs.Common.{List, ap, map, rules, subst, sym, true, ℕ, ◌∙◌, ◌≡◌}
 use Rattle.std.specs.List.{All}
 use Rattle.std.proofs.lemmas.List.Elements.{All-filter, All-map, All-same, All-weaker}
 use Rattle.std.specs.Prelude.{not}
 use Rattle.zq_dots.specs.Placed.{Placed}
 use Rattle.zq_history.specs.Books.{Book, IsBook, operations_of}
 use Rattle.zq_journal.proofs.Missing.{missing_is, operations-placed}
+use Rattle.zq_journal.specs.BookView.{book_of}
 use Rattle.zq_journal.specs.Books.{base_of}
-use Rattle.zq_journal.specs.Records.{IsRecordable, missing_of, placed_at, placed_in}
+use Rattle.zq_journal.specs.Records.{IsRecord, missing_of, placed_at, placed_in}
 use Rattle.zq_model.specs.Operation.{has}
 use Rattle.zq_model.specs.Sets.{covers, vector_of}
 use Rattle.zq_model.specs.Tail.{lacking}
@@ -16,14 +17,17 @@ use Rattle.zq_journal.proofs.book.Book.since.Goals as goal
 pub returns-clause-ops : goal.returns-clause-ops
 returns-clause-ops c =
     subst (λ (b : Book). c.in_ok-missing.field-0.items ≡ map (placed_at b.heaps) (lacking c.args.vector.now (operations_of b.tail))) c.self.view_is
-    (c.in_ok-missing.ensures ∙ ap (missing_of c.args.vector.now) c.deref.ensures.value ∙ missing_is c.self.inside.base c.args.vector.now c.self.inside.tail.items c.self.invariant.records)
+    (c.in_ok-missing.ensures
+    ∙ ap (missing_of c.args.vector.now) c.deref.ensures.value
+    ∙ missing_is c.self.inside.shard.heap c.self.inside.shard.heaps c.args.vector.now c.self.inside.tail.items c.self.invariant.each)
 
 pub returns-clause-placed : goal.returns-clause-placed
 returns-clause-placed c =
     let P : Placed → Type 0 = IsOfHeap (base_of c.args.self.now) in
     let here : All (λ r. P (placed_in r.what)) c.self.inside.tail.items =
     subst (λ (b : Book). All (λ r. IsOfHeap (base_of b) (placed_in r.what)) c.self.inside.tail.items) c.self.view_is
-    (All-weaker (λ r. IsRecordable c.self.inside.base (placed_in r.what)) (λ r. IsOfHeap c.self.inside.base (placed_in r.what)) (λ r is. is.here) c.self.inside.tail.items c.self.invariant.records) in
+    (All-weaker (IsRecord c.self.inside.shard.heap c.self.inside.shard.heaps) (λ r. IsOfHeap (base_of (book_of c.self.inside)) (placed_in r.what))
+    (λ r is. record { heap = is.op.heap; heaps = is.op.heaps; placed = is.op.placed }) c.self.inside.tail.items c.self.invariant.each) in
     All-same P _ _ (c.in_ok-missing.ensures ∙ ap (missing_of c.args.vector.now) c.deref.ensures.value)
     (All-filter (λ p. not (has c.args.vector.now p.operation.site p.operation.n)) P (map (λ r. placed_in r.what) c.self.inside.tail.items)
     (All-map P (λ r. placed_in r.what) c.self.inside.tail.items here))
@@ -33,8 +37,8 @@ is_kept c = subst IsBook c.self.view_is c.self.invariant.book
 
 is_covered : (c : goal.In_ok-missing) → covers c.args.vector.now c.args.self.now.base.vector ≡ true
 is_covered c =
-    let tested : c.covers.result ≡ true = first_of (search rules, grind arith) in
-    ap (λ b. covers c.args.vector.now b.base.vector) (sym c.self.view_is) ∙ ap (covers c.args.vector.now) (sym c.vector.ensures) ∙ sym c.covers.ensures.value ∙ tested
+    let tested : c.covers.result ≡ true = search rules in
+    ap (λ b. covers c.args.vector.now b.base.vector) (sym c.self.view_is) ∙ sym c.covers.ensures.value ∙ tested
 
 -- they are what the peer of this vector lacks
 are_lacking : (c : goal.In_ok-missing) (v : List ℕ) → c.args.vector.now ≡ v → map (λ p. p.operation) c.in_ok-missing.field-0.items ≡ lacking v (operations_of c.args.self.now.tail)

@@ -7,10 +7,10 @@ invariant_of-self c =
     let is : c.self.inside.stamp ≡ c.args.self.now.stamp = ap (λ b. b.stamp) c.self.view_is in
     let rises : c.self.inside.stamp ≤ c.args.stamp = omega (arith, is, c.requires.stamp) in
     record {
-      heap = c.self.invariant.heap;
-      heaps = c.self.invariant.heaps;
       book = c.keeping.ensures.touch (book_of c.self.inside) c.args.stamp rises c.self.invariant.book;
-      records = c.self.invariant.records;
-      stamp = c.requires.bounded;
-      count = c.self.invariant.count;
+      kept = c.self.invariant.kept;
+      bounded = c.self.invariant.bounded;
+      each = c.self.invariant.each;
+      last_stamp = c.requires.bounded;
+      last_count = c.self.invariant.last_count;
     }

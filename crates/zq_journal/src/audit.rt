@@ -1,0 +1,73 @@
+//! How a book is checked against its records.
+ghost use Rattle.std.specs.List.{All};
+ghost use Rattle.std.specs.Prelude.{◌≡◌, IfOk, IsTrue, OnOk, drop, true, ℕ};
+ghost use Rattle.zq_history.specs.Books.{are_steps_over, replayed, steps_of};
+ghost use Rattle.zq_journal.specs.Records.{IsRecord, undone_at, written_in};
+ghost use Rattle.zq_model.specs.Bounded.{IsBounded};
+
+use crate::book::Book;
+use crate::records::Record;
+use std::alloc::{AllocError, Global};
+use zq_entry::Entry;
+use zq_shard::Shard;
+
+impl Book {
+    /// Whether the records, undone from a copy of the state and then replayed, lead to the state
+    /// again. Members that no record touched are compared with copies of themselves.
+    ///
+    /// The replay is done in fact: it is a check against a fault of the memory, or of the compiler
+    /// that built this. What a book keeps says that the answer is always true, so a body that
+    /// answered so without a replay would meet the contract as well. `Err` where the copy or a
+    /// growth was refused.
+    pub fn audit(&self, alloc: Global) -> Result<bool, AllocError>
+        ensures { IfOk result (λ sound. IsTrue sound) }
+    {
+        let mut shard = self.shard.copy(alloc)?;
+        undo(alloc, &mut shard, &self.tail)?;
+        shard.set_vector(&self.vector);
+        replay(alloc, &mut shard, &self.tail)?;
+        Ok(shard.same(&self.shard))
+    }
+}
+
+/// Gives each record's member back what it had before it, the newest record first. The vector stays.
+fn undo(alloc: Global, shard: &mut Shard, tail: &[Record]) -> Result<(), AllocError>
+    requires each { All (IsRecord shard.old.heap shard.old.heaps) tail.now }
+    requires bounded { (i : ℕ) → IsBounded shard.old.heaps shard.old.heap (undone_at (drop i tail.now) shard.old.image) }
+    ensures heap { shard.new.heap ≡ shard.old.heap }
+    ensures heaps { shard.new.heaps ≡ shard.old.heaps }
+    ensures rule { shard.new.rule ≡ shard.old.rule }
+    ensures image { OnOk result (shard.new.image ≡ undone_at tail.now shard.old.image) }
+{
+    for newer in 0..tail.len() {
+        let record = &tail[tail.len() - 1 - newer];
+        let op = record.what.op();
+        shard.put_back(alloc, op.key(), op.member(), copy(alloc, &record.before)?)?;
+    }
+    Ok(())
+}
+
+/// Takes the records' operations, the oldest first.
+fn replay(alloc: Global, shard: &mut Shard, tail: &[Record]) -> Result<(), AllocError>
+    requires each { All (IsRecord shard.old.heap shard.old.heaps) tail.now }
+    requires over { are_steps_over shard.old.heap shard.old.image (steps_of (written_in tail.now)) ≡ true }
+    ensures heap { shard.new.heap ≡ shard.old.heap }
+    ensures heaps { shard.new.heaps ≡ shard.old.heaps }
+    ensures rule { shard.new.rule ≡ shard.old.rule }
+    ensures image { OnOk result (shard.new.image ≡ replayed (written_in tail.now) shard.old.image) }
+{
+    for record in tail {
+        drop(shard.put_in(alloc, record.what.op())?);
+    }
+    Ok(())
+}
+
+/// An equal entry, where there is one.
+fn copy(alloc: Global, entry: &Option<Entry>) -> Result<Option<Entry>, AllocError>
+    ensures { IfOk result (λ copy. copy ≡ entry.now) }
+{
+    match entry {
+        Some(entry) => Ok(Some(entry.copy(alloc)?)),
+        None => Ok(None),
+    }
+}

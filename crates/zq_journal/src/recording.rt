@@ -1,0 +1,141 @@
+//! How a book records what its site makes and takes.
+ghost use Rattle.std.specs.Prelude.{◌≡◌, ◌≢◌, ◌≤◌, ◌<◌, ◌↔◌, ◌⊎◌, ◌++◌, ◌∷◌, [], IfOk, IsErrOf, List, OnErr, OnOk, length, slice_index, true};
+ghost use Rattle.zq_dots.specs.Act.{act_of};
+ghost use Rattle.zq_dots.specs.Placed.{IsRanged, LONGEST};
+ghost use Rattle.zq_history.specs.Books.{Book as Books, Made, Step, is_change_over, recorded};
+ghost use Rattle.zq_history.specs.Reach.{IsWorked};
+ghost use Rattle.zq_journal.specs.Books.{LAST_STAMP, book_taken, state_of, step_of, steps_taken};
+ghost use Rattle.zq_journal.specs.Records.{IsRecordable, change_of, placed_in};
+ghost use Rattle.zq_model.specs.Heaps as place;
+ghost use Rattle.zq_model.specs.Sets as sets;
+ghost use Rattle.zq_shard.specs.Shard.{IsOfHeap, next_operation};
+ghost use Rattle.zq_shard.specs.Taken.{answer_of};
+
+use crate::book::{Book, LAST};
+use crate::faults::TakeFault;
+use crate::records::{Change, Record};
+use std::alloc::{AllocError, Global};
+use zq_dots::{Act, Op, SiteNo, heap_of};
+use zq_history::{keeping, undoing, working};
+use zq_shard::{MakeFault, Taken};
+
+impl Book {
+    /// Makes the next operation of a site and takes it, with a record, which [`Book::newest`] then
+    /// lends. The stamp is no less than the book's.
+    ///
+    /// `WrongHeap` where the member lies in another heap, else `Worn` where the site's counter or
+    /// the book's count is at its last value, else `NoMemory` where a growth was refused; after each
+    /// nothing has changed.
+    pub fn make(
+        &mut self,
+        alloc: Global,
+        site: SiteNo,
+        stamp: u64,
+        key: &[u8],
+        member: &[u8],
+        act: Act,
+    ) -> Result<(), MakeFault>
+        requires stamp { self.old.stamp ≤ stamp }
+        requires bounded { stamp ≤ LAST_STAMP }
+        requires key { length key.now ≤ LONGEST }
+        requires member { length member.now ≤ LONGEST }
+        ensures wrong_heap { IsErrOf result MakeFault.WrongHeap ↔ (place.heap_of key.now member.now self.old.heaps ≢ self.old.heap) }
+        ensures worn { IsErrOf result MakeFault.Worn ↔ ((place.heap_of key.now member.now self.old.heaps ≡ self.old.heap) × ((slice_index self.old.state.vector site ≡ sets.LAST) ⊎ (self.old.count ≡ LAST_STAMP))) }
+        ensures recorded { OnOk result (self.new ≡ recorded self.old stamp (Made (next_operation (state_of self.old) site key.now member.now (act_of act)).operation)) }
+        ensures worked { OnOk result ((a : Books) (steps : List Step) → IsWorked self.old a stamp steps →
+            IsWorked self.new a stamp (steps ++ step_of stamp (Made (next_operation (state_of self.old) site key.now member.now (act_of act)).operation) ∷ [])) }
+        ensures refused { OnErr result (self.new ≡ self.old) }
+    {
+        let op = self.draft(alloc, site, key, member, act)?;
+        self.enter(alloc, stamp, Change::Made(op))?;
+        Ok(())
+    }
+
+    /// Takes an operation of another site where it is New, with a record; what is Known or Early
+    /// changes nothing. The stamp is no less than the book's.
+    ///
+    /// `WrongHeap` where the heap, the number of heaps or the member's hash is another. A New one is
+    /// refused with `Worn` where the book's count is at its last value, else with `NoMemory` where a
+    /// growth was refused; after each nothing has changed.
+    #[tactic(auto, unfolding(crate::specs::Books::LAST_STAMP))]
+    pub fn take(&mut self, alloc: Global, stamp: u64, op: &Op) -> Result<Taken, TakeFault>
+        requires stamp { self.old.stamp ≤ stamp }
+        requires bounded { stamp ≤ LAST_STAMP }
+        ensures judged { IfOk result (λ taken. answer_of taken ≡ sets.taken_of self.old.state.vector op.now.operation) }
+        ensures wrong_heap { IsErrOf result TakeFault.WrongHeap ↔ (IsOfHeap (state_of self.old) op.now → ⊥) }
+        ensures placed { OnOk result (IsOfHeap (state_of self.old) op.now) }
+        ensures worn { IsErrOf result TakeFault.Worn ↔ (IsOfHeap (state_of self.old) op.now × (sets.taken_of self.old.state.vector op.now.operation ≡ sets.New) × (self.old.count ≡ LAST_STAMP)) }
+        ensures no_memory { IsErrOf result TakeFault.NoMemory → sets.taken_of self.old.state.vector op.now.operation ≡ sets.New }
+        ensures book { OnOk result (self.new ≡ book_taken self.old stamp op.now.operation) }
+        ensures worked { OnOk result ((a : Books) (steps : List Step) → IsWorked self.old a stamp steps →
+            IsWorked self.new a stamp (steps ++ steps_taken self.old stamp op.now.operation)) }
+        ensures refused { OnErr result (self.new ≡ self.old) }
+    {
+        let Ok(taken) = self.shard.judge(op) else {
+            return Err(TakeFault::WrongHeap);
+        };
+        if taken != Taken::New {
+            return Ok(taken);
+        }
+        if self.count == LAST {
+            return Err(TakeFault::Worn);
+        }
+        self.enter(alloc, stamp, Change::Took(op.copy(alloc)?))?;
+        Ok(taken)
+    }
+
+    /// The next operation of a site, where a record of it can be counted.
+    #[tactic(auto, unfolding(crate::specs::Books::LAST_STAMP))]
+    fn draft(
+        &self,
+        alloc: Global,
+        site: SiteNo,
+        key: &[u8],
+        member: &[u8],
+        act: Act,
+    ) -> Result<Op, MakeFault>
+        requires key { length key.now ≤ LONGEST }
+        requires member { length member.now ≤ LONGEST }
+        ensures wrong_heap { IsErrOf result MakeFault.WrongHeap ↔ (place.heap_of key.now member.now self.now.heaps ≢ self.now.heap) }
+        ensures worn { IsErrOf result MakeFault.Worn ↔ ((place.heap_of key.now member.now self.now.heaps ≡ self.now.heap) × ((slice_index self.now.state.vector site ≡ sets.LAST) ⊎ (self.now.count ≡ LAST_STAMP))) }
+        ensures made { IfOk result (λ op. op ≡ next_operation (state_of self.now) site key.now member.now (act_of act)) }
+        ensures placed { IfOk result (λ op. IsOfHeap (state_of self.now) op) }
+        ensures sound { IfOk result (λ op. IsRanged op) }
+        ensures room { OnOk result (self.now.count < LAST_STAMP) }
+    {
+        if self.count == LAST && heap_of(key, member, self.shard.heaps()) == self.shard.heap() {
+            return Err(MakeFault::Worn);
+        }
+        self.shard.draft(alloc, site, key, member, act)
+    }
+
+    /// Takes an operation that is new to the state, with a record at this stamp.
+    #[tactic(auto, unfolding(crate::specs::Books::LAST_STAMP))]
+    fn enter(&mut self, alloc: Global, at: u64, change: Change) -> Result<(), AllocError>
+        requires stamp { self.old.stamp ≤ at }
+        requires bounded { at ≤ LAST_STAMP }
+        requires count { self.old.count < LAST_STAMP }
+        requires recordable { IsRecordable self.old.heap self.old.heaps (placed_in change) }
+        requires over { is_change_over self.old.heap self.old.state.vector (change_of change) ≡ true }
+        ensures recorded { OnOk result (self.new ≡ recorded self.old at (change_of change)) }
+        ensures worked { OnOk result ((a : Books) (steps : List Step) → IsWorked self.old a at steps → IsWorked self.new a at (steps ++ step_of at (change_of change) ∷ [])) }
+        ensures refused { OnErr result (self.new ≡ self.old) }
+    {
+        // A record of what is new keeps what a book keeps,
+        keeping();
+        // leaves the base as it was,
+        undoing();
+        // and goes on with a call's work.
+        working();
+        self.tail.reserve(1)?;
+        let before = self.shard.put_in(alloc, change.op())?;
+        self.tail.push_reserved(Record {
+            stamp: at,
+            what: change,
+            before,
+        });
+        self.stamp = at;
+        self.count += 1;
+        Ok(())
+    }
+}
