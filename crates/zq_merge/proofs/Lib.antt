@@ -1,0 +1,13 @@
+pub mod Repeated
+pub mod RisingSites
+pub mod SumLists
+pub mod AdditionLists
+pub mod KeyLists
+pub mod Written
+pub mod AgainParts
+pub mod AgainSums
+pub mod AgainKeys
+pub mod AgainStates
+pub mod BuiltStates
+pub mod Answered
+pub mod KeyGroups

@@ -1,0 +1,14 @@
+pub mod Version
+pub mod Keys
+pub mod Spelling
+pub mod Reading
+pub mod Fields
+pub mod State
+pub mod Answer
+pub mod Bounds
+pub mod Sums
+pub mod Framed
+pub mod Frame
+pub mod Sound
+pub mod Built
+pub mod Groups

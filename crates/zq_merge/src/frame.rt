@@ -1,0 +1,82 @@
+// What stands before the keys: the heap, the rule and the vector.
+
+ghost use Rattle.std.specs.Prelude.{◌≡◌, ◌<◌, ◌++◌, ◌∷◌, IfOk};
+ghost use Rattle.zq_dots.specs.Rule.{rule_of};
+ghost use Rattle.zq_merge.specs.Answer.{Gives};
+ghost use Rattle.zq_merge.specs.Fields as fields;
+ghost use Rattle.zq_merge.specs.Framed.{frame_of};
+ghost use Rattle.zq_merge.specs.Spelling as spell;
+ghost use Rattle.zq_merge.specs.Version.{HasRule, HasVector};
+ghost use Rattle.zq_model.specs.Sets as sets;
+
+use crate::fault::StateFault;
+use crate::part::of_part;
+use crate::version::Version;
+use zq_dots::{Rule, Vector};
+use zq_parts::{HeapNo, read_byte_in, read_dense, read_heap, read_sparse};
+
+/// Which heap a state is of, by which rule its scores are, and which operations it has taken.
+#[derive(Clone, Copy, Debug)]
+pub(crate) struct Frame {
+    pub(crate) rule: Rule,
+    pub(crate) heap: HeapNo,
+    pub(crate) vector: Vector,
+}
+
+/// Takes the heap, the rule and the vector.
+#[tactic(auto, unfolding(crate::specs::Fields::frame_at, crate::specs::Spelling::frame_bytes))]
+pub(crate) fn read_frame(
+    version: Version,
+    whole: usize,
+    bytes: &mut &[u8],
+) -> Result<Frame, StateFault>
+    ensures exact { Gives (λ x. (frame_of x, bytes.new.now)) result (fields.frame_at version whole bytes.old.now) }
+    ensures found { IfOk result (λ x. bytes.old.now ≡ spell.frame_bytes version (frame_of x) ++ bytes.new.now) }
+    ensures rule { IfOk result (λ x. HasRule version (rule_of x.rule)) }
+    ensures vector { IfOk result (λ x. HasVector version x.vector) }
+    ensures heaps { IfOk result (λ x. sets.IsHeaps x.heap.heaps) }
+    ensures heap { IfOk result (λ x. x.heap.heap < x.heap.heaps) }
+    ensures counters { IfOk result (λ x. sets.IsCounters x.vector) }
+{
+    let heap = of_part(read_heap(whole, bytes))?;
+    let rule = read_rule(version, whole, bytes)?;
+    let vector = read_vector(version, whole, bytes)?;
+    Ok(Frame { rule, heap, vector })
+}
+
+/// Takes the rule where the version has it: 0 is High and 1 is Low. The versions before the third mean High.
+fn read_rule(version: Version, whole: usize, bytes: &mut &[u8]) -> Result<Rule, StateFault>
+    ensures exact { Gives (λ x. (rule_of x, bytes.new.now)) result (fields.rule_at version whole bytes.old.now) }
+    ensures found { IfOk result (λ x. bytes.old.now ≡ spell.rule_bytes version (rule_of x) ++ bytes.new.now) }
+    ensures version { IfOk result (λ x. HasRule version (rule_of x)) }
+{
+    match version {
+        Version::One | Version::Two => Ok(Rule::High),
+        Version::Three => read_rule_byte(whole, bytes),
+    }
+}
+
+#[tactic(auto, unfolding(crate::specs::Fields::written_rule_at))]
+fn read_rule_byte(whole: usize, bytes: &mut &[u8]) -> Result<Rule, StateFault>
+    ensures exact { Gives (λ x. (rule_of x, bytes.new.now)) result (fields.written_rule_at whole bytes.old.now) }
+    ensures found { IfOk result (λ x. bytes.old.now ≡ spell.rule_byte (rule_of x) ∷ bytes.new.now) }
+{
+    let byte = of_part(read_byte_in(whole, bytes, 0, 2))?;
+    if byte == 0 {
+        Ok(Rule::High)
+    } else {
+        Ok(Rule::Low)
+    }
+}
+
+fn read_vector(version: Version, whole: usize, bytes: &mut &[u8]) -> Result<Vector, StateFault>
+    ensures exact { Gives (λ x. (x, bytes.new.now)) result (fields.vector_at version whole bytes.old.now) }
+    ensures found { IfOk result (λ x. bytes.old.now ≡ spell.vector_bytes version x ++ bytes.new.now) }
+    ensures version { IfOk result (λ x. HasVector version x) }
+    ensures counters { IfOk result (λ x. sets.IsCounters x) }
+{
+    match version {
+        Version::One => of_part(read_dense(whole, None, bytes)),
+        Version::Two | Version::Three => of_part(read_sparse(whole, None, bytes)),
+    }
+}
