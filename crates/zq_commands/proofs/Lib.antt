@@ -1,0 +1,12 @@
+mod OnOk
+mod AtPlace
+mod InTurn
+mod RanPlans
+mod Widths
+mod Counts
+mod Ranks
+mod FirstPairs
+mod Popped
+mod PoppedParts
+mod ClearedKeys
+mod WordsAt
