@@ -122,6 +122,14 @@ impl Op {
         self.member.as_slice()
     }
 
+    /// Its key and its member. It copies nothing.
+    pub fn into_names(self) -> (Vec<u8>, Vec<u8>)
+        ensures key { result.0.items ≡ self.operation.key }
+        ensures member { result.1.items ≡ self.operation.member }
+    {
+        (self.key, self.member)
+    }
+
     /// What it does to its member.
     pub fn act(&self) -> Act
         ensures same { act_of result ≡ self.now.operation.act }

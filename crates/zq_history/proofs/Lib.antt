@@ -4,4 +4,4 @@ pub mod NewRecords
 mod Tails
 pub mod Kept
 mod Sets
-mod Reached
+pub mod Reached

@@ -1,6 +1,6 @@
 -- The records of a book keep the bounds of its images.
 
-use Rattle.std.proofs.Common.{List, [], ap, arith, drop, get_or-set_other, get_or-set_same, inl, inr, le_of_eq, length, map, refl, subst, suc, sym, take, zero, ℕ, ◌*◌, ◌+◌, ◌∙◌, ◌∷◌, ◌≡◌, ◌≤◌, ◌<◌}
+use Rattle.std.proofs.Common.{List, [], ap, arith, drop, get_or-set_other, get_or-set_same, inl, inr, le_of_eq, length, map, subst, suc, sym, take, zero, ℕ, ◌*◌, ◌+◌, ◌∙◌, ◌∷◌, ◌≡◌, ◌≤◌, ◌<◌}
 use Rattle.std.proofs.Math.Nat.{mul-le-mul_left}
 use Rattle.std.proofs.lemmas.Bool.{cases_eq}
 use Rattle.std.proofs.lemmas.List.{drop-map, take_all}
@@ -11,14 +11,13 @@ use Rattle.std.specs.Prelude.{slice_index, slice_set, true}
 use Rattle.zq_dots.specs.Placed.{Placed}
 use Rattle.zq_history.proofs.Kept.{undone_cut}
 use Rattle.zq_history.proofs.NewRecords.{change_is_new}
-use Rattle.zq_history.specs.Books.{are_steps_over, is_change_over, operation_of, steps_of}
-use Rattle.zq_history.specs.Undoing.{Leaf, after_leaves, operation_on, undone}
+use Rattle.zq_history.specs.Books.{are_steps_over, is_change_over, steps_of}
+use Rattle.zq_history.specs.Undoing.{after_leaves, operation_on, undone}
 use Rattle.zq_journal.proofs.Entered.{state_after}
 use Rattle.zq_journal.proofs.Missing.{operation_is}
 use Rattle.zq_journal.specs.Books.{book_over}
-use Rattle.zq_journal.specs.Records.{IsRecord, IsRecordable, leaf_of, leaves_of, placed_in, undone_at, written_in}
+use Rattle.zq_journal.specs.Records.{IsRecord, IsRecordable, Record, leaf_of, leaves_of, placed_in, undone_at, written_in}
 use Rattle.zq_journal.specs.Standing.{IsStanding}
-use Rattle.zq_journal.specs.declared.records.Record.{Record}
 use Rattle.zq_model.proofs.BoundedImages.{bounded_step}
 use Rattle.zq_model.proofs.Bounds.{within_more}
 use Rattle.zq_model.proofs.Dots.{has_not}

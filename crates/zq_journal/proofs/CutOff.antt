@@ -1,17 +1,16 @@
 -- The oldest records dropped: what that makes of a book whose tail can be undone.
 
-use Rattle.std.proofs.Common.{List, ap, arith, drop, length, map, refl, subst, sym, take, ℕ, ◌∙◌, ◌≡◌, ◌≤◌}
+use Rattle.std.proofs.Common.{List, ap, drop, map, refl, subst, sym, take, ℕ, ◌∙◌, ◌≡◌}
 use Rattle.std.proofs.lemmas.List.{drop-map, take-map}
 use Rattle.std.proofs.lemmas.List.Elements.{All-drop}
 use Rattle.zq_history.proofs.Kept.{after_replay, kept_cut, undone_cut}
-use Rattle.zq_history.specs.Books.{Book, IsBook, advanced, replayed}
+use Rattle.zq_history.specs.Books.{IsBook, advanced, replayed}
 use Rattle.zq_history.specs.Undoing.{AreKept, Leaf, after_leaves, undone}
 use Rattle.zq_journal.proofs.BoundedTails.{bounded_after}
 use Rattle.zq_journal.proofs.Entered.{state_after}
 use Rattle.zq_journal.specs.Books.{book_over}
-use Rattle.zq_journal.specs.Records.{IsRecord, leaf_of, leaves_of, written_in}
+use Rattle.zq_journal.specs.Records.{IsRecord, Record, leaf_of, leaves_of, written_in}
 use Rattle.zq_journal.specs.Standing.{IsStanding}
-use Rattle.zq_journal.specs.declared.records.Record.{Record}
 use Rattle.zq_model.specs.Bounded.{IsBounded}
 use Rattle.zq_model.specs.Image.{Image}
 use Rattle.zq_shard.specs.Shard.{HeapImage}

@@ -1,6 +1,6 @@
 -- One more record: what it makes of a book whose tail can be undone.
 
-use Rattle.std.proofs.Common.{List, None, Option, Some, [], ap, arith, false, map, refl, subst, sym, ℕ, ◌+◌, ◌++◌, ◌∙◌, ◌∷◌, ◌≡◌, ◌≤◌, ◌<◌}
+use Rattle.std.proofs.Common.{List, None, Option, Some, [], ap, arith, false, refl, subst, sym, ℕ, ◌+◌, ◌++◌, ◌∙◌, ◌∷◌, ◌≡◌, ◌≤◌}
 use Rattle.std.proofs.lemmas.Bool.{cond-false, cond-true}
 use Rattle.std.proofs.lemmas.List.{map-append}
 use Rattle.std.proofs.lemmas.List.Elements.{All-push}
@@ -8,13 +8,12 @@ use Rattle.std.specs.FinMap.{get}
 use Rattle.std.specs.Prelude.{IfSome}
 use Rattle.zq_dots.specs.Placed.{Placed}
 use Rattle.zq_history.proofs.Kept.{after_replay, kept_longer, undone_recorded}
-use Rattle.zq_history.specs.Books.{Book, IsBook, merged, recorded, replayed}
+use Rattle.zq_history.specs.Books.{IsBook, merged, recorded}
 use Rattle.zq_history.specs.Undoing.{AreKept, Leaf, after_leaves, operation_on, undone}
 use Rattle.zq_journal.proofs.Missing.{operation_is}
 use Rattle.zq_journal.specs.Books.{LAST_STAMP, book_over}
-use Rattle.zq_journal.specs.Records.{IsRecord, IsRecordable, leaf_of, leaves_of, placed_in}
+use Rattle.zq_journal.specs.Records.{IsRecord, IsRecordable, Record, leaf_of, leaves_of, placed_in}
 use Rattle.zq_journal.specs.Standing.{IsStanding}
-use Rattle.zq_journal.specs.declared.records.Record.{Record}
 use Rattle.zq_model.proofs.Entries.{is_bare-no_additions}
 use Rattle.zq_model.specs.Bounded.{IsBounded}
 use Rattle.zq_model.specs.Image.{Entry, Image, Members, Place, image_after, is_bare, join, no_additions, place_of, unless_bare}

@@ -3,4 +3,9 @@ pub mod Entered
 pub mod BoundedTails
 pub mod CutOff
 pub mod Replays
+pub mod Wholes
+pub mod Lasts
+pub mod Replaying
+pub mod Lacking
+pub mod Undone
 pub mod MadeHere

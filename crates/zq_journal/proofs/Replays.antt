@@ -1,6 +1,6 @@
 -- The records of a book, undone and replayed one by one.
 
-use Rattle.std.proofs.Common.{List, Some, [], ap, arith, drop, drop-cons, get_or, length, map, refl, subst, suc, sym, take, zero, ℕ, ◌+◌, ◌++◌, ◌<◌, ◌∙◌, ◌∷◌, ◌≡◌}
+use Rattle.std.proofs.Common.{List, Some, [], ap, arith, drop, drop-cons, get_or, length, map, subst, suc, sym, take, zero, ℕ, ◌+◌, ◌++◌, ◌<◌, ◌∙◌, ◌∷◌, ◌≡◌}
 use Rattle.std.proofs.lemmas.Bool.{and_parts}
 use Rattle.std.proofs.lemmas.List.{length-map, map-append, take-append-drop, take_more}
 use Rattle.std.proofs.lemmas.Option.{none-some, same_Some}
@@ -9,10 +9,9 @@ use Rattle.zq_history.proofs.NewRecords.{change_is_new}
 use Rattle.zq_history.proofs.Steps.{are_steps_over-rest, steps_image-append}
 use Rattle.zq_history.specs.Books as book
 use Rattle.zq_history.specs.Books.{are_steps_over, is_change_over, operations_of, replayed, steps_of}
-use Rattle.zq_history.specs.Undoing.{Leaf, operation_on, undone}
+use Rattle.zq_history.specs.Undoing.{Leaf, operation_on}
 use Rattle.zq_journal.proofs.Missing.{operation_is}
-use Rattle.zq_journal.specs.Records.{leaf_of, leaves_of, placed_in, undone_at, written_in}
-use Rattle.zq_journal.specs.declared.records.Record.{Record}
+use Rattle.zq_journal.specs.Records.{Record, leaf_of, leaves_of, placed_in, undone_at, written_in}
 use Rattle.zq_model.specs.Image.{Image, image_after, place_of}
 use Rattle.zq_model.specs.Sets.{New, taken_of}
 use Rattle.zq_shard.specs.Queues.{or_none}

@@ -4,3 +4,4 @@ pub mod Records
 pub mod Standing
 pub mod BookView
 pub mod Answers
+pub mod Arriving

@@ -1,16 +1,37 @@
 -- The records of the code, as those of a book.
 
-use Rattle.std.specs.Prelude.{IfSome, List, false, filter, map, not, ℕ, ◌≡◌}
+use Rattle.std.specs.Prelude.{IfSome, List, Option, [], false, filter, map, not, slice_set, ℕ, ◌∷◌, ◌≡◌}
+use Rattle.zq_dots.specs.Act.{act_of}
 use Rattle.zq_dots.specs.Placed.{IsRanged, Placed}
 use Rattle.zq_history.specs.Books as book
 use Rattle.zq_history.specs.Undoing.{Leaf, undone}
-use Rattle.zq_journal.specs.declared.records.Change.{Change}
-use Rattle.zq_journal.specs.declared.records.Change.TheVariants.{Made, Took}
-use Rattle.zq_journal.specs.declared.records.Record.{Record}
+use Rattle.zq_journal.specs.declared.records.Change as change
+use Rattle.zq_journal.specs.declared.records.Change.TheVariants as kept
+use Rattle.zq_journal.specs.declared.records.Record as kept_record
 use Rattle.zq_model.specs.Heaps.{heap_of}
-use Rattle.zq_model.specs.Image.{Image, is_bare}
+use Rattle.zq_model.specs.Image.{Entry, Image, is_bare}
 use Rattle.zq_model.specs.Operation.{Operation, has}
 use Rattle.zq_shard.specs.Queues.{or_none}
+use Rattle.zq_shard.specs.Shard.{HeapImage}
+
+-- what an operation was to the book that recorded it: made there, or made elsewhere
+pub data Change : Type 0 where
+  Made : (op : Placed) → Change
+  Took : (op : Placed) → Change
+
+-- a record with its whole operation
+pub record Record : Type 0 where
+  pub stamp : ℕ
+  pub what : Change
+  pub before : Option Entry
+
+-- what a record keeps of its operation, and the rest: a heap of a number of heaps, whose vector was v before it
+abbrev pub whole : ℕ → ℕ → List ℕ → change.Change → Change
+whole h K v (kept.Made own) = Made (record {
+  heaps = K;
+  operation = record { heap = h; site = own.dot.site; n = own.dot.n; seen = v; key = own.key.items; member = own.member.items; act = act_of own.act };
+})
+whole h K v (kept.Took op) = Took op.value
 
 abbrev pub placed_in : Change → Placed
 placed_in (Made op) = op
@@ -19,6 +40,27 @@ placed_in (Took op) = op
 abbrev pub change_of : Change → book.Change
 change_of (Made op) = book.Made op.operation
 change_of (Took op) = book.Took op.operation
+
+-- the vector after an operation
+abbrev pub vector_past : List ℕ → Change → List ℕ
+vector_past v change = slice_set v (placed_in change).operation.site (placed_in change).operation.n
+
+abbrev pub full_of : ℕ → ℕ → List ℕ → kept_record.Record → Record
+full_of h K v r = record { stamp = r.stamp; what = whole h K v r.what; before = r.before }
+
+-- the records with their whole operations, over a vector
+abbrev pub records_over : ℕ → ℕ → List ℕ → List kept_record.Record → List Record
+records_over h K v [] = []
+records_over h K v (r ∷ records) = full_of h K v r ∷ records_over h K (vector_past v (whole h K v r.what)) records
+
+-- the vector after the records
+abbrev pub vector_over : ℕ → ℕ → List ℕ → List kept_record.Record → List ℕ
+vector_over h K v [] = v
+vector_over h K v (r ∷ records) = vector_over h K (vector_past v (whole h K v r.what)) records
+
+-- the records of a heap
+abbrev pub records_in : HeapImage → List ℕ → List kept_record.Record → List Record
+records_in s v records = records_over s.heap s.heaps v records
 
 -- a record, with what its member had before it
 abbrev pub leaf_of : Record → Leaf

@@ -5,8 +5,7 @@ use Rattle.std.specs.Prelude.{List, ℕ, ◌≤◌}
 use Rattle.zq_history.specs.Books.{IsBook}
 use Rattle.zq_history.specs.Undoing.{AreKept}
 use Rattle.zq_journal.specs.Books.{LAST_STAMP, book_over}
-use Rattle.zq_journal.specs.Records.{IsRecord, leaves_of}
-use Rattle.zq_journal.specs.declared.records.Record.{Record}
+use Rattle.zq_journal.specs.Records.{IsRecord, Record, leaves_of}
 use Rattle.zq_model.specs.Bounded.{IsBounded}
 use Rattle.zq_shard.specs.Shard.{HeapImage}
 

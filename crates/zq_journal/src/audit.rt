@@ -2,12 +2,16 @@
 ghost use Rattle.std.specs.List.{All};
 ghost use Rattle.std.specs.Prelude.{◌≡◌, IfOk, IsTrue, OnOk, drop, true, ℕ};
 ghost use Rattle.zq_history.specs.Books.{are_steps_over, replayed, steps_of};
-ghost use Rattle.zq_journal.specs.Records.{IsRecord, undone_at, written_in};
+ghost use Rattle.zq_journal.specs.Records.{IsRecord, IsRecordable, placed_in, records_in, undone_at, whole, written_in};
 ghost use Rattle.zq_model.specs.Bounded.{IsBounded};
+ghost use Rattle.zq_model.specs.Image.{image_after};
+ghost use Rattle.zq_model.specs.Sets.{New, taken_of};
+ghost use Rattle.zq_shard.specs.Shard.{with_vector};
 
 use crate::book::Book;
 use crate::records::Record;
 use std::alloc::{AllocError, Global};
+use zq_dots::Vector;
 use zq_entry::Entry;
 use zq_shard::Shard;
 
@@ -23,42 +27,61 @@ impl Book {
         ensures { IfOk result (λ sound. IsTrue sound) }
     {
         let mut shard = self.shard.copy(alloc)?;
-        undo(alloc, &mut shard, &self.tail)?;
-        shard.set_vector(&self.vector);
+        undo(alloc, &mut shard, &self.vector, &self.tail)?;
         replay(alloc, &mut shard, &self.tail)?;
         Ok(shard.same(&self.shard))
     }
 }
 
-/// Gives each record's member back what it had before it, the newest record first. The vector stays.
-fn undo(alloc: Global, shard: &mut Shard, tail: &[Record]) -> Result<(), AllocError>
-    requires each { All (IsRecord shard.old.heap shard.old.heaps) tail.now }
-    requires bounded { (i : ℕ) → IsBounded shard.old.heaps shard.old.heap (undone_at (drop i tail.now) shard.old.image) }
+/// Gives each record's member back what it had before it, the newest record first, and the heap the
+/// vector that it had before them.
+fn undo(alloc: Global, shard: &mut Shard, base: &Vector, tail: &[Record]) -> Result<(), AllocError>
+    requires each { All (IsRecord shard.old.heap shard.old.heaps) (records_in shard.old base.now tail.now) }
+    requires bounded { (i : ℕ) → IsBounded shard.old.heaps shard.old.heap (undone_at (drop i (records_in shard.old base.now tail.now)) shard.old.image) }
+    requires base { IsBounded shard.old.heaps shard.old.heap (with_vector base.now (undone_at (records_in shard.old base.now tail.now) shard.old.image)) }
     ensures heap { shard.new.heap ≡ shard.old.heap }
     ensures heaps { shard.new.heaps ≡ shard.old.heaps }
     ensures rule { shard.new.rule ≡ shard.old.rule }
-    ensures image { OnOk result (shard.new.image ≡ undone_at tail.now shard.old.image) }
+    ensures image { OnOk result (shard.new.image ≡ with_vector base.now (undone_at (records_in shard.old base.now tail.now) shard.old.image)) }
 {
     for newer in 0..tail.len() {
         let record = &tail[tail.len() - 1 - newer];
-        let op = record.what.op();
-        shard.put_back(alloc, op.key(), op.member(), copy(alloc, &record.before)?)?;
+        let before = copy(alloc, &record.before)?;
+        shard.put_back(alloc, record.what.key(), record.what.member(), before)?;
     }
+    shard.set_vector(base);
     Ok(())
 }
 
 /// Takes the records' operations, the oldest first.
 fn replay(alloc: Global, shard: &mut Shard, tail: &[Record]) -> Result<(), AllocError>
-    requires each { All (IsRecord shard.old.heap shard.old.heaps) tail.now }
-    requires over { are_steps_over shard.old.heap shard.old.image (steps_of (written_in tail.now)) ≡ true }
+    requires each { All (IsRecord shard.old.heap shard.old.heaps) (records_in shard.old shard.old.image.vector tail.now) }
+    requires over { are_steps_over shard.old.heap shard.old.image (steps_of (written_in (records_in shard.old shard.old.image.vector tail.now))) ≡ true }
     ensures heap { shard.new.heap ≡ shard.old.heap }
     ensures heaps { shard.new.heaps ≡ shard.old.heaps }
     ensures rule { shard.new.rule ≡ shard.old.rule }
-    ensures image { OnOk result (shard.new.image ≡ replayed (written_in tail.now) shard.old.image) }
+    ensures image { OnOk result (shard.new.image ≡ replayed (written_in (records_in shard.old shard.old.image.vector tail.now)) shard.old.image) }
 {
     for record in tail {
-        drop(shard.put_in(alloc, record.what.op())?);
+        take(alloc, shard, record)?;
     }
+    Ok(())
+}
+
+/// Takes the operation of a record, which is new to the heap.
+fn take(alloc: Global, shard: &mut Shard, kept: &Record) -> Result<(), AllocError>
+    requires own { IsRecordable shard.old.heap shard.old.heaps (placed_in (whole shard.old.heap shard.old.heaps shard.old.image.vector kept.now.what)) }
+    requires new { taken_of shard.old.image.vector (placed_in (whole shard.old.heap shard.old.heaps shard.old.image.vector kept.now.what)).operation ≡ New }
+    ensures heap { shard.new.heap ≡ shard.old.heap }
+    ensures heaps { shard.new.heaps ≡ shard.old.heaps }
+    ensures rule { shard.new.rule ≡ shard.old.rule }
+    ensures image { OnOk result (shard.new.image ≡
+        image_after (placed_in (whole shard.old.heap shard.old.heaps shard.old.image.vector kept.now.what)).operation shard.old.image) }
+{
+    let op = kept
+        .what
+        .op(alloc, shard.heap(), shard.heaps(), shard.vector())?;
+    drop(shard.put_in(alloc, &op)?);
     Ok(())
 }
 

@@ -1,5 +1,5 @@
 //! A book, its type and what it shows.
-ghost use Rattle.std.specs.Prelude.{◌≡◌, ◌≤◌, IfSome, List, Some, [], is_none, length, slice_get, ◌-◌, ◌==◌};
+ghost use Rattle.std.specs.Prelude.{◌≡◌, ◌<◌, ◌≤◌, IfOk, IfSome, IsErr, List, Some, [], is_none, length, slice_get, ◌-◌, ◌==◌};
 ghost use Rattle.zq_history.specs.Books.{IsBook, operations_of, touched};
 ghost use Rattle.zq_history.specs.Reach.{IsReachedBy};
 ghost use Rattle.zq_journal.specs.Books.{IsBased, LAST_STAMP, opened, state_of};
@@ -9,7 +9,7 @@ ghost use Rattle.zq_model.specs.Operation.{Operation};
 ghost use Rattle.zq_model.specs.Tail.{tail_set};
 
 use crate::records::Record;
-use std::alloc::Global;
+use std::alloc::{AllocError, Global};
 use std::marker::Model;
 use zq_dots::{Op, Vector};
 use zq_history::{keeping, reaching, telling};
@@ -107,16 +107,25 @@ impl Book {
         &self.shard
     }
 
-    /// The operation of its newest record, and `None` where it has no records.
-    pub fn newest(&self) -> Option<&Op>
-        ensures none { is_none result ≡ (length self.now.tail == 0) }
-        ensures newest { IfSome result (λ op. slice_get (operations_of self.now.tail) (length self.now.tail - 1) ≡ Some op.now.operation) }
-        ensures placed { IfSome result (λ op. op.now ≡ placed_at self.now.heaps op.now.operation) }
+    /// The operation of its newest record, and `None` where it has no records. `Err` where a copy of
+    /// its key or its member found no memory.
+    pub fn newest(&self, alloc: Global) -> Result<Option<Op>, AllocError>
+        ensures none { IfOk result (λ newest. is_none newest ≡ (length self.now.tail == 0)) }
+        ensures newest { IfOk result (λ newest. IfSome newest (λ op. slice_get (operations_of self.now.tail) (length self.now.tail - 1) ≡ Some op.operation)) }
+        ensures placed { IfOk result (λ newest. IfSome newest (λ op. op ≡ placed_at self.now.heaps op.operation)) }
+        ensures asked { IsErr result → 0 < length self.now.tail }
     {
-        match self.tail.last() {
-            Some(record) => Some(record.what.op()),
-            None => None,
-        }
+        let Some(record) = self.tail.last() else {
+            return Ok(None);
+        };
+        // What it had seen is the state's vector with its site's counter one lower.
+        let dot = record.what.dot();
+        let mut seen = *self.shard.vector();
+        seen.set(dot.site, dot.n - 1);
+        let op = record
+            .what
+            .op(alloc, self.shard.heap(), self.shard.heaps(), &seen)?;
+        Ok(Some(op))
     }
 
     /// Raises its stamp.

@@ -1,10 +1,9 @@
 //! How a book's base moves on: by a merge to the state, by a cut over the oldest records.
-ghost use Rattle.std.specs.Prelude.{◌≡◌, ◌≢◌, ◌≤◌, ◌↔◌, ◌++◌, ◌∷◌, [], IsErrOf, IsOk, List, OnErr, OnOk, length};
-ghost use Rattle.zq_history.specs.Books.{Book as Books, Merged, Step, advanced, merged, replayed};
+ghost use Rattle.std.specs.Prelude.{◌≡◌, ◌≢◌, ◌≤◌, ◌↔◌, ◌++◌, ◌∷◌, [], IsErrOf, IsOk, List, OnErr, OnOk, length, ℕ};
+ghost use Rattle.zq_history.specs.Books.{Book as Books, Merged, Step, advanced, merged};
 ghost use Rattle.zq_history.specs.Reach.{IsReachedBy, IsWorked, cut_of};
 ghost use Rattle.zq_journal.specs.Books.{LAST_STAMP, state_of};
-ghost use Rattle.zq_journal.specs.Records.{written_in};
-ghost use Rattle.zq_model.specs.Image.{Image};
+ghost use Rattle.zq_journal.specs.Records.{vector_over};
 ghost use Rattle.zq_shard.specs.Shard.{IsSameHeap};
 
 use crate::book::{Book, LAST};
@@ -80,10 +79,10 @@ impl Book {
 
 /// Moves a vector over the records.
 fn move_over(vector: &mut Vector, records: &[Record])
-    ensures { (a : Image) → a.vector ≡ vector.old → vector.new ≡ (replayed (written_in records.now) a).vector }
+    ensures { (h K : ℕ) → vector.new ≡ vector_over h K vector.old records.now }
 {
     for record in records {
-        let dot = record.what.op().dot();
+        let dot = record.what.dot();
         vector.set(dot.site, dot.n);
     }
 }

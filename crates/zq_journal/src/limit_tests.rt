@@ -3,7 +3,8 @@ use crate::test_calls::{Deed, act, drop_a, merge, number_given, shown, take};
 use crate::{Book, MergeFault, TakeFault};
 use std::alloc::Global;
 use std::test::Fail;
-use zq_dots::{Act, Op, SiteNo};
+use zq_dots::{Act, Op, Rule, SiteNo};
+use zq_posheap::Seeded;
 use zq_shard::{MakeFault, Shard, Taken};
 
 /// Puts the member a of the key q this often, with rising scores, and cuts the tail before each Put
@@ -75,5 +76,14 @@ fn a_book_refuses_what_is_of_another_heap(rt: HostRuntime) -> Result<(), Fail> {
         merge(&mut book, alloc, &Shard::new(alloc, 0, 2)),
         Err(MergeFault::WrongHeap)
     );
+    Ok(())
+}
+
+#[test]
+fn a_book_refuses_to_merge_what_goes_by_another_rule(rt: HostRuntime) -> Result<(), Fail> {
+    let alloc = rt.alloc();
+    let mut book = Book::new(alloc, Shard::new(alloc, 0, 1));
+    let low = Shard::new_ruled(alloc, 0, 1, Rule::Low, Seeded::new(1));
+    assert_eq!(rt; merge(&mut book, alloc, &low), Err(MergeFault::WrongRule));
     Ok(())
 }

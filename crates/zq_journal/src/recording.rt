@@ -4,6 +4,7 @@ ghost use Rattle.zq_dots.specs.Act.{act_of};
 ghost use Rattle.zq_dots.specs.Placed.{IsRanged, LONGEST};
 ghost use Rattle.zq_history.specs.Books.{Book as Books, Made, Step, is_change_over, recorded};
 ghost use Rattle.zq_history.specs.Reach.{IsWorked};
+ghost use Rattle.zq_journal.specs.Arriving.{arrived};
 ghost use Rattle.zq_journal.specs.Books.{LAST_STAMP, book_taken, state_of, step_of, steps_taken};
 ghost use Rattle.zq_journal.specs.Records.{IsRecordable, change_of, placed_in};
 ghost use Rattle.zq_model.specs.Heaps as place;
@@ -11,17 +12,18 @@ ghost use Rattle.zq_model.specs.Sets as sets;
 ghost use Rattle.zq_shard.specs.Shard.{IsOfHeap, next_operation};
 ghost use Rattle.zq_shard.specs.Taken.{answer_of};
 
+use crate::arrival::Arrival;
 use crate::book::{Book, LAST};
 use crate::faults::TakeFault;
-use crate::records::{Change, Record};
+use crate::records::Record;
 use std::alloc::{AllocError, Global};
 use zq_dots::{Act, Op, SiteNo, heap_of};
 use zq_history::{keeping, undoing, working};
 use zq_shard::{MakeFault, Taken};
 
 impl Book {
-    /// Makes the next operation of a site and takes it, with a record, which [`Book::newest`] then
-    /// lends. The stamp is no less than the book's.
+    /// Makes the next operation of a site and takes it, with a record, whose operation
+    /// [`Book::newest`] then answers. The stamp is no less than the book's.
     ///
     /// `WrongHeap` where the member lies in another heap, else `Worn` where the site's counter or
     /// the book's count is at its last value, else `NoMemory` where a growth was refused; after each
@@ -47,7 +49,7 @@ impl Book {
         ensures refused { OnErr result (self.new ≡ self.old) }
     {
         let op = self.draft(alloc, site, key, member, act)?;
-        self.enter(alloc, stamp, Change::Made(op))?;
+        self.enter(alloc, stamp, Arrival::Made(op))?;
         Ok(())
     }
 
@@ -80,7 +82,8 @@ impl Book {
         if self.count == LAST {
             return Err(TakeFault::Worn);
         }
-        self.enter(alloc, stamp, Change::Took(op.copy(alloc)?))?;
+        let op = boxed(alloc, op)?;
+        self.enter(alloc, stamp, Arrival::Took(op))?;
         Ok(taken)
     }
 
@@ -111,14 +114,14 @@ impl Book {
 
     /// Takes an operation that is new to the state, with a record at this stamp.
     #[tactic(auto, unfolding(crate::specs::Books::LAST_STAMP))]
-    fn enter(&mut self, alloc: Global, at: u64, change: Change) -> Result<(), AllocError>
+    fn enter(&mut self, alloc: Global, at: u64, arrival: Arrival) -> Result<(), AllocError>
         requires stamp { self.old.stamp ≤ at }
         requires bounded { at ≤ LAST_STAMP }
         requires count { self.old.count < LAST_STAMP }
-        requires recordable { IsRecordable self.old.heap self.old.heaps (placed_in change) }
-        requires over { is_change_over self.old.heap self.old.state.vector (change_of change) ≡ true }
-        ensures recorded { OnOk result (self.new ≡ recorded self.old at (change_of change)) }
-        ensures worked { OnOk result ((a : Books) (steps : List Step) → IsWorked self.old a at steps → IsWorked self.new a at (steps ++ step_of at (change_of change) ∷ [])) }
+        requires recordable { IsRecordable self.old.heap self.old.heaps (placed_in (arrived arrival)) }
+        requires over { is_change_over self.old.heap self.old.state.vector (change_of (arrived arrival)) ≡ true }
+        ensures recorded { OnOk result (self.new ≡ recorded self.old at (change_of (arrived arrival))) }
+        ensures worked { OnOk result ((a : Books) (steps : List Step) → IsWorked self.old a at steps → IsWorked self.new a at (steps ++ step_of at (change_of (arrived arrival)) ∷ [])) }
         ensures refused { OnErr result (self.new ≡ self.old) }
     {
         // A record of what is new keeps what a book keeps,
@@ -128,14 +131,23 @@ impl Book {
         // and goes on with a call's work.
         working();
         self.tail.reserve(1)?;
-        let before = self.shard.put_in(alloc, change.op())?;
+        let before = self.shard.put_in(alloc, arrival.op())?;
         self.tail.push_reserved(Record {
             stamp: at,
-            what: change,
+            what: arrival.kept(),
             before,
         });
         self.stamp = at;
         self.count += 1;
         Ok(())
     }
+}
+
+/// An equal operation in a box.
+fn boxed(alloc: Global, op: &Op) -> Result<Box<Op>, AllocError>
+    ensures same { IfOk result (λ copy. copy.value ≡ op.now) }
+    ensures sound { IfOk result (λ copy. IsRanged copy.value) }
+{
+    let copy = op.copy(alloc)?;
+    Ok(Box::new(alloc, copy)?)
 }

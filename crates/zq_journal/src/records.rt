@@ -1,26 +1,74 @@
 //! The records of a book.
-ghost use Rattle.std.specs.Prelude.{◌≡◌};
-ghost use Rattle.zq_journal.specs.Records.{placed_in};
+ghost use Rattle.std.specs.Prelude.{◌≡◌, ◌≤◌, IfOk, List, ℕ};
+ghost use Rattle.zq_journal.specs.Records.{IsRecordable, placed_in, whole};
+ghost use Rattle.zq_model.specs.Sets.{LAST};
 
-use zq_dots::Op;
+use crate::own::Own;
+use std::alloc::{AllocError, Global};
+use zq_dots::{Dot, Op, Vector};
 use zq_entry::Entry;
 
 /// What an operation was to the book that recorded it.
 #[derive(Debug, Drop)]
 pub(crate) enum Change {
     /// It was made here.
-    Made(Op),
+    Made(Own),
     /// It was made elsewhere, and new here.
-    Took(Op),
+    Took(Box<Op>),
 }
 
 impl Change {
-    /// The operation.
-    pub(crate) fn op(&self) -> &Op
-        ensures { result.now ≡ placed_in self.now }
+    /// The operation's site and counter.
+    pub(crate) fn dot(&self) -> Dot
+        ensures counted { 1 ≤ result.n }
+        ensures bounded { result.n ≤ LAST }
+        ensures site { (h K : ℕ) (v : List ℕ) → result.site ≡ (placed_in (whole h K v self.now)).operation.site }
+        ensures n { (h K : ℕ) (v : List ℕ) → result.n ≡ (placed_in (whole h K v self.now)).operation.n }
     {
         match self {
-            Change::Made(op) | Change::Took(op) => op,
+            Change::Made(own) => own.dot,
+            Change::Took(op) => op.dot(),
+        }
+    }
+
+    /// Its key.
+    pub(crate) fn key(&self) -> &[u8]
+        ensures { (h K : ℕ) (v : List ℕ) → result.now ≡ (placed_in (whole h K v self.now)).operation.key }
+    {
+        match self {
+            Change::Made(own) => own.key.as_slice(),
+            Change::Took(op) => op.key(),
+        }
+    }
+
+    /// Its member.
+    pub(crate) fn member(&self) -> &[u8]
+        ensures { (h K : ℕ) (v : List ℕ) → result.now ≡ (placed_in (whole h K v self.now)).operation.member }
+    {
+        match self {
+            Change::Made(own) => own.member.as_slice(),
+            Change::Took(op) => op.member(),
+        }
+    }
+
+    /// The operation, in a heap of a number of heaps whose vector was `seen` before it.
+    pub(crate) fn op(
+        &self,
+        alloc: Global,
+        heap: u8,
+        heaps: u8,
+        seen: &Vector,
+    ) -> Result<Op, AllocError>
+        requires { IsRecordable heap heaps (placed_in (whole heap heaps seen.now self.now)) }
+        ensures { IfOk result (λ op. op ≡ placed_in (whole heap heaps seen.now self.now)) }
+    {
+        match self {
+            Change::Made(own) => {
+                let key = Vec::from_slice(alloc, &own.key)?;
+                let member = Vec::from_slice(alloc, &own.member)?;
+                Ok(Op::new(heap, heaps, own.dot, *seen, key, member, own.act))
+            }
+            Change::Took(op) => op.copy(alloc),
         }
     }
 }

@@ -4,7 +4,7 @@ ghost use Rattle.std.specs.Prelude.{◌≡◌, IfOk, List, map, not};
 ghost use Rattle.zq_history.specs.Books.{operations_of};
 ghost use Rattle.zq_journal.specs.Answers.{IfOps, is_too_old};
 ghost use Rattle.zq_journal.specs.Books.{IsPeer, base_of};
-ghost use Rattle.zq_journal.specs.Records.{missing_of, placed_at};
+ghost use Rattle.zq_journal.specs.Records.{IsRecord, missing_of, placed_at, records_over};
 ghost use Rattle.zq_model.specs.Image.{image_of, join};
 ghost use Rattle.zq_model.specs.Operation.{Operation};
 ghost use Rattle.zq_model.specs.Sets as sets;
@@ -43,20 +43,32 @@ impl Book {
         if !vector.covers(&self.vector) {
             return Ok(Since::TooOld);
         }
-        Ok(Since::Ops(missing(alloc, &self.tail, vector)?))
+        let (heap, heaps) = (self.shard.heap(), self.shard.heaps());
+        let ops = missing(alloc, heap, heaps, &self.vector, &self.tail, vector)?;
+        Ok(Since::Ops(ops))
     }
 }
 
-/// The operations of the records that the vector lacks.
-fn missing(alloc: Global, tail: &[Record], vector: &Vector) -> Result<Vec<Op>, AllocError>
-    ensures { IfOk result (λ ops. ops.items ≡ missing_of vector.now tail.now) }
+/// The operations of a heap's records that the vector lacks. The records begin at the base's vector.
+fn missing(
+    alloc: Global,
+    heap: u8,
+    heaps: u8,
+    base: &Vector,
+    tail: &[Record],
+    vector: &Vector,
+) -> Result<Vec<Op>, AllocError>
+    requires { All (IsRecord heap heaps) (records_over heap heaps base.now tail.now) }
+    ensures { IfOk result (λ ops. ops.items ≡ missing_of vector.now (records_over heap heaps base.now tail.now)) }
 {
     let mut ops = Vec::new(alloc);
-    for kept in tail {
-        let op = kept.what.op();
-        if !vector.has(op.dot()) {
-            ops.push(op.copy(alloc)?)?;
+    let mut seen = *base;
+    for record in tail {
+        let dot = record.what.dot();
+        if !vector.has(dot) {
+            ops.push(record.what.op(alloc, heap, heaps, &seen)?)?;
         }
+        seen.set(dot.site, dot.n);
     }
     Ok(ops)
 }

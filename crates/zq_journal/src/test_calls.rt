@@ -52,7 +52,7 @@ pub(crate) fn make(
 ) -> Result<Op, Fail> {
     let stamp = book.stamp();
     book.make(alloc, site, stamp, b"q", &[member], act)?;
-    Ok(book.newest().ok_or("a record")?.copy(alloc)?)
+    Ok(book.newest(alloc)?.ok_or("a record")?)
 }
 
 /// Hands an operation to a book, at the book's stamp.

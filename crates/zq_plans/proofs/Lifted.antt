@@ -1,21 +1,21 @@
 -- A command that works in one heap runs over its book alone as over all books.
-use Rattle.std.proofs.Common.{Bool, List, None, Option, Some, [], ap, arith, cond, false, inl, inr, length, map, refl, subst, suc, sym, true, zero, ℕ, ℤ, ◌++◌, ◌<◌, ◌∙◌, ◌∷◌, ◌≡◌, ◌≤◌}
+use Rattle.std.proofs.Common.{Bool, List, None, Option, Some, [], ap, arith, false, inl, inr, refl, subst, suc, sym, true, true≢false, zero, ℕ, ℤ, ◌++◌, ◌∙◌, ◌∷◌, ◌≡◌}
 use Rattle.std.proofs.lemmas.Bool.{cond-false, ne_eqb}
-use Rattle.std.specs.List.{list_any}
-use Rattle.std.specs.Prelude.{if◌then◌else◌, is_some, slice_get, take}
+use Rattle.std.specs.Prelude.{if◌then◌else◌, is_some, take}
 use Rattle.zq_history.specs.Books.{Book}
-use Rattle.zq_model.proofs.Membership.{any_in, any_some, in_left, in_right}
+use Rattle.zq_model.proofs.Membership.{any_in, any_some, in_right, in_union}
 use Rattle.zq_model.specs.Heaps.{heap_of}
 use Rattle.zq_model.specs.Rule.{Rule}
 use Rattle.zq_model.specs.Sets.{IsIn}
+use Rattle.zq_moves.proofs.Read.{in_place}
 use Rattle.zq_moves.specs.Lent.{AreLent, books_after, is_home, made, made_in, queues_of}
 use Rattle.zq_moves.specs.Moves.{Move, Queues, score_in}
 use Rattle.zq_plans.proofs.Narrow.{plan_alone, same_heap}
 use Rattle.zq_model.specs.Operation.{Drop, Put}
-use Rattle.zq_plans.specs.Plan.{Part, Plan, counts, lets, nothing, one, plan_of, raising, sum_of}
+use Rattle.zq_plans.specs.Plan.{Part, Plan, counts, lets, nothing, one, plan_of, sum_of}
 use Rattle.zq_words.specs.declared.flags.Flags.{Flags}
-use Rattle.zq_plans.specs.Replies.{Reply, bytes_of}
-use Rattle.zq_plans.specs.Run.{IsRun, IsWhy, Memory, Number, Runs, Want, cut_pop, cut_reply, is_worn, part, popped_of, whole}
+use Rattle.zq_plans.specs.Replies.{Reply}
+use Rattle.zq_plans.specs.Run.{IsRun, IsWhy, IsWhyOf, Memory, Number, Runs, Want, cut_pop, cut_reply, is_strict, is_worn, part, popped_of, whole}
 use Rattle.zq_words.specs.Command.{Command, Del, Ping, Zadd, ZaddIncr, Zcard, Zcount, Zincrby, Zpopmin, Zpopnear, Zrange, Zrank, Zrem, Zrevrank, Zscore}
 use Rattle.zq_words.specs.Heaps.{heaps_of}
 use Rattle.zq_words.specs.Words.{Word, is_in_range}
@@ -146,14 +146,37 @@ module _ (K h site stamp : ℕ) where
       let same : b ≡ found.0 = elim found.1 [ inl same ↦ same | inr none ↦ absurd none ] in
       any_in worn (front ++ b ∷ back) b (in_right b front (b ∷ back) (inl refl)) (ap worn same ∙ found.2)
 
-  runs_among : (plan : Plan) (cut : ℕ → Want → Reply) (front back : List Book) (old new : Book) (reply : Word) → AreHome K h plan.moves → AreApart K h front → AreApart K h back →
-      Runs site stamp plan cut (old ∷ []) (new ∷ []) reply → Runs site stamp plan cut (front ++ old ∷ back) (front ++ new ∷ back) reply
-  runs_among plan cut front back old new reply home before behind (whole is says) =
+  -- and the other way round, where the move is made in this book's heap
+  why_alone : (move : Move) (front back : List Book) (b : Book) → heap_of move.key move.member K ≡ h → AreApart K h front → AreApart K h back →
+      IsWhy site (Some move) (front ++ b ∷ back) Number → IsWhy site (Some move) (b ∷ []) Number
+  why_alone move front back b at before behind why =
+      let worn = λ (c : Book). if is_home move c then is_worn site c else false in
+      let found = any_some worn (front ++ b ∷ back) why in
+      let away = λ (c : Book) (its : (c.heaps ≡ K) × (c.heap ≡ h → ⊥)).
+      cond-false (is_home move c) (is_worn site c) false (ne_eqb _ _ (λ same. its.1 (sym same ∙ ap (heap_of move.key move.member) its.0 ∙ at))) in
+      let same : b ≡ found.0 = elim (in_union found.0 front (b ∷ back) found.1) [
+        | inl first ↦ absurd (true≢false (sym found.2 ∙ away found.0 (before found.0 first)))
+        | inr (inl same) ↦ same
+        | inr (inr later) ↦ absurd (true≢false (sym found.2 ∙ away found.0 (behind found.0 later)))
+      ] in
+      any_in worn (b ∷ []) b (inl refl) (ap worn same ∙ found.2)
+
+  why_among_of : (strict : Bool) (next : Option Move) (front back : List Book) (b : Book) (want : Want) →
+      ((move : Move) → next ≡ Some move → heap_of move.key move.member K ≡ h) → AreApart K h front → AreApart K h back →
+      IsWhyOf strict site next (b ∷ []) want → IsWhyOf strict site next (front ++ b ∷ back) want
+  why_among_of false next front back b want home before behind why = why_among next front back b want why
+  why_among_of true None front back b want home before behind why = why
+  why_among_of true (Some move) front back b Memory home before behind why = λ worn. why (why_alone move front back b (home move refl) before behind worn)
+  why_among_of true (Some move) front back b Number home before behind why = why_among (Some move) front back b Number why
+
+  runs_among : (strict : Bool) (plan : Plan) (cut : ℕ → Want → Reply) (front back : List Book) (old new : Book) (reply : Word) → AreHome K h plan.moves → AreApart K h front → AreApart K h back →
+      Runs site stamp strict plan cut (old ∷ []) (new ∷ []) reply → Runs site stamp strict plan cut (front ++ old ∷ back) (front ++ new ∷ back) reply
+  runs_among strict plan cut front back old new reply home before behind (whole is says) =
       whole (ap (λ books. front ++ (books ++ back)) is ∙ sym (after_among plan.moves front back old home before behind)) says
-  runs_among plan cut front back old new reply home before behind (part k want within is why says) =
+  runs_among strict plan cut front back old new reply home before behind (part k want within is why says) =
       part k want within
       (ap (λ books. front ++ (books ++ back)) is ∙ sym (after_among (take k plan.moves) front back old (λ m here. home m (in_take k plan.moves m here)) before behind))
-      (why_among _ front back new want why) says
+      (why_among_of strict _ front back new want (λ move next. home move (in_place plan.moves k move next)) before behind why) says
 
 -- ---- books around one
 
@@ -180,7 +203,7 @@ run_alone rule K site stamp command front back old new reply are one_ runs =
     let all = queues_of rule (front ++ old ∷ back) in
     let plans : plan_of command alone ≡ plan_of command all = plan_alone rule K command (front ++ old ∷ back) old are (in_right old front (old ∷ back) (inl refl)) one_ in
     let cuts : cut_reply command alone ≡ cut_reply command all = λ i k want. cut_same command alone all k want (not_popping K old.heap command one_) i in
-    subst (λ plan. Runs site stamp plan (cut_reply command all) (front ++ old ∷ back) (front ++ new ∷ back) reply) plans
-    (subst (λ cut. Runs site stamp (plan_of command alone) cut (front ++ old ∷ back) (front ++ new ∷ back) reply) cuts
-    (runs_among K old.heap site stamp (plan_of command alone) (cut_reply command alone) front back old new reply (moves_home K old.heap command alone one_)
+    subst (λ plan. Runs site stamp (is_strict command) plan (cut_reply command all) (front ++ old ∷ back) (front ++ new ∷ back) reply) plans
+    (subst (λ cut. Runs site stamp (is_strict command) (plan_of command alone) cut (front ++ old ∷ back) (front ++ new ∷ back) reply) cuts
+    (runs_among K old.heap site stamp (is_strict command) (plan_of command alone) (cut_reply command alone) front back old new reply (moves_home K old.heap command alone one_)
     (lent_before K front back old are) (lent_behind K front back old are) runs))

@@ -1,10 +1,10 @@
 -- A command that works in one heap plans over its book what it plans over all.
-use Rattle.std.proofs.Common.{List, None, Option, Some, [], ap, inl, true, inr, refl, subst, sym, ℕ, ℤ, ◌++◌, ◌+◌, ◌∙◌, ◌∷◌, ◌≡◌}
+use Rattle.std.proofs.Common.{List, Option, [], ap, inl, true, refl, sym, ℕ, ℤ, ◌++◌, ◌+◌, ◌∙◌, ◌∷◌, ◌≡◌}
 use Rattle.std.proofs.lemmas.Bool.{eq-eqb}
 use Rattle.std.specs.Prelude.{if◌then◌else◌, is_some}
 use Rattle.zq_history.specs.Books.{Book}
 use Rattle.zq_model.specs.Heaps.{heap_of}
-use Rattle.zq_model.specs.Operation.{Act, Drop, Put}
+use Rattle.zq_model.specs.Operation.{Drop, Put}
 use Rattle.zq_model.specs.Rule.{Rule}
 use Rattle.zq_model.specs.Sets.{IsIn}
 use Rattle.zq_moves.proofs.Homes.{lent_each}
@@ -17,8 +17,7 @@ use Rattle.zq_words.specs.Command.{Command, Del, Ping, Zadd, ZaddIncr, Zcard, Zc
 use Rattle.zq_words.specs.Heaps.{heaps_of}
 use Rattle.zq_words.specs.Words.{Word}
 use Rattle.zq_words.specs.declared.flags.Flags.{Flags}
-use Rattle.zq_words.specs.declared.heaps.Heaps.{Heaps}
-use Rattle.zq_words.specs.declared.heaps.Heaps.TheVariants.{All, Near, NoHeap, One}
+use Rattle.zq_words.specs.declared.heaps.Heaps.TheVariants.{NoHeap, One}
 
 pub same_heap : (a b : ℕ) → One a ≡ One b → a ≡ b
 same_heap a b e = cc

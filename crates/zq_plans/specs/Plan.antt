@@ -1,7 +1,6 @@
 -- What each command makes of the queues, and its reply.
 
 use Rattle.std.specs.Prelude.{Bool, List, None, Option, Some, [], codes, count_by, false, if◌then◌else◌, int_lt, is_some, length, map, not, pos, take, true, unwrap_or, ℕ, ℤ, ◌&&◌, ◌+ℤ◌, ◌++◌, ◌+◌, ◌||◌, ◌∷◌}
-use Rattle.zq_model.specs.Meaning.{Scored}
 use Rattle.zq_model.specs.Operation.{Act, Bump, Drop, Put}
 use Rattle.zq_moves.specs.Moves.{Move, Queue, Queues, after_all, score_in}
 use Rattle.zq_plans.specs.Ranges.{from_zero, is_within, ranged, turned_if}

@@ -1,6 +1,6 @@
 -- The part of a queue that a range takes.
 
-use Rattle.std.specs.Prelude.{Bool, List, None, Option, Some, [], drop, false, filter, if◌then◌else◌, int_le, int_lt, length, negsuc, pos, reverse, slice_range, take, true, ℕ, ℤ, ◌&&◌, ◌+ℤ◌}
+use Rattle.std.specs.Prelude.{Bool, None, Option, Some, [], drop, false, filter, if◌then◌else◌, int_le, int_lt, length, negsuc, pos, reverse, slice_range, take, true, ℕ, ℤ, ◌&&◌, ◌+ℤ◌}
 use Rattle.zq_model.specs.Meaning.{Scored}
 use Rattle.zq_moves.specs.Moves.{Queue}
 use Rattle.zq_words.specs.declared.bound.Bound.{Bound}

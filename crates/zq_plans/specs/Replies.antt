@@ -3,7 +3,7 @@
 use Rattle.std.specs.Fmt.{signed_decimal}
 use Rattle.std.specs.Prelude.{Bool, List, None, Option, Some, [], codes, decimal, flat_map, if◌then◌else◌, length, map, option_map, pos, ℕ, ℤ, ◌++◌, ◌∷◌}
 use Rattle.zq_model.specs.Meaning.{Scored}
-use Rattle.zq_moves.specs.Moves.{Queue, score_in}
+use Rattle.zq_moves.specs.Moves.{Queue}
 use Rattle.zq_resp.specs.Reply.{after_text, bulk, joined, line}
 use Rattle.zq_words.specs.Words.{Word}
 

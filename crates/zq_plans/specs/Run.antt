@@ -10,7 +10,7 @@ use Rattle.zq_moves.specs.Moves.{Move, Queues}
 use Rattle.zq_plans.specs.Plan.{Plan, plan_of}
 use Rattle.zq_plans.specs.Ranges.{from_zero}
 use Rattle.zq_plans.specs.Replies.{Error, Reply, bytes_of, pairs_reply}
-use Rattle.zq_words.specs.Command.{Command, Zpopmin, Zpopnear}
+use Rattle.zq_words.specs.Command.{Command, Zadd, Zpopmin, Zpopnear, Zrem}
 use Rattle.zq_words.specs.Words.{Word}
 
 -- why a command is cut: for want of memory, or since a number that its book needs is at its last value
@@ -55,13 +55,29 @@ IsWhy site next books Memory = Unit {0}
 IsWhy site None books Number = ⊥
 IsWhy site (Some move) books Number = list_any (λ book. if is_home move book then is_worn site book else false) books ≡ true
 
+-- why it was not made by a command that asks for no memory before a move: for want of memory only where its book is not worn
+abbrev pub IsStrictlyWhy : ℕ → Option Move → List Book → Want → Type 0
+IsStrictlyWhy site None books want = ⊥
+IsStrictlyWhy site (Some move) books Memory = IsWhy site (Some move) books Number → ⊥
+IsStrictlyWhy site (Some move) books Number = IsWhy site (Some move) books Number
+
+-- ZADD without INCR and ZREM ask for no memory before a move
+abbrev pub is_strict : Command → Bool
+is_strict (Zadd key flags pairs) = true
+is_strict (Zrem key members) = true
+is_strict command = false
+
+abbrev pub IsWhyOf : Bool → ℕ → Option Move → List Book → Want → Type 0
+IsWhyOf true site next books want = IsStrictlyWhy site next books want
+IsWhyOf false site next books want = IsWhy site next books want
+
 -- how a plan runs: the books before and after, and the bytes of the reply
-pub data Runs (site stamp : ℕ) (plan : Plan) (cut : ℕ → Want → Reply) (old new : List Book) (reply : Word) : Type 0 where
-  whole : new ≡ books_after site stamp plan.moves old → reply ≡ bytes_of plan.reply → Runs site stamp plan cut old new reply
+pub data Runs (site stamp : ℕ) (strict : Bool) (plan : Plan) (cut : ℕ → Want → Reply) (old new : List Book) (reply : Word) : Type 0 where
+  whole : new ≡ books_after site stamp plan.moves old → reply ≡ bytes_of plan.reply → Runs site stamp strict plan cut old new reply
   part : (k : ℕ) → (want : Want) → k ≤ length plan.moves → new ≡ books_after site stamp (take k plan.moves) old →
-      IsWhy site (slice_get plan.moves k) new want → reply ≡ bytes_of (cut k want) → Runs site stamp plan cut old new reply
+      IsWhyOf strict site (slice_get plan.moves k) new want → reply ≡ bytes_of (cut k want) → Runs site stamp strict plan cut old new reply
 
 -- the books and the reply after a command
 abbrev pub IsRun : Rule → ℕ → ℕ → Command → List Book → List Book → Word → Type 0
 IsRun rule site stamp command old new reply =
-    Runs site stamp (plan_of command (queues_of rule old)) (cut_reply command (queues_of rule old)) old new reply
+    Runs site stamp (is_strict command) (plan_of command (queues_of rule old)) (cut_reply command (queues_of rule old)) old new reply

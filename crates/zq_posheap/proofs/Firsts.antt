@@ -36,7 +36,7 @@ has_first x xs = (zero, omega arith, refl)
 pub has_later : {X : Type 0} (x : X) (xs : List X) (y : X) → Contains xs y → Contains (x ∷ xs) y
 has_later x xs y at = (suc at.0, omega (arith, at.1), at.2)
 
-later_all : {X : Type 0} (P : X → Type 0) (xs : List X) (y : X) → AllByRecursion P xs → Contains xs y → P y
+pub later_all : {X : Type 0} (P : X → Type 0) (xs : List X) (y : X) → AllByRecursion P xs → Contains xs y → P y
 later_all P [] y all at = absurd (omega (arith, at.1))
 later_all P (x ∷ xs) y all at = elim (first_or_later x xs y at) as (λ _. P y) [ inl e ↦ subst P e all.0 | inr later ↦ later_all P xs y all.1 later ]
 
@@ -74,7 +74,7 @@ firsts_are (x ∷ xs) (y ∷ ys) Other up rises either there lower =
     (λ w z at other. lower w z (has_later x xs w at) other) in
     λ k. sym same k ∷ rest k
 
-rising : (sorted : List (ℤ × Bor (List ℕ))) → IsSorted (λ x y. scored_cmp (lent_pair x) (lent_pair y)) sorted → AllPairs (λ x y. x.1 ≢ y.1) (map lent_pair sorted) →
+pub rising : (sorted : List (ℤ × Bor (List ℕ))) → IsSorted (λ x y. scored_cmp (lent_pair x) (lent_pair y)) sorted → AllPairs (λ x y. x.1 ≢ y.1) (map lent_pair sorted) →
     IsStrictlySortedBy scored_cmp (map lent_pair sorted)
 rising sorted up apart =
     let ys = map lent_pair sorted in
@@ -84,17 +84,17 @@ rising sorted up apart =
     (λ same. apart k (k + 1) none (omega arith) within (ap (λ p. p.1) (sym same))))
 
 -- pairs that are apart are so in the front, and in front and back
-apart_in_front : (xs ys : List Scored) → AllPairs (λ x y. x.1 ≢ y.1) (xs ++ ys) → AllPairs (λ x y. x.1 ≢ y.1) xs
+pub apart_in_front : (xs ys : List Scored) → AllPairs (λ x y. x.1 ≢ y.1) (xs ++ ys) → AllPairs (λ x y. x.1 ≢ y.1) xs
 apart_in_front xs ys apart i j d lo within same = apart i j d lo (omega (arith, within, length-append xs ys))
     (ap (λ p. p.1) (get_or_append_left xs ys d i (omega (arith, lo, within))) ∙ same ∙ sym (ap (λ p. p.1) (get_or_append_left xs ys d j within)))
 
-apart_across : (xs ys : List Scored) → AllPairs (λ x y. x.1 ≢ y.1) (xs ++ ys) → (x y : Scored) → Contains xs x → Contains ys y → y ≢ x
+pub apart_across : (xs ys : List Scored) → AllPairs (λ x y. x.1 ≢ y.1) (xs ++ ys) → (x y : Scored) → Contains xs x → Contains ys y → y ≢ x
 apart_across xs ys apart x y at_x at_y same =
     apart at_x.0 (length xs + at_y.0) x (omega (arith, at_x.1)) (omega (arith, at_y.1, length-append xs ys))
     (ap (λ p. p.1) (get_or_append_left xs ys x at_x.0 at_x.1 ∙ at_x.2 ∙ sym same ∙ sym at_y.2 ∙ get_or_default ys at_y.0 y x at_y.1 ∙ sym (get_or-append-add xs ys at_y.0 x)))
 
 -- what is among the pairs that are lent
-lent_there : (xs : List (ℤ × Bor (List ℕ))) (x : Scored) → Contains (map lent_pair xs) x → (y : ℤ × Bor (List ℕ)) × Contains xs y × (lent_pair y ≡ x)
+pub lent_there : (xs : List (ℤ × Bor (List ℕ))) (x : Scored) → Contains (map lent_pair xs) x → (y : ℤ × Bor (List ℕ)) × Contains xs y × (lent_pair y ≡ x)
 lent_there xs x at =
     let seen : slice_get (map lent_pair xs) at.0 ≡ Some x = slice_get-get_or (map lent_pair xs) at.0 x at.1 ∙ ap (λ z. Some z) at.2 in
     let y = behind lent_pair xs at.0 x seen in
@@ -123,19 +123,18 @@ firsts_begin scores all firsts sorted n lists splits moved up pairs order =
     before x y ((λ k. is_lt (scored_cmp (sym b.2 k) (sym a.2 k))) ∙ after) (apart_across xs ys whole.once x y at_x at_y)) in
     is ∙ ap (λ m. take m pairs) long
 
--- and all of them are its pairs in order
-pub all_in_order : (scores : Scores) (all sorted : List (ℤ × Bor (List ℕ))) (n : ℕ) → IsListing scores (map lent_pair all) → length all ≤ n →
-    IsPermutation all sorted → IsSorted (λ x y. scored_cmp (lent_pair x) (lent_pair y)) sorted →
-    (pairs : List Scored) → ListsInOrder scores pairs → map lent_pair sorted ≡ take n pairs
-all_in_order scores all sorted n lists few moved up pairs order =
-    let none : Splits all all (length all) = record {
-      others = [];
-      permutation = subst (IsPermutation all) (sym (append-nil all)) (IsPermutation-refl all);
-      len = refl;
-      split = λ x y at_x at_y. absurd (omega (arith, at_y.1));
-    } in
-    let long : length pairs ≡ length all = length-listing scores pairs order.lists ∙ sym (length-listing scores (map lent_pair all) lists) ∙ length-map all lent_pair in
-    firsts_begin scores all all sorted (length all) lists none moved up pairs order ∙ take_all (length all) pairs (omega (arith, long)) ∙ sym (take_all n pairs (omega (arith, long, few)))
+-- all of them are their first
+pub splits_all : (all : List (ℤ × Bor (List ℕ))) (n : ℕ) → length all ≡ n → Splits all all n
+splits_all all n long = record {
+  others = [];
+  permutation = subst (IsPermutation all) (sym (append-nil all)) (IsPermutation-refl all);
+  len = long;
+  split = λ x y at_x at_y. absurd (omega (arith, at_y.1));
+}
+
+-- a map has as many pairs in order as in any
+pub one_length : (scores : Scores) (all : List (ℤ × Bor (List ℕ))) → IsListing scores (map lent_pair all) → (pairs : List Scored) → ListsInOrder scores pairs → length all ≡ length pairs
+one_length scores all lists pairs order = sym (length-map all lent_pair) ∙ length-listing scores (map lent_pair all) lists ∙ sym (length-listing scores pairs order.lists)
 
 -- what a selection leaves in front
 pub splits_around : (all front : List (ℤ × Bor (List ℕ))) (middle : ℤ × Bor (List ℕ)) (back firsts : List (ℤ × Bor (List ℕ))) (n : ℕ) → firsts ≡ front →

@@ -18,3 +18,4 @@ pub mod InRange
 pub mod Listings
 pub mod Listed
 pub mod Firsts
+pub mod Slices

@@ -1,7 +1,7 @@
 //! What is read of a `PosHeap` in order.
-ghost use Rattle.std.specs.Prelude.{List, IfOk, count_by, if◌then◌else◌, length, map, take, ◌^◌, ◌<◌, ◌≡◌};
+ghost use Rattle.std.specs.Prelude.{List, IfOk, count_by, drop, if◌then◌else◌, length, map, min, take, ◌-◌, ◌^◌, ◌<◌, ◌≤◌, ◌≡◌};
 ghost use Rattle.std.specs.Ordering.{int_cmp, is_le, is_lt};
-ghost use Rattle.zq_posheap.specs.InOrder.{ListsInOrder, Splits};
+ghost use Rattle.zq_posheap.specs.InOrder.{Leaves, ListsInOrder, Splits};
 ghost use Rattle.zq_posheap.specs.Listing.{AllInRange, IsListing, lent_pair};
 ghost use Rattle.zq_posheap.specs.Members.{AreInRange, scores_of};
 ghost use Rattle.zq_posheap.specs.Order.{Scored, scored_cmp};
@@ -10,18 +10,37 @@ use crate::pairs::Pairs;
 use crate::pos_heap::PosHeap;
 use std::alloc::{AllocError, Global};
 
-/// The first so many of a list, in no order.
+/// The first so many of a list, or all where there are fewer, in no order.
 fn firsts_of<'a>(
     alloc: Global,
     mut pairs: Vec<(i128, &'a [u8])>,
     count: usize,
 ) -> Result<Vec<(i128, &'a [u8])>, AllocError>
-    requires { count < length pairs.items }
-    ensures { IfOk result (λ firsts. Splits pairs.entry.items firsts.items count) }
+    ensures { IfOk result (λ firsts. Splits pairs.entry.items firsts.items (min count (length pairs.entry.items))) }
 {
+    if count >= pairs.len() {
+        return Ok(pairs);
+    }
     let (firsts, _, _) = pairs.select_nth_unstable(count);
     let firsts = firsts.to_vec(alloc)?;
     Ok(firsts)
+}
+
+/// What a list has beside its first so many, in no order.
+fn lasts_of<'a>(
+    alloc: Global,
+    mut pairs: Vec<(i128, &'a [u8])>,
+    count: usize,
+) -> Result<Vec<(i128, &'a [u8])>, AllocError>
+    requires { count ≤ length pairs.items }
+    ensures { IfOk result (λ lasts. Leaves pairs.entry.items lasts.items count) }
+{
+    if count == 0 {
+        return Ok(pairs);
+    }
+    let (_, _, lasts) = pairs.select_nth_unstable(count - 1);
+    let lasts = lasts.to_vec(alloc)?;
+    Ok(lasts)
 }
 
 impl<V: Drop> PosHeap<V> {
@@ -50,13 +69,33 @@ impl<V: Drop> PosHeap<V> {
             map lent_pair firsts.items ≡ take count pairs) }
     {
         let pairs = self.pairs(alloc)?;
-        let mut firsts = if count < pairs.len() {
-            firsts_of(alloc, pairs, count)?
-        } else {
-            pairs
-        };
+        let mut firsts = firsts_of(alloc, pairs, count)?;
         firsts.sort_unstable();
         Ok(firsts)
+    }
+
+    /// What stands in `in_order` from the place `from` up to the place `to`, itself left out; places count from 0. It
+    /// sorts no more than these.
+    pub fn slice(
+        &self,
+        alloc: Global,
+        from: usize,
+        to: usize,
+    ) -> Result<Vec<(i128, &[u8])>, AllocError>
+        ensures { IfOk result (λ slice. (pairs : List Scored) → ListsInOrder (scores_of self.now.held) pairs →
+            map lent_pair slice.items ≡ take (to - from) (drop from pairs)) }
+    {
+        if from >= to {
+            return Ok(Vec::new(alloc));
+        }
+        let pairs = self.pairs(alloc)?;
+        let firsts = firsts_of(alloc, pairs, to)?;
+        if from >= firsts.len() {
+            return Ok(Vec::new(alloc));
+        }
+        let mut slice = lasts_of(alloc, firsts, from)?;
+        slice.sort_unstable();
+        Ok(slice)
     }
 
     /// How many pairs go before this score with these bytes: at a member's own score and bytes, its rank from 0.

@@ -137,6 +137,8 @@ fn counts_what_goes_before(rt: HostRuntime) -> Result<(), Fail> {
     let firsts = heap.first(rt.alloc(), 3)?;
     let expected: [(i128, &[u8]); 3] = [(-2, b"d"), (0, b"c"), (1, b"")];
     assert!(rt; firsts.as_slice() == expected.as_slice());
+    let middle = heap.slice(rt.alloc(), 1, 3)?;
+    assert!(rt; middle.as_slice() == &expected[1..]);
     let mut sum = 0u32;
     for (_, value) in heap.iter() {
         sum = sum.wrapping_add(*value);

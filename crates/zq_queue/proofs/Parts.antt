@@ -1,26 +1,12 @@
 -- Parts of lists by places, and of turned lists.
 use Rattle.std.proofs.Common.{ap, arith, refl, sym, ◌∙◌}
-use Rattle.std.proofs.lemmas.List.{drop-take, get_or-drop, get_or-reverse, get_or-take, length-drop, length-reverse, length-take, map-append, nil_from_length, reverse-append, same_lists}
-use Rattle.std.specs.Prelude.{List, [], drop, get_or, length, map, min, reverse, take, ℕ, ◌++◌, ◌+◌, ◌-◌, ◌<◌, ◌≡◌, ◌≤◌, ◌∷◌}
+use Rattle.std.proofs.lemmas.List.{get_or-drop, get_or-reverse, get_or-take, length-drop, length-reverse, length-take, map-append, reverse-append, same_lists}
+use Rattle.std.specs.Prelude.{List, [], drop, get_or, length, map, min, reverse, ℕ, ◌++◌, ◌+◌, ◌-◌, ◌<◌, ◌≡◌, ◌∷◌}
 use Rattle.zq_queue.specs.Listed.{part}
 
 module _ {X : Type 0} (xs : List X) where
   length-part : (from to : ℕ) → length (part from to xs) ≡ min (to - from) (length xs - from)
   length-part from to = length-take (to - from) (drop from xs) ∙ ap (min (to - from)) (length-drop from xs)
-
-  -- what of the first so many stands from a place on
-  pub part_of_firsts : (from to : ℕ) → from < to → drop from (take to xs) ≡ part from to xs
-  part_of_firsts from to lower =
-      let sum : from + (to - from) ≡ to = omega (arith, lower) in
-      ap (λ n. drop from (take n xs)) (sym sum) ∙ drop-take from (to - from) xs
-
-  -- nothing stands from a place on up to one that is no further
-  pub part_empty : (from to : ℕ) → to ≤ from → part from to xs ≡ []
-  part_empty from to low = ap (λ n. take n (drop from xs)) (let none : to - from ≡ 0 = omega (arith, low) in none)
-
-  -- nor past the end
-  pub part_past : (from to : ℕ) → length (take to xs) ≤ from → from < to → part from to xs ≡ []
-  part_past from to past lower = nil_from_length (part from to xs) (omega (arith, length-part from to, past, lower, length-take to xs))
 
   -- a part of the turned list is a part of the list, turned
   pub turned_part : (from to : ℕ) → reverse (part (length xs - to) (length xs - from) xs) ≡ part from to (reverse xs)

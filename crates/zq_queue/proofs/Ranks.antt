@@ -1,18 +1,21 @@
 -- Where a member stands in its key's queue, counted from the first and from the last.
 use Rattle.std.proofs.Common.{ap, arith, inl, inr, refl, subst, sym, ◌∙◌}
-use Rattle.std.proofs.lemmas.Bool.{cases_lt, cond-false, cond-true, false_from_ne_true}
-use Rattle.std.proofs.lemmas.Bool.Decides.{nat_tests}
+use Rattle.std.proofs.lemmas.Bool.{cases_lt, cond-false, cond-true, false_from_ne_true, true≢false}
+use Rattle.std.proofs.lemmas.Bool.Decides.{Decides-int_eq, nat_tests}
 use Rattle.std.proofs.lemmas.Cmp.{tied_itself}
 use Rattle.std.proofs.lemmas.List.{get_or-reverse, get_or_default, length-reverse}
 use Rattle.std.proofs.lemmas.List.Sums.{position_or_len_is, sum_by-cons}
-use Rattle.std.proofs.lemmas.Option.{none-some}
+use Rattle.std.proofs.lemmas.Option.{none-some, same_Some}
+use Rattle.std.specs.Bool.{Decides}
 use Rattle.std.specs.FinMap.{get}
 use Rattle.std.specs.List.{position, position_or_len}
-use Rattle.std.specs.Ordering.{is_lt, ordering_reverse}
-use Rattle.std.specs.Prelude.{Bool, Contains, List, None, Some, [], cond, count_by, false, get_or, length, nat_lt, option_map, pos, reverse, suc, true, zero, ℕ, ℤ, ◌+◌, ◌-◌, ◌<◌, ◌∷◌, ◌≡◌, ◌≢◌}
-use Rattle.std.specs.declared.cmp.Ordering.TheVariants.{Less}
+use Rattle.std.specs.Option.{option_eq}
+use Rattle.std.specs.Ordering.{int_eq, is_lt, ordering_reverse}
+use Rattle.std.specs.Prelude.{Bool, Contains, List, None, Option, Some, [], cond, count_by, false, get_or, length, nat_lt, option_map, pos, reverse, suc, true, zero, ℕ, ℤ, ◌+◌, ◌-◌, ◌<◌, ◌∷◌, ◌≡◌, ◌≢◌}
+use Rattle.std.specs.declared.cmp.Ordering.{Ordering}
+use Rattle.std.specs.declared.cmp.Ordering.TheVariants.{Equal, Greater, Less}
 use Rattle.zq_model.proofs.Places.{bytes_same, same_bytes}
-use Rattle.zq_model.proofs.Rising.{scored_total}
+use Rattle.zq_model.proofs.Rising.{not_below_itself, scored_exact, scored_total}
 use Rattle.zq_model.specs.Image.{Entry}
 use Rattle.zq_model.specs.Meaning.{IsRising, Scored, scored_cmp}
 use Rattle.zq_model.specs.Rule.{Rule}
@@ -21,7 +24,7 @@ use Rattle.zq_model.specs.Sets.{IsIn}
 use Rattle.zq_posheap.proofs.Lists.{option_map_some}
 use Rattle.zq_posheap.proofs.ScoresOf.{get-scores_of}
 use Rattle.zq_posheap.specs.Members.{scores_of}
-use Rattle.zq_queue.proofs.Listeds.{contains_in, listed_in_order, listed_rises, listed_score}
+use Rattle.zq_queue.proofs.Listeds.{contains_in, listed_in_order, listed_rises, listed_score, score_listed}
 use Rattle.zq_queue.proofs.Helds.{score_held}
 use Rattle.zq_queue.specs.Entries.{Entries, entry_in}
 use Rattle.zq_queue.specs.Listed.{is_of_member, listed}
@@ -68,6 +71,71 @@ count_index (x ∷ xs) up (suc i) d within =
     let e : count_by (goes_before y) (x ∷ xs) ≡ 1 + i
     = sum_by-cons (λ z. cond (goes_before y z) 1 0) x xs ∙ (λ k. cond (ap is_lt less k) 1 0 + count_index xs up.1 i d l k) in
     omega (arith, e)
+
+-- ---- those before a pair and those after it
+
+abbrev goes_after : Scored → Scored → Bool
+goes_after y x = is_lt (scored_cmp y x)
+
+abbrev around : Scored → Scored → ℕ
+around y x = cond (goes_after y x) 1 0 + cond (goes_before y x) 1 0
+
+-- another pair goes before it or after it
+around_other : (x y : Scored) (o : Ordering) → scored_cmp x y ≡ o → (x ≡ y → ⊥) → around y x ≡ 1
+around_other x y Less is other =
+    (λ k. cond (not_less y x is k) 1 0 + cond (ap is_lt is k) 1 0)
+around_other x y Equal is other = absurd (other (scored_exact x y is))
+around_other x y Greater is other =
+    (λ k. cond (ap is_lt (scored_total.antisymm y x ∙ ap ordering_reverse is) k) 1 0 + cond (ap is_lt is k) 1 0)
+
+around_itself : (x y : Scored) → x ≡ y → around y x ≡ 0
+around_itself x y same = ap (λ z. around z x) (sym same) ∙ (λ k. cond (ap is_lt (tied_itself scored_total x) k) 1 0 + cond (ap is_lt (tied_itself scored_total x) k) 1 0)
+
+abbrev all_around : Scored → List Scored → ℕ
+all_around y xs = count_by (goes_after y) xs + count_by (goes_before y) xs
+
+around_more : (x y : Scored) (xs : List Scored) → all_around y (x ∷ xs) ≡ around y x + all_around y xs
+around_more x y xs =
+    let after = sum_by-cons (λ z. cond (goes_after y z) 1 0) x xs in
+    let before = sum_by-cons (λ z. cond (goes_before y z) 1 0) x xs in
+    omega (arith, after, before)
+
+around_none : (xs : List Scored) (y : Scored) → (IsIn y xs → ⊥) → all_around y xs ≡ length xs
+around_none [] y none = refl
+around_none (x ∷ xs) y none =
+    let first = around_other x y (scored_cmp x y) refl (λ same. none (inl same)) in
+    let rest = around_none xs y (λ later. none (inr later)) in
+    omega (arith, around_more x y xs, first, rest)
+
+around_one : (xs : List Scored) (y : Scored) → IsRising xs → IsIn y xs → all_around y xs + 1 ≡ length xs
+around_one [] y up here = absurd here
+around_one (x ∷ xs) y up (inl same) =
+    let first = around_itself x y same in
+    let rest = around_none xs y (λ later. not_below_itself x (subst (λ z. scored_cmp x z ≡ Less) (sym same) (up.0 y later))) in
+    omega (arith, around_more x y xs, first, rest)
+around_one (x ∷ xs) y up (inr later) =
+    let first = around_other x y (scored_cmp x y) refl (λ same. not_below_itself x (subst (λ z. scored_cmp x z ≡ Less) (sym same) (up.0 y later))) in
+    let rest = around_one xs y up.1 later in
+    omega (arith, around_more x y xs, first, rest)
+
+module _ (rule : Rule) (entries : Entries) (x : ℤ) (m : List ℕ) where
+  -- where the pair stands, all others go before it or after it
+  pub others_around : score_of rule (entry_in entries m) ≡ Some x →
+      count_by (λ z. is_lt (scored_cmp (x, m) z)) (listed rule entries) + count_by (λ z. is_lt (scored_cmp z (x, m))) (listed rule entries) + 1 ≡ length (listed rule entries)
+  others_around is = around_one (listed rule entries) (x, m) (listed_rises rule entries) (score_listed rule entries x m is)
+
+  -- and else all do
+  pub pairs_around : (score_of rule (entry_in entries m) ≡ Some x → ⊥) →
+      count_by (λ z. is_lt (scored_cmp (x, m) z)) (listed rule entries) + count_by (λ z. is_lt (scored_cmp z (x, m))) (listed rule entries) ≡ length (listed rule entries)
+  pairs_around other = around_none (listed rule entries) (x, m) (λ here. other (listed_score rule entries x m here))
+
+-- a score that is there is this one where they are equal
+pub is_score : (r : Option ℤ) (x : ℤ) → Decides (option_eq int_eq r (Some x)) (r ≡ Some x)
+is_score None x = (λ equal. absurd (true≢false (sym equal)), λ is. absurd (none-some x is))
+is_score (Some y) x = (
+  λ equal. ap (λ (z : ℤ). Some z) ((Decides-int_eq y x).0 equal),
+  λ is. (Decides-int_eq y x).1 (same_Some y x is),
+)
 
 -- ---- a member that does not stand
 

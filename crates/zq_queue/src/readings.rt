@@ -3,6 +3,7 @@
 ghost use Rattle.std.specs.Prelude.{IfOk, count_by, if◌then◌else◌, map, option_map, reverse, slice_get, take, ◌≡◌};
 ghost use Rattle.std.specs.List.{position};
 ghost use Rattle.std.specs.Ordering.{int_cmp, is_le, is_lt};
+ghost use Rattle.zq_model.specs.Meaning.{scored_cmp};
 ghost use Rattle.zq_queue.specs.Lent.{lent_pair};
 ghost use Rattle.zq_queue.specs.Listed.{is_of_member, listed, part};
 
@@ -48,6 +49,25 @@ impl Queue {
         Some(self.members.len() - 1 - before)
     }
 
+    /// How many pairs of `in_order` go before this one, which need not stand there.
+    pub fn count_before(&self, score: i128, member: &[u8]) -> usize
+        ensures { result ≡ count_by (λ pair. is_lt (scored_cmp pair (score, member.now))) (listed self.now.rule self.now.entries) }
+    {
+        self.members.count_before(score, member)
+    }
+
+    /// How many pairs of `in_order` go after this one, which need not stand there.
+    pub fn count_after(&self, score: i128, member: &[u8]) -> usize
+        ensures { result ≡ count_by (λ pair. is_lt (scored_cmp (score, member.now) pair)) (listed self.now.rule self.now.entries) }
+    {
+        let others = self.len() - self.count_before(score, member);
+        if self.score(member) == Some(score) {
+            others - 1
+        } else {
+            others
+        }
+    }
+
     /// How many scores are below this one, or at it where `or_equal`.
     pub fn count_below(&self, score: i128, or_equal: bool) -> usize
         ensures { result ≡ count_by (λ pair. if or_equal then is_le (int_cmp pair.0 score) else is_lt (int_cmp pair.0 score)) (listed self.now.rule self.now.entries) }
@@ -55,7 +75,8 @@ impl Queue {
         self.members.count_below(score, or_equal)
     }
 
-    /// What stands in `in_order` from the place `from` up to the place `to`, itself left out; places count from 0.
+    /// What stands in `in_order` from the place `from` up to the place `to`, itself left out; places count from 0. It
+    /// sorts no more than these.
     pub fn slice(
         &self,
         alloc: Global,
@@ -64,16 +85,7 @@ impl Queue {
     ) -> Result<Vec<(i128, &[u8])>, AllocError>
         ensures { IfOk result (λ pairs. map lent_pair pairs.items ≡ part from to (listed self.now.rule self.now.entries)) }
     {
-        if from >= to {
-            return Ok(Vec::new(alloc));
-        }
-        let firsts = self.members.first(alloc, to)?;
-        if from >= firsts.len() {
-            return Ok(Vec::new(alloc));
-        }
-        let (_, pairs) = firsts.split_at(from);
-        let part = pairs.to_vec(alloc)?;
-        Ok(part)
+        self.members.slice(alloc, from, to)
     }
 
     /// The same of the turned order, whose first pair is the last of `in_order`.

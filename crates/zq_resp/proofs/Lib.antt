@@ -5,6 +5,7 @@ pub mod Lines
 pub mod Parts
 pub mod Pieces
 pub mod Sequences
+pub mod Shorts
 pub mod Spelled
 pub mod Stable
 pub mod Steps

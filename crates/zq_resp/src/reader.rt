@@ -6,22 +6,25 @@ mod null;
 mod partial;
 mod progress;
 mod short;
+mod spent;
 mod unfinished;
 mod word;
 mod words;
 
 use crate::fault::{FeedError, FeedFault};
 use crate::request::Request;
+use spent::Spent;
 use std::alloc::Global;
 use std::marker::Model;
 use unfinished::{Unfinished, read_on};
 
 /// Reads requests from a stream of bytes, in whatever pieces it comes. Between two pieces it keeps the
-/// request that is not yet whole, and nothing else: its words that are whole, and of the word that the
-/// piece's end cut the bytes so far.
+/// request that is not yet whole: its words that are whole, and of the word that the piece's end cut the
+/// bytes so far. Beside it there is the memory of requests that were handed back, and nothing else.
 #[derive(Drop)]
 pub struct Reader {
     unfinished: Option<Unfinished>,
+    spent: Spent,
 }
 
 impl Model for Reader {
@@ -43,6 +46,7 @@ impl Reader {
     {
         Reader {
             unfinished: Some(Unfinished::new()),
+            spent: Spent::new(),
         }
     }
 
@@ -78,7 +82,7 @@ impl Reader {
                 before: requests,
             });
         };
-        match read_on(alloc, unfinished, piece, &mut requests) {
+        match read_on(alloc, unfinished, piece, &mut self.spent, &mut requests) {
             Ok(unfinished) => {
                 self.unfinished = Some(unfinished);
                 Ok(requests)
@@ -88,5 +92,17 @@ impl Reader {
                 before: requests,
             }),
         }
+    }
+
+    /// Takes requests back of which nothing is needed any more, for their memory: later calls of `feed` put
+    /// words into it. What was kept of an earlier call is given back first.
+    ///
+    /// Kept are, of the first 1,024 of these, those of at most nine words, in a list of at most 16 places, of
+    /// which each has at most 128 bytes of memory; and none where the list of requests has more than 2,048
+    /// places. So a reader keeps at most 1,622,016 bytes of it. All else is given back.
+    pub fn take_back(&mut self, requests: Vec<Request>)
+        ensures { self.new ≡ self.old }
+    {
+        self.spent.keep(requests);
     }
 }

@@ -21,6 +21,15 @@ impl Model for Request {
     ghost invariant = { λ r. IsRequest (map (λ w. w.items) r.words.items) };
 }
 
+/// A small request has so many words at most.
+const FEW_WORDS: usize = 9;
+
+/// The list of a small request's words has at most so many places.
+const FEW_PLACES: usize = 16;
+
+/// Each word of a small request has at most so many bytes of memory.
+const SHORT_WORD: usize = 128;
+
 impl Request {
     /// A request of these words.
     pub fn new(words: Vec<Vec<u8>>) -> Self
@@ -44,5 +53,13 @@ impl Request {
         ensures limits { IsRequest self }
     {
         self.words
+    }
+
+    /// Whether it takes little memory: it has at most nine words, in a list of at most 16 places, and each
+    /// word has at most 128 bytes of memory.
+    pub(crate) fn is_small(&self) -> bool {
+        self.words.len() <= FEW_WORDS
+            && self.words.capacity() <= FEW_PLACES
+            && self.words.iter().all(|word| word.capacity() <= SHORT_WORD)
     }
 }

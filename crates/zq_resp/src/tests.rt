@@ -122,7 +122,7 @@ fn byte_16777217_of_a_request_is_too_long(rt: HostRuntime) -> Result<(), Fail> {
     Ok(())
 }
 
-/// tools/headers-take-no-memory runs the next three too, with one allocation refused. This one with the first of all: it
+/// tools/refused-memory runs the next three too, with one allocation refused. This one with the first of all: it
 /// must pass, since a count and a length take no memory.
 #[test]
 fn a_declared_count_takes_no_memory(rt: HostRuntime) -> Result<(), Fail> {
@@ -161,4 +161,52 @@ fn requests_before_want_of_memory_are_handed_out(rt: HostRuntime) {
             assert!(rt; is_words(&error.before[0], &[b"PING"]));
         }
     }
+}
+
+/// A step of a stream: a piece, and the words of the requests that end in it, request by request.
+struct Round {
+    piece: &'static [u8],
+    requests: &'static [&'static [&'static [u8]]],
+}
+
+/// Each piece's requests are handed back before the next piece: their memory is used again, and their bytes are not.
+const ROUNDS: [Round; 5] = [
+    Round {
+        piece: b"*4\r\n$4\r\nZADD\r\n$5\r\nboard\r\n$3\r\n100\r\n$12\r\nabcdefghijkl\r\n*1\r\n$4\r\nPING\r\n",
+        requests: &[&[b"ZADD", b"board", b"100", b"abcdefghijkl"], &[b"PING"]],
+    },
+    Round {
+        piece: b"*2\r\n$5\r\nZCARD\r\n$1\r\nq\r\n*3\r\n$6\r\nZSCORE\r\n$0\r\n\r\n$1\r\na\r\n*0\r\n*1\r\n$1\r\nx\r\n",
+        requests: &[&[b"ZCARD", b"q"], &[b"ZSCORE", b"", b"a"], &[b"x"]],
+    },
+    Round {
+        piece: b"*4\r\n$4\r\nZADD\r\n$10\r\nbbbbbbbbbb\r\n$1\r\n7\r\n$2\r\n\r\n\r\n*2\r\n$5\r\nZCARD\r\n$2\r\nq",
+        requests: &[&[b"ZADD", b"bbbbbbbbbb", b"7", b"\r\n"]],
+    },
+    Round {
+        piece: b"r\r\n*1\r\n$4\r\nPING\r\n",
+        requests: &[&[b"ZCARD", b"qr"], &[b"PING"]],
+    },
+    Round {
+        piece: b"*1\r\n$2\r\nab\r\n*3\r\n$1\r\nc\r\n$1\r\nd\r\n$1\r\ne\r\n",
+        requests: &[&[b"ab"], &[b"c", b"d", b"e"]],
+    },
+];
+
+#[test]
+fn requests_in_spent_memory_are_as_they_were_sent(rt: HostRuntime) -> Result<(), Fail> {
+    let mut reader = Reader::new();
+    for round in &ROUNDS {
+        let requests = reader.feed(rt.alloc(), round.piece).map_err(|e| e.fault)?;
+        assert_eq!(rt; requests.len(), round.requests.len());
+        assert!(rt;
+            requests
+                .iter()
+                .zip(round.requests)
+                .all(|(own, words)| is_words(own, words))
+        );
+        reader.take_back(requests);
+    }
+    assert!(rt; !reader.inside());
+    Ok(())
 }

@@ -45,6 +45,7 @@ pub fn serve_piece<A: Answers>(
     match input.feed(alloc, piece) {
         Ok(requests) => {
             answer_all(alloc, answerer, &requests, out)?;
+            input.take_back(requests);
             Ok(Served::More)
         }
         Err(error) => serve_last(alloc, answerer, &error, out),

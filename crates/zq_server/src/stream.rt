@@ -13,7 +13,7 @@ use std::io::{Read, Write};
 
 const READS: u64 = 4_611_686_018_427_387_904;
 
-const PIECE: usize = 65_536;
+const PIECE: usize = 16_384;
 
 /// Answers the requests of the input, in order. The replies to the requests of one read are written
 /// before the next read.

@@ -3,7 +3,7 @@ ghost use Rattle.std.specs.Prelude.{◌≡◌, ◌<◌, ◌^◌, IfOk, List, cou
 ghost use Rattle.std.specs.FinMap as finite;
 ghost use Rattle.std.specs.List.{position};
 ghost use Rattle.std.specs.Ordering.{int_cmp, is_le, is_lt};
-ghost use Rattle.zq_model.specs.Meaning.{Scored};
+ghost use Rattle.zq_model.specs.Meaning.{Scored, scored_cmp};
 ghost use Rattle.zq_model.specs.Operation.{Operation};
 ghost use Rattle.zq_queue.specs.Lent.{lent_pair};
 ghost use Rattle.zq_queue.specs.Listed.{is_of_member, part};
@@ -84,6 +84,30 @@ impl Shard {
         match self.queues.queue(key) {
             Some(queue) => queue.turned_rank(member),
             None => None,
+        }
+    }
+
+    /// How many pairs of `in_order` go before this one, which need not stand there.
+    pub fn count_before(&self, key: &[u8], score: i128, member: &[u8]) -> usize
+        ensures queue { result ≡ count_by (λ pair. is_lt (scored_cmp pair (score, member.now))) (queue_at self.now key.now) }
+        ensures meant { (S : List Operation) (q : List Scored) → IsMeant self.now S key.now q →
+            result ≡ count_by (λ pair. is_lt (scored_cmp pair (score, member.now))) q }
+    {
+        match self.queues.queue(key) {
+            Some(queue) => queue.count_before(score, member),
+            None => 0,
+        }
+    }
+
+    /// How many pairs of `in_order` go after this one, which need not stand there.
+    pub fn count_after(&self, key: &[u8], score: i128, member: &[u8]) -> usize
+        ensures queue { result ≡ count_by (λ pair. is_lt (scored_cmp (score, member.now) pair)) (queue_at self.now key.now) }
+        ensures meant { (S : List Operation) (q : List Scored) → IsMeant self.now S key.now q →
+            result ≡ count_by (λ pair. is_lt (scored_cmp (score, member.now) pair)) q }
+    {
+        match self.queues.queue(key) {
+            Some(queue) => queue.count_after(score, member),
+            None => 0,
         }
     }
 

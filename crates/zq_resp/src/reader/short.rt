@@ -1,7 +1,70 @@
-ghost use Rattle.std.specs.Prelude.{◌≡◌, List, ℕ, ◌++◌, ◌+◌, ◌≤◌, ◌∷◌, [], length, take, IfSome};
-ghost use Rattle.zq_resp.specs.Request.{IsWord};
-ghost use Rattle.zq_resp.specs.Suspended.{IsStep};
+ghost use Rattle.std.specs.Prelude.{◌≡◌, List, ℕ, ◌++◌, ◌+◌, ◌<◌, ◌≤◌, ◌∷◌, [], length, take, drop, IfSome, IfOk, IfErr, OnOk};
+ghost use Rattle.zq_resp.specs.declared.fault.FeedFault.TheVariants.{NoMemory};
+ghost use Rattle.zq_resp.specs.Front.{Got};
+ghost use Rattle.zq_resp.specs.Grammar.{request_at};
+ghost use Rattle.zq_resp.specs.Request.{AreWords, IsWord};
+ghost use Rattle.zq_resp.specs.Suspended.{IsStep, views};
 ghost use Rattle.zq_resp.specs.Spelling.{number_line, word_text};
+
+use crate::fault::FeedFault;
+use crate::reader::spent::Spent;
+use std::alloc::Global;
+
+/// A request that stands whole at the front, with a count of one to nine and words of which each length has
+/// one or two digits, and how many bytes it takes. Its words take the memory of a spent request, where there
+/// is one. `None` leaves open whether the request is longer, unfinished or wrong.
+pub fn short_request(
+    alloc: Global,
+    bytes: &[u8],
+    spent: &mut Spent,
+) -> Result<Option<(Vec<Vec<u8>>, usize)>, FeedFault>
+    ensures taken { IfOk result (λ found. IfSome found (IsStep bytes.now)) }
+    ensures words { IfOk result (λ found. IfSome found (λ x. AreWords (views x.0))) }
+    ensures read { IfOk result (λ found. IfSome found (λ x. request_at bytes.now ≡ Got (views x.0, drop x.1 bytes.now))) }
+    ensures memory { IfErr result (λ e. e ≡ NoMemory) }
+{
+    let count = match short_count(bytes) {
+        None | Some(0) => return Ok(None),
+        Some(count) => count,
+    };
+    let mut words = match spent.pop() {
+        Some(words) => words,
+        None => Vec::with_capacity(alloc, count)?,
+    };
+    let mut at = 4;
+    let mut done = 0;
+    while done < count {
+        let Some((word, taken)) = short_word(&bytes[at..]) else {
+            return Ok(None);
+        };
+        put_word(alloc, &mut words, done, word)?;
+        at += taken;
+        done += 1;
+    }
+    words.truncate(count);
+    Ok(Some((words, at)))
+}
+
+/// Puts a word in its place, in the memory of the word that stood there, if one did.
+fn put_word(
+    alloc: Global,
+    words: &mut Vec<Vec<u8>>,
+    place: usize,
+    word: &[u8],
+) -> Result<(), FeedFault>
+    requires { place ≤ length words.old.items }
+    ensures longer { OnOk result (place < length words.new.items) }
+    ensures put { OnOk result (take (place + 1) (views words.new) ≡ take place (views words.old) ++ word.now ∷ []) }
+    ensures memory { IfErr result (λ e. e ≡ NoMemory) }
+{
+    if let Some(spent) = words.get_mut(place) {
+        spent.clear();
+        spent.extend_from_slice(word)?;
+        return Ok(());
+    }
+    words.push(Vec::from_slice(alloc, word)?)?;
+    Ok(())
+}
 
 /// The count of a request that begins at the front, where it has one digit and its line is all there.
 pub fn short_count(bytes: &[u8]) -> Option<usize>
@@ -23,6 +86,7 @@ pub fn short_count(bytes: &[u8]) -> Option<usize>
 pub fn short_word(bytes: &[u8]) -> Option<(&[u8], usize)>
     ensures taken { IfSome result (λ x. IsStep bytes.now x) }
     ensures small { IfSome result (λ x. IsWord x.0.now) }
+    ensures few { IfSome result (λ x. x.1 ≤ 106) }
     ensures word { IfSome result (λ x. word_text x.0.now ≡ take x.1 bytes.now) }
 {
     if bytes.len() < 6 || bytes[0] != b'$' || bytes[1] < b'0' || bytes[1] > b'9' {
@@ -45,6 +109,7 @@ fn word_behind(bytes: &[u8], start: usize, size: usize) -> Option<(&[u8], usize)
     requires line { take start bytes.now ≡ 36 ∷ number_line size }
     ensures taken { IfSome result (λ x. IsStep bytes.now x) }
     ensures small { IfSome result (λ x. IsWord x.0.now) }
+    ensures few { IfSome result (λ x. x.1 ≤ 106) }
     ensures word { IfSome result (λ x. word_text x.0.now ≡ take x.1 bytes.now) }
 {
     let end = start + size;

@@ -8,6 +8,8 @@ ghost use Rattle.zq_resp.specs.Stream.{handed, is_inside};
 use crate::fault::FeedFault;
 use crate::reader::partial::Partial;
 use crate::reader::progress::Progress;
+use crate::reader::short::short_request;
+use crate::reader::spent::Spent;
 use crate::request::Request;
 use std::alloc::Global;
 
@@ -67,11 +69,13 @@ impl Unfinished {
     }
 }
 
-/// Reads a piece. Adds the requests that end in it, and answers the one that does not end in it.
+/// Reads a piece. Adds the requests that end in it, and answers the one that does not end in it. A short request that
+/// stands whole in the piece is read at once.
 pub fn read_on(
     alloc: Global,
     unfinished: Unfinished,
     piece: &[u8],
+    spent: &mut Spent,
     requests: &mut Vec<Request>,
 ) -> Result<Unfinished, FeedFault>
     requires { Stands unfinished }
@@ -80,6 +84,13 @@ pub fn read_on(
     let mut unfinished = unfinished;
     let mut rest = piece;
     while !rest.is_empty() {
+        if !unfinished.is_begun() {
+            if let Some((short, taken)) = short_request(alloc, rest, spent)? {
+                rest = &rest[taken..];
+                hand_out(requests, short)?;
+                continue;
+            }
+        }
         let (progress, taken) = unfinished.read(alloc, rest)?;
         rest = &rest[taken..];
         unfinished = match progress {

@@ -1,27 +1,37 @@
-use Rattle.std.proofs.Common.{ap, arith, sym, ◌∙◌}
-use Rattle.zq_dots.specs.Placed.{Placed}
-use Rattle.zq_journal.proofs.Replays.{new_next, replayed_next}
-use Rattle.zq_journal.specs.Records.{placed_in}
-use Rattle.zq_model.specs.Image.{Image, image_after}
-use Rattle.zq_model.specs.Operation.{Operation}
-use Rattle.zq_model.specs.Sets.{taken_of}
+use Rattle.std.proofs.Common.{ap, arith, length, ◌≤◌, ◌∙◌}
+use Rattle.std.proofs.lemmas.List.{take_all}
+use Rattle.zq_history.specs.Books.{replayed}
+use Rattle.zq_journal.proofs.Replaying.{image_here, new_here, own_here, rest_here}
+use Rattle.zq_journal.proofs.Wholes.{length_over}
+use Rattle.zq_journal.specs.Records.{records_in, written_in}
 use Rattle.zq_journal.proofs.audit.replay.Goals as goal
 
-pub put_in-requires-clause-new : goal.put_in-requires-clause-new
-put_in-requires-clause-new c =
-    let o : Operation = (placed_in c.record-item.result.what).operation in
-    ap (λ (p : Placed). taken_of c.loop-record.shard.image.vector p.operation) c.op.ensures
-    ∙ ap (λ (b : Image). taken_of b.vector o) c.loop-record.invariant.image
-    ∙ new_next c.args.shard.now.heap c.args.tail.now c.loop-record.record-index c.record-item.result c.args.shard.now.image (omega arith) c.record-item.is c.requires.over
+pub take-requires-clause-own : goal.take-requires-clause-own
+take-requires-clause-own c =
+    own_here c.args.shard.now c.loop-record.shard c.args.tail.now c.loop-record.record-index c.record-item.result (omega arith) c.record-item.is c.loop-record.invariant.heap
+    c.loop-record.invariant.heaps c.loop-record.invariant.image c.loop-record.invariant.rest c.requires.each
+
+pub take-requires-clause-new : goal.take-requires-clause-new
+take-requires-clause-new c =
+    new_here c.args.shard.now c.loop-record.shard c.args.tail.now c.loop-record.record-index c.record-item.result (omega arith) c.record-item.is c.loop-record.invariant.heap
+    c.loop-record.invariant.heaps c.loop-record.invariant.image c.loop-record.invariant.rest c.requires.over
 
 pub loop-record-preserved : goal.loop-record-preserved
 loop-record-preserved c = record {
-  heap = c.in_ok-put_in.ensures.heap ∙ c.loop-record.invariant.heap;
-  heaps = c.in_ok-put_in.ensures.heaps ∙ c.loop-record.invariant.heaps;
-  rule = c.in_ok-put_in.ensures.rule ∙ c.loop-record.invariant.rule;
+  heap = c.in_ok-take.ensures.heap ∙ c.loop-record.invariant.heap;
+  heaps = c.in_ok-take.ensures.heaps ∙ c.loop-record.invariant.heaps;
+  rule = c.in_ok-take.ensures.rule ∙ c.loop-record.invariant.rule;
   image =
-      c.in_ok-put_in.ensures.taken
-      ∙ ap (λ (p : Placed). image_after p.operation c.loop-record.shard.image) c.op.ensures
-      ∙ ap (image_after (placed_in c.record-item.result.what).operation) c.loop-record.invariant.image
-      ∙ sym (replayed_next c.args.tail.now c.loop-record.record-index c.record-item.result c.args.shard.now.image (omega arith) c.record-item.is);
+      image_here c.args.shard.now c.loop-record.shard c.args.tail.now c.loop-record.record-index c.record-item.result (omega arith) c.record-item.is c.loop-record.invariant.heap
+      c.loop-record.invariant.heaps c.loop-record.invariant.image c.loop-record.invariant.rest c.take.new.shard c.in_ok-take.ensures.image;
+  rest =
+      rest_here c.args.shard.now c.loop-record.shard c.args.tail.now c.loop-record.record-index c.record-item.result (omega arith) c.record-item.is c.loop-record.invariant.heap
+      c.loop-record.invariant.heaps c.loop-record.invariant.image c.loop-record.invariant.rest c.take.new.shard c.in_ok-take.ensures.image;
 }
+
+pub returns-clause-image : goal.returns-clause-image
+returns-clause-image c =
+    let long : length (records_in c.args.shard.now c.args.shard.now.image.vector c.args.tail.now) ≤ c.loop-record.record-index =
+    omega (arith, c.loop-record-test.false, length_over c.args.shard.now.heap c.args.shard.now.heaps c.args.shard.now.image.vector c.args.tail.now) in
+    c.loop-record.invariant.image
+    ∙ ap (λ rs. replayed (written_in rs) c.args.shard.now.image) (take_all c.loop-record.record-index (records_in c.args.shard.now c.args.shard.now.image.vector c.args.tail.now) long)

@@ -1,5 +1,5 @@
 use Rattle.std.proofs.Common.{drop, length, ◌-◌, ◌≡◌}
-use Rattle.zq_journal.specs.Records.{undone_at}
+use Rattle.zq_journal.specs.Records.{records_in, undone_at}
 use Rattle.zq_journal.proofs.audit.undo.Given as goal
 
 abbrev pub invariant-loop-newer : goal.invariant-loop-newer
@@ -7,5 +7,5 @@ invariant-loop-newer l = record {
   heap : l.shard.heap ≡ l.initial.shard.heap;
   heaps : l.shard.heaps ≡ l.initial.shard.heaps;
   rule : l.shard.rule ≡ l.initial.shard.rule;
-  image : l.shard.image ≡ undone_at (drop (length l.tail - l.newer) l.tail) l.initial.shard.image;
+  image : l.shard.image ≡ undone_at (drop (length l.tail - l.newer) (records_in l.initial.shard l.base l.tail)) l.initial.shard.image;
 }

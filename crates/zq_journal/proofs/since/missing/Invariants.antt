@@ -1,6 +1,9 @@
-use Rattle.std.proofs.Common.{take, ◌≡◌}
-use Rattle.zq_journal.specs.Records.{missing_of}
+use Rattle.std.proofs.Common.{drop, take, ◌≡◌}
+use Rattle.zq_journal.specs.Records.{missing_of, records_over}
 use Rattle.zq_journal.proofs.since.missing.Given as goal
 
-abbrev pub invariant-loop-kept : goal.invariant-loop-kept
-invariant-loop-kept l = l.ops.items ≡ missing_of l.vector (take l.kept-index l.tail)
+abbrev pub invariant-loop-record : goal.invariant-loop-record
+invariant-loop-record l = record {
+  ops : l.ops.items ≡ missing_of l.vector (take l.record-index (records_over l.heap l.heaps l.base l.tail));
+  rest : records_over l.heap l.heaps l.seen (drop l.record-index l.tail) ≡ drop l.record-index (records_over l.heap l.heaps l.base l.tail);
+}

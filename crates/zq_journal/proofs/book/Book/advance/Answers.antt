@@ -1,26 +1,64 @@
-use Rattle.std.proofs.Common.{[], ap, drop, refl, subst, sym, take, ◌∙◌, ◌≡◌}
+use Rattle.std.proofs.Common.{List, [], ap, arith, drop, length, refl, subst, sym, take, ℕ, ◌∙◌, ◌≡◌}
+use Rattle.std.proofs.lemmas.List.{length-take-le}
 use Rattle.zq_history.specs.Books.{Book, advanced, replayed}
 use Rattle.zq_history.specs.Reach.{IsReachedBy}
 use Rattle.zq_journal.proofs.CutOff.{IsMoved, cut_is, cut_stands}
-use Rattle.zq_journal.specs.BookView.{book_of}
-use Rattle.zq_journal.specs.Records.{written_in}
+use Rattle.zq_journal.proofs.Lasts.{length_tail}
+use Rattle.zq_journal.proofs.Wholes.{dropped_over, taken_over, vector_after}
+use Rattle.zq_journal.specs.BookView.{book_of, records_of}
+use Rattle.zq_journal.specs.Records.{Record, records_in, vector_over, written_in}
+use Rattle.zq_journal.specs.declared.records.Record as code
+use Rattle.zq_model.specs.Image.{Image}
+use Rattle.zq_shard.specs.Shard.{HeapImage}
 use Rattle.zq_journal.proofs.book.Book.advance.Goals as goal
+
+pub slice_bounds-move_over-end : goal.slice_bounds-move_over-end
+slice_bounds-move_over-end c =
+    let long : length c.self.inside.tail.items ≡ length c.args.self.now.tail =
+    sym (length_tail c.self.inside.shard c.self.inside.vector c.self.inside.tail.items) ∙ ap (λ (b : Book). length b.tail) c.self.view_is in
+    let all : length c.deref.result.now ≡ length c.self.inside.tail.items = ap (λ xs. length xs) c.deref.ensures.value in
+    sym (length-take-le c.args.records c.deref.result.now (omega (arith, long, all, c.requires)))
+
+pub drain-requires-clause-in_bounds : goal.drain-requires-clause-in_bounds
+drain-requires-clause-in_bounds c =
+    let long : length c.self.inside.tail.items ≡ length c.args.self.now.tail =
+    sym (length_tail c.self.inside.shard c.self.inside.vector c.self.inside.tail.items) ∙ ap (λ (b : Book). length b.tail) c.self.view_is in
+    omega (arith, long, c.requires, c.self.inside.tail.ok.0)
+
+-- the vector that the base moves to
+over_is : (c : goal.After-drop-drain) → c.move_over.new.vector ≡ vector_over c.self.inside.shard.heap c.self.inside.shard.heaps c.self.inside.vector (take c.args.records c.self.inside.tail.items)
+over_is c =
+    let s : HeapImage = c.self.inside.shard in
+    c.move_over.ensures s.heap s.heaps ∙ ap (λ rs. vector_over s.heap s.heaps c.self.inside.vector (take c.args.records rs)) c.deref.ensures.value
+
+moved_is : (c : goal.After-drop-drain) → IsMoved c.args.records c.self.inside.shard c.self.inside.vector c.move_over.new.vector (records_of c.self.inside)
+moved_is c =
+    let s : HeapImage = c.self.inside.shard in
+    let v : List ℕ = c.self.inside.vector in
+    let a : Image = (book_of c.self.inside).base in
+    over_is c
+    ∙ sym (ap (λ rs. (replayed (written_in rs) a).vector) (taken_over c.args.records s.heap s.heaps v c.self.inside.tail.items)
+    ∙ vector_after s.heap s.heaps v (take c.args.records c.self.inside.tail.items) a refl)
+
+left_is : (c : goal.After-drop-drain) → records_in c.self.inside.shard c.move_over.new.vector c.drop-drain.new.self.0.items ≡ drop c.args.records (records_of c.self.inside)
+left_is c =
+    let s : HeapImage = c.self.inside.shard in
+    let items : List code.Record = c.self.inside.tail.items in
+    ap (records_in s c.move_over.new.vector) (c.drop-drain.ensures.items ∙ c.drain.ensures.kept)
+    ∙ ap (λ w. records_in s w (drop c.args.records items)) (over_is c)
+    ∙ dropped_over c.args.records s.heap s.heaps c.self.inside.vector items
 
 pub invariant_of-self : goal.invariant_of-self
 invariant_of-self c =
-    let moved : IsMoved c.args.records c.self.inside.shard c.self.inside.vector c.move_over.new.vector c.self.inside.tail.items =
-    c.move_over.ensures (book_of c.self.inside).base refl ∙ ap (λ rs. (replayed (written_in (take c.args.records rs)) (book_of c.self.inside).base).vector) c.deref.ensures.value in
-    let left : c.drop-drain.new.self.0.items ≡ drop c.args.records c.self.inside.tail.items = c.drop-drain.ensures.items ∙ c.drain.ensures.kept in
-    cut_stands c.args.records c.self.inside.shard c.self.inside.vector c.move_over.new.vector c.self.inside.tail.items c.drop-drain.new.self.0.items c.self.inside.stamp c.self.inside.count
-    c.self.invariant moved left (c.keeping.ensures.advance c.args.records (book_of c.self.inside) c.self.invariant.book)
+    let left : List Record = records_in c.self.inside.shard c.move_over.new.vector c.drop-drain.new.self.0.items in
+    cut_stands c.args.records c.self.inside.shard c.self.inside.vector c.move_over.new.vector (records_of c.self.inside) left c.self.inside.stamp c.self.inside.count c.self.invariant
+    (moved_is c) (left_is c) (c.keeping.ensures.advance c.args.records (book_of c.self.inside) c.self.invariant.book)
 
 pub returns-clause-advanced : goal.returns-clause-advanced
 returns-clause-advanced c =
-    let moved : IsMoved c.args.records c.self.inside.shard c.self.inside.vector c.move_over.new.vector c.self.inside.tail.items =
-    c.move_over.ensures (book_of c.self.inside).base refl ∙ ap (λ rs. (replayed (written_in (take c.args.records rs)) (book_of c.self.inside).base).vector) c.deref.ensures.value in
-    let left : c.drop-drain.new.self.0.items ≡ drop c.args.records c.self.inside.tail.items = c.drop-drain.ensures.items ∙ c.drain.ensures.kept in
-    cut_is c.args.records c.self.inside.shard c.self.inside.vector c.move_over.new.vector c.self.inside.tail.items c.drop-drain.new.self.0.items c.self.inside.stamp c.self.inside.count
-    c.self.invariant moved left
+    let left : List Record = records_in c.self.inside.shard c.move_over.new.vector c.drop-drain.new.self.0.items in
+    cut_is c.args.records c.self.inside.shard c.self.inside.vector c.move_over.new.vector (records_of c.self.inside) left c.self.inside.stamp c.self.inside.count c.self.invariant
+    (moved_is c) (left_is c)
     ∙ ap (advanced c.args.records) c.self.view_is
 
 pub returns-clause-reached : goal.returns-clause-reached

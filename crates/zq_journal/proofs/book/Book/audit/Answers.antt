@@ -1,10 +1,8 @@
-use Rattle.std.proofs.Common.{ap, drop, subst, sym, ◌∙◌}
 use Rattle.zq_journal.proofs.BoundedTails.{bounded_undone}
-use Rattle.zq_journal.specs.Records.{undone_at}
-use Rattle.zq_model.specs.Bounded.{IsBounded}
+use Rattle.zq_journal.specs.BookView.{records_of}
 use Rattle.zq_journal.proofs.book.Book.audit.Goals as goal
 
 pub undo-requires-clause-bounded : goal.undo-requires-clause-bounded
 undo-requires-clause-bounded c = λ i.
     rw (c.in_ok-shard.ensures, c.deref.ensures.value)
-    (bounded_undone i c.self.inside.shard c.self.inside.vector c.self.inside.tail.items c.self.inside.stamp c.self.inside.count c.self.invariant)
+    (bounded_undone i c.self.inside.shard c.self.inside.vector (records_of c.self.inside) c.self.inside.stamp c.self.inside.count c.self.invariant)

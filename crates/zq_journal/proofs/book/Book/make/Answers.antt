@@ -1,4 +1,4 @@
-use Rattle.std.proofs.Common.{ap, subst, sym, true, ◌<◌, ◌∙◌, ◌≡◌}
+use Rattle.std.proofs.Common.{ap, subst, ◌<◌, ◌∙◌}
 use Rattle.zq_dots.specs.Act.{act_of}
 use Rattle.zq_history.specs.Books.{Made, is_change_over}
 use Rattle.zq_model.specs.Sets.{SITES}

@@ -5,43 +5,50 @@ use Rattle.std.specs.Prelude.{not}
 use Rattle.zq_dots.specs.Placed.{Placed}
 use Rattle.zq_history.specs.Books.{Book, IsBook, operations_of}
 use Rattle.zq_journal.proofs.Missing.{missing_is, operations-placed}
-use Rattle.zq_journal.specs.BookView.{book_of}
+use Rattle.zq_journal.specs.BookView.{book_of, records_of}
 use Rattle.zq_journal.specs.Books.{base_of}
-use Rattle.zq_journal.specs.Records.{IsRecord, missing_of, placed_at, placed_in}
+use Rattle.zq_journal.specs.Records.{IsRecord, missing_of, placed_at, placed_in, records_in, records_over}
 use Rattle.zq_model.specs.Operation.{has}
 use Rattle.zq_model.specs.Sets.{covers, vector_of}
 use Rattle.zq_model.specs.Tail.{lacking}
 use Rattle.zq_shard.specs.Shard.{IsOfHeap}
 use Rattle.zq_journal.proofs.book.Book.since.Goals as goal
 
+-- what was asked of are the book's records
+same_records : (c : goal.In_ok-ops) → missing_of c.args.vector.now (records_over c.heap-heap.result c.heaps-heaps.result c.self.inside.vector c.deref.result.now) ≡ missing_of c.args.vector.now (records_of c.self.inside)
+same_records c =
+    ap (λ h. missing_of c.args.vector.now (records_over h c.heaps-heaps.result c.self.inside.vector c.deref.result.now)) c.heap-heap.ensures.same
+    ∙ ap (λ K. missing_of c.args.vector.now (records_over c.self.inside.shard.heap K c.self.inside.vector c.deref.result.now)) c.heaps-heaps.ensures.same
+    ∙ ap (λ rs. missing_of c.args.vector.now (records_in c.self.inside.shard c.self.inside.vector rs)) c.deref.ensures.value
+
 pub returns-clause-ops : goal.returns-clause-ops
 returns-clause-ops c =
-    subst (λ (b : Book). c.in_ok-missing.field-0.items ≡ map (placed_at b.heaps) (lacking c.args.vector.now (operations_of b.tail))) c.self.view_is
-    (c.in_ok-missing.ensures
-    ∙ ap (missing_of c.args.vector.now) c.deref.ensures.value
-    ∙ missing_is c.self.inside.shard.heap c.self.inside.shard.heaps c.args.vector.now c.self.inside.tail.items c.self.invariant.each)
+    subst (λ (b : Book). c.in_ok-ops.ops.items ≡ map (placed_at b.heaps) (lacking c.args.vector.now (operations_of b.tail))) c.self.view_is
+    (c.in_ok-ops.ensures
+    ∙ same_records c
+    ∙ missing_is c.self.inside.shard.heap c.self.inside.shard.heaps c.args.vector.now (records_of c.self.inside) c.self.invariant.each)
 
 pub returns-clause-placed : goal.returns-clause-placed
 returns-clause-placed c =
     let P : Placed → Type 0 = IsOfHeap (base_of c.args.self.now) in
-    let here : All (λ r. P (placed_in r.what)) c.self.inside.tail.items =
-    subst (λ (b : Book). All (λ r. IsOfHeap (base_of b) (placed_in r.what)) c.self.inside.tail.items) c.self.view_is
+    let here : All (λ r. P (placed_in r.what)) (records_of c.self.inside) =
+    subst (λ (b : Book). All (λ r. IsOfHeap (base_of b) (placed_in r.what)) (records_of c.self.inside)) c.self.view_is
     (All-weaker (IsRecord c.self.inside.shard.heap c.self.inside.shard.heaps) (λ r. IsOfHeap (base_of (book_of c.self.inside)) (placed_in r.what))
-    (λ r is. record { heap = is.op.heap; heaps = is.op.heaps; placed = is.op.placed }) c.self.inside.tail.items c.self.invariant.each) in
-    All-same P _ _ (c.in_ok-missing.ensures ∙ ap (missing_of c.args.vector.now) c.deref.ensures.value)
-    (All-filter (λ p. not (has c.args.vector.now p.operation.site p.operation.n)) P (map (λ r. placed_in r.what) c.self.inside.tail.items)
-    (All-map P (λ r. placed_in r.what) c.self.inside.tail.items here))
+    (λ r is. record { heap = is.op.heap; heaps = is.op.heaps; placed = is.op.placed }) (records_of c.self.inside) c.self.invariant.each) in
+    All-same P _ _ (c.in_ok-ops.ensures ∙ same_records c)
+    (All-filter (λ p. not (has c.args.vector.now p.operation.site p.operation.n)) P (map (λ r. placed_in r.what) (records_of c.self.inside))
+    (All-map P (λ r. placed_in r.what) (records_of c.self.inside) here))
 
-is_kept : (c : goal.In_ok-missing) → IsBook c.args.self.now
+is_kept : (c : goal.In_ok-ops) → IsBook c.args.self.now
 is_kept c = subst IsBook c.self.view_is c.self.invariant.book
 
-is_covered : (c : goal.In_ok-missing) → covers c.args.vector.now c.args.self.now.base.vector ≡ true
+is_covered : (c : goal.In_ok-ops) → covers c.args.vector.now c.args.self.now.base.vector ≡ true
 is_covered c =
     let tested : c.covers.result ≡ true = search rules in
     ap (λ b. covers c.args.vector.now b.base.vector) (sym c.self.view_is) ∙ sym c.covers.ensures.value ∙ tested
 
 -- they are what the peer of this vector lacks
-are_lacking : (c : goal.In_ok-missing) (v : List ℕ) → c.args.vector.now ≡ v → map (λ p. p.operation) c.in_ok-missing.field-0.items ≡ lacking v (operations_of c.args.self.now.tail)
+are_lacking : (c : goal.In_ok-ops) (v : List ℕ) → c.args.vector.now ≡ v → map (λ p. p.operation) c.in_ok-ops.ops.items ≡ lacking v (operations_of c.args.self.now.tail)
 are_lacking c v e =
     ap (map (λ p. p.operation)) (returns-clause-ops c)
     ∙ operations-placed c.args.self.now.heaps (lacking c.args.vector.now (operations_of c.args.self.now.tail))

@@ -1,9 +1,12 @@
-use Rattle.std.proofs.Common.{[], List, ap, arith, rules, subst, sym, ◌++◌, ◌∙◌, ◌∷◌, ◌≡◌}
+use Rattle.std.proofs.Common.{[], ap, arith, rules, subst, sym, ◌++◌, ◌∙◌, ◌∷◌, ◌≡◌}
 use Rattle.std.proofs.lemmas.List.{append-nil}
-use Rattle.zq_history.specs.Books.{Book, Step, Took, recorded}
+use Rattle.zq_history.specs.Books.{Took, recorded}
 use Rattle.zq_history.specs.Reach.{IsWorked}
-use Rattle.zq_journal.specs.Books.{book_taken, book_when, step_of, steps_taken, steps_when}
-use Rattle.zq_model.specs.Sets.{New, Taken, taken_of}
+use Rattle.zq_journal.specs.Books.{book_when, state_of, step_of, steps_taken, steps_when}
+use Rattle.zq_dots.specs.Placed.{Placed}
+use Rattle.zq_model.specs.Heaps.{heap_of}
+use Rattle.zq_shard.specs.Shard.{IsOfHeap}
+use Rattle.zq_model.specs.Sets.{New, taken_of}
 use Rattle.zq_journal.proofs.book.Book.take.Goals as goal
 
 pub returns-then-ne-clause-worked : goal.returns-then-ne-clause-worked
@@ -15,7 +18,7 @@ pub returns-clause-book : goal.returns-clause-book
 returns-clause-book c =
     let new : taken_of c.args.self.now.state.vector c.args.op.now.operation ≡ New = first_of (search rules, grind arith) in
     c.in_ok-enter.ensures.recorded
-    ∙ ap (λ p. recorded c.args.self.now c.args.stamp (Took p.operation)) c.in_ok-copy.ensures
+    ∙ ap (λ p. recorded c.args.self.now c.args.stamp (Took p.operation)) c.in_ok-op.ensures.same
     ∙ ap (λ t. book_when t c.args.self.now c.args.stamp c.args.op.now.operation) (sym new)
 
 pub returns-clause-worked : goal.returns-clause-worked
@@ -23,5 +26,15 @@ returns-clause-worked c =
     let new : taken_of c.args.self.now.state.vector c.args.op.now.operation ≡ New = first_of (search rules, grind arith) in
     λ a steps is.
     subst (λ ss. IsWorked c.enter.new.self a c.args.stamp (steps ++ ss))
-    (ap (λ p. step_of c.args.stamp (Took p.operation) ∷ []) c.in_ok-copy.ensures ∙ ap (λ t. steps_when t c.args.stamp c.args.op.now.operation) (sym new))
+    (ap (λ p. step_of c.args.stamp (Took p.operation) ∷ []) c.in_ok-op.ensures.same ∙ ap (λ t. steps_when t c.args.stamp c.args.op.now.operation) (sym new))
     (c.in_ok-enter.ensures.worked a steps is)
+
+pub enter-requires-clause-recordable : goal.enter-requires-clause-recordable
+enter-requires-clause-recordable c =
+    let here : IsOfHeap (state_of c.args.self.now) c.args.op.now = first_of (search rules, grind arith) in
+    record {
+      heap = ap (λ (p : Placed). p.operation.heap) c.in_ok-op.ensures.same ∙ here.heap;
+      heaps = ap (λ (p : Placed). p.heaps) c.in_ok-op.ensures.same ∙ here.heaps;
+      placed = ap (λ (p : Placed). heap_of p.operation.key p.operation.member c.args.self.now.heaps) c.in_ok-op.ensures.same ∙ here.placed;
+      sound = c.in_ok-op.ensures.sound;
+    }

@@ -1,0 +1,44 @@
+-- What is counted over the books, book by book.
+
+use Rattle.std.proofs.Common.{Bool, List, Some, [], ap, arith, length, sym, ℕ, ◌+◌, ◌<◌, ◌∙◌, ◌∷◌, ◌≡◌}
+use Rattle.std.proofs.lemmas.List.{take_all}
+use Rattle.std.proofs.lemmas.List.Sums.{sum_by-append, sum_by-cons}
+use Rattle.std.specs.Prelude.{count_by, slice_get, sum_by, take}
+use Rattle.zq_commands.proofs.AtPlace.{at_place}
+use Rattle.zq_commands.proofs.InTurn.{take_next}
+use Rattle.zq_commands.specs.Lending.{IsLending, Lending, queues_in}
+use Rattle.zq_history.specs.Books.{Book}
+use Rattle.zq_model.specs.Meaning.{Scored}
+use Rattle.zq_moves.proofs.Counted.{counted, measured}
+use Rattle.zq_moves.specs.Lent.{queues_of}
+
+-- the number of members of a key in a book
+abbrev pub members_in : Lending → List ℕ → Book → ℕ
+members_in lent key book = length (queues_of lent.rule (book ∷ []) key)
+
+-- the number of pairs of a key in a book that pass
+abbrev pub pairs_in : Lending → List ℕ → (Scored → Bool) → Book → ℕ
+pairs_in lent key passes book = count_by passes (queues_of lent.rule (book ∷ []) key)
+
+-- what is counted in the first so many of the books
+abbrev pub upto : (Book → ℕ) → List Book → ℕ → ℕ
+upto count books place = sum_by count (take place books)
+
+pub upto_next : (count : Book → ℕ) (books : List Book) (place n : ℕ) → place < length books → ((book : Book) → slice_get books place ≡ Some book → n ≡ count book) →
+    upto count books (place + 1) ≡ upto count books place + n
+upto_next count books place n within each =
+    let book = at_place books place within in
+    let its = each book.0 book.1 in
+    let longer = ap (sum_by count) (take_next books place book.0 book.1) ∙ sum_by-append count (take place books) (book.0 ∷ []) in
+    let last = sum_by-cons count book.0 [] in
+    omega (arith, its, longer, last)
+
+upto_all : (count : Book → ℕ) (books : List Book) (place : ℕ) → place ≡ length books → sum_by count books ≡ upto count books place
+upto_all count books place all = ap (sum_by count) (sym (take_all place books (omega (arith, all))))
+
+pub members_all : (lent : Lending) (key : List ℕ) (place : ℕ) → IsLending lent → place ≡ length lent.books → upto (members_in lent key) lent.books place ≡ length (queues_in lent key)
+members_all lent key place are all = sym (measured lent.rule key lent.heaps lent.books are.books ∙ upto_all (members_in lent key) lent.books place all)
+
+pub pairs_all : (lent : Lending) (key : List ℕ) (passes : Scored → Bool) (place : ℕ) → IsLending lent → place ≡ length lent.books →
+    upto (pairs_in lent key passes) lent.books place ≡ count_by passes (queues_in lent key)
+pairs_all lent key passes place are all = sym (counted lent.rule key lent.heaps passes lent.books are.books ∙ upto_all (pairs_in lent key passes) lent.books place all)

@@ -1,0 +1,133 @@
+-- The first pair of a key over the books that are lent: its member is at home in one of them, and what dropping it leaves.
+
+use Rattle.std.proofs.Common.{Err, List, None, Ok, Option, Result, Some, [], ap, arith, inl, length, map, nat_eq, option_map, refl, subst, sym, true, ℕ, ℤ, ◌∙◌, ◌∷◌, ◌≡◌, ◌≤◌}
+use Rattle.std.proofs.lemmas.Bool.{cond-true, eq-eqb}
+use Rattle.std.proofs.lemmas.Option.{none-some, same_Some}
+use Rattle.std.specs.Cmp.Lexicographic.{pointwise}
+use Rattle.std.specs.Prelude.{slice_get}
+use Rattle.std.specs.Result.{OnOk}
+use Rattle.zq_commands.specs.Arrays.{copied_parts}
+use Rattle.zq_commands.specs.Lending.{HasBook, IsLending, Lending, lent_after, queues_in}
+use Rattle.zq_commands.specs.FirstPairs.{DropsFirst, drop_of, top_in}
+use Rattle.zq_commands.specs.declared.dropping.Copied.{Copied}
+use Rattle.zq_history.specs.Books.{Book}
+use Rattle.zq_model.proofs.Listing.{in_map_from}
+use Rattle.zq_model.proofs.Places.{bytes_same}
+use Rattle.zq_model.proofs.Preferred.{score_reached}
+use Rattle.zq_model.proofs.Queued.{queued_score}
+use Rattle.zq_model.specs.Heaps.{heap_of}
+use Rattle.zq_model.specs.Image.{entry_at}
+use Rattle.zq_model.specs.Meaning.{Scored}
+use Rattle.zq_model.specs.Operation.{Drop, LONGEST}
+use Rattle.zq_model.specs.Rule.{Rule}
+use Rattle.zq_model.specs.Score.{score_of}
+use Rattle.zq_model.specs.Sets.{IsIn}
+use Rattle.zq_moves.proofs.Counted.{measured}
+use Rattle.zq_moves.proofs.Homes.{has_addition, lent_each}
+use Rattle.zq_moves.specs.Lent.{queues_of}
+use Rattle.zq_moves.specs.Moves.{Move, Queue, after, after_act}
+use Rattle.zq_plans.specs.Plan.{drops}
+use Rattle.zq_plans.specs.Replies.{parts_of_pair}
+use Rattle.zq_plans.specs.Run.{IsWhy, Number}
+
+-- a pair of a queue over books within bounds: its member is at home in one of them, and short
+module _ (lent : Lending) (are : IsLending lent) (key : List ℕ) (x : ℤ) (m : List ℕ) (here : IsIn (x, m) (queues_in lent key)) where
+  found : (b : Book) × IsIn b lent.books × (score_of lent.rule (entry_at b.state.members (key, m)) ≡ Some x)
+  found =
+      let one = queued_score lent.rule key (map (λ (b : Book). b.state.members) lent.books) x m here in
+      let book = in_map_from (λ (b : Book). b.state.members) one.0 lent.books one.1 in
+      (book.0, book.1, ap (λ a. score_of lent.rule (entry_at a (key, m))) book.2 ∙ one.2)
+
+  pub pair_home : HasBook key m lent
+  pair_home =
+      let its = lent_each lent.heaps lent.books found.0 are.books found.1 in
+      (found.0, found.1, eq-eqb _ _ (ap (heap_of key m) its.heaps ∙ has_addition lent.rule lent.heaps found.0 key m x its found.2))
+
+  pub pair_short : length m ≤ LONGEST
+  pair_short =
+      let its = lent_each lent.heaps lent.books found.0 are.books found.1 in
+      let value = score_reached lent.rule (entry_at found.0.state.members (key, m)) x found.2 in
+      (its.bounded.additions key m value.0 value.1 value.2).member
+
+-- the first pair, of which the member is given
+pub record IsFirst (q : Queue) (m : List ℕ) : Type 0 where
+  pub first : Scored
+  pub rest : Queue
+  pub is : q ≡ first ∷ rest
+  pub member : first.1 ≡ m
+
+pub first_given : (q : Queue) (m : List ℕ) → option_map (λ p. p.1) (slice_get q 0) ≡ Some m → IsFirst q m
+first_given [] m at = absurd (cc)
+first_given (x ∷ q) m at = record { first = x; rest = q; is = refl; member = same_Some x.1 m at }
+
+module _ (lent : Lending) (are : IsLending lent) (key m : List ℕ) (at : option_map (λ p. p.1) (top_in lent key) ≡ Some m) where
+  given : IsFirst (queues_in lent key) m
+  given = first_given (queues_in lent key) m at
+
+  stands : IsIn (given.first.0, given.first.1) (queues_in lent key)
+  stands = subst (λ q. IsIn given.first q) (sym given.is) (inl refl)
+
+  pub top_home : HasBook key m lent
+  top_home = subst (λ w. HasBook key w lent) given.member (pair_home lent are key given.first.0 given.first.1 stands)
+
+  pub top_short : length m ≤ LONGEST
+  top_short = subst (λ w. length w ≤ LONGEST) given.member (pair_short lent are key given.first.0 given.first.1 stands)
+
+  abbrev move : Move
+  move = record { key = key; member = m; act = Drop }
+
+  same_move : drop_of key given.first ≡ move
+  same_move = ap (λ w. record { key = key; member = w; act = Drop }) given.member
+
+  pub top_dropped : ((x : Scored) (rest : Queue) → queues_in lent key ≡ x ∷ rest → after_act Drop (queues_in lent key) x.1 ≡ rest) → (site stamp : ℕ) (new : Lending) → new ≡ lent_after site stamp move lent → queues_in new ≡ after move (queues_in lent) → DropsFirst site stamp key lent new
+  top_dropped leaves site stamp new is after_ = record {
+    first = given.first;
+    rest = given.rest;
+    was = given.is;
+    lent = is ∙ ap (λ v. lent_after site stamp v lent) (sym same_move);
+    queues = after_ ∙ ap (λ v. after v (queues_in lent)) (sym same_move);
+    left =
+        ap (λ qs. qs key) after_
+        ∙ cond-true (pointwise nat_eq key key) (after_act Drop (queues_in lent key) m) (queues_in lent key) (bytes_same key key refl)
+        ∙ ap (λ w. after_act Drop (queues_in lent key) w) (sym given.member)
+        ∙ leaves given.first given.rest given.is;
+  }
+
+  pub top_why : (site : ℕ) → IsWhy site (Some move) lent.books Number → IsWhy site (slice_get (drops key (queues_in lent key)) 0) lent.books Number
+  top_why site why =
+      subst (λ o. IsWhy site o lent.books Number) (ap (λ v. Some v) (sym same_move) ∙ ap (λ q. slice_get (drops key q) 0) (sym given.is)) why
+
+empty_of : (q : Queue) → length q ≡ 0 → q ≡ []
+empty_of [] e = refl
+empty_of (x ∷ q) e = absurd (omega (arith, e))
+
+-- no book, no pair
+pub no_queue : (rule : Rule) (K : ℕ) (key : List ℕ) → queues_of rule [] key ≡ []
+no_queue rule K key = empty_of (queues_of rule [] key) (measured rule key K [] tt)
+
+-- ---- copies
+
+-- nothing is copied of an empty queue alone
+pub none_copied : (q : Queue) (r : Option Copied) → r ≡ None → option_map copied_parts r ≡ option_map (parts_of_pair true) (slice_get q 0) → q ≡ []
+none_copied [] r none e = refl
+none_copied (x ∷ q) r none e = absurd (none-some (parts_of_pair true x) (ap (option_map copied_parts) (sym none) ∙ e))
+
+pub copied_first : (q rest : Queue) (x : Scored) (r : Option Copied) (copied : Copied) → r ≡ Some copied → q ≡ x ∷ rest →
+    option_map copied_parts r ≡ option_map (parts_of_pair true) (slice_get q 0) → copied_parts copied ≡ parts_of_pair true x
+copied_first q rest x r copied some is e =
+    same_Some (copied_parts copied) (parts_of_pair true x)
+    (ap (option_map copied_parts) (sym some) ∙ e ∙ ap (λ p. option_map (parts_of_pair true) (slice_get p 0)) is)
+
+member_parts : (x : Scored) (copied : Copied) → copied_parts copied ≡ parts_of_pair true x → x.1 ≡ copied.member.items
+member_parts x copied e = cc
+
+-- the copy's member is the first pair's
+pub copied_member : (q : Queue) (r : Option Copied) (copied : Copied) → r ≡ Some copied → option_map copied_parts r ≡ option_map (parts_of_pair true) (slice_get q 0) →
+    option_map (λ p. p.1) (slice_get q 0) ≡ Some copied.member.items
+copied_member [] r copied some e = absurd (none-some (copied_parts copied) (sym e ∙ ap (option_map copied_parts) some))
+copied_member (x ∷ q) r copied some e = ap (λ m. Some m) (member_parts x copied (copied_first (x ∷ q) q x r copied some refl e))
+
+-- what two facts of a result that is Ok give
+pub on_ok2 : {T E : Type 0} {P Q R : Type 0} (r : Result T E) → (P → Q → R) → OnOk r P → OnOk r Q → OnOk r R
+on_ok2 (Ok x) f p q = f p q
+on_ok2 (Err e) f p q = tt

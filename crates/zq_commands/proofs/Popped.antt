@@ -1,0 +1,143 @@
+-- Where a pop stands after some of its pairs, and what it comes to.
+
+use Rattle.std.proofs.Common.{List, [], ap, arith, drop, flat_map, length, map, refl, subst, suc, sym, true, zero, ℕ, ◌++◌, ◌+◌, ◌<◌, ◌∙◌, ◌∷◌, ◌≡◌, ◌≤◌, false}
+use Rattle.std.proofs.lemmas.List.{length-map, length-take, map-append, take-map, take-take, take_all}
+use Rattle.std.specs.Prelude.{Some, decimal, slice_get, take}
+use Rattle.zq_commands.proofs.InTurn.{lent-append, take_next}
+use Rattle.zq_commands.specs.Arrays.{array_bytes}
+use Rattle.zq_commands.specs.Cut.{want_of}
+use Rattle.zq_commands.specs.FirstPairs.{PopsFirst, drop_of}
+use Rattle.zq_commands.specs.Lending.{Lending, lent_after, queues_in}
+use Rattle.zq_commands.specs.Running.{RunsOver, lent_after_all}
+use Rattle.zq_commands.specs.declared.cut.Cut.{Cut}
+use Rattle.zq_commands.specs.declared.cut.Cut.TheVariants.{NoMemory, Worn}
+use Rattle.zq_model.specs.Meaning.{Scored}
+use Rattle.zq_moves.specs.Lent.{books_after}
+use Rattle.zq_moves.specs.Moves.{Queue}
+use Rattle.zq_plans.specs.Plan.{drops, pop}
+use Rattle.zq_plans.specs.Replies.{bytes_of, pairs_reply, parts_of_pair}
+use Rattle.zq_plans.specs.Run.{IsWhy, Number, cut_error, cut_pop, part, whole}
+use Rattle.zq_resp.specs.Reply.{bulk, joined, line}
+use Rattle.zq_words.specs.Words.{Word}
+
+-- ---- lists
+
+pub at_drop : {X : Type 0} (xs : List X) (i : ℕ) (x : X) (rest : List X) → drop i xs ≡ x ∷ rest → slice_get xs i ≡ Some x
+at_drop [] zero x rest is = absurd (cc)
+at_drop [] (suc i) x rest is = absurd (cc)
+at_drop (y ∷ xs) zero x rest is = cc
+at_drop (y ∷ xs) (suc i) x rest is = at_drop xs i x rest is
+
+pub rest_drop : {X : Type 0} (xs : List X) (i : ℕ) (x : X) (rest : List X) → drop i xs ≡ x ∷ rest → rest ≡ drop (i + 1) xs
+rest_drop [] zero x rest is = absurd (cc)
+rest_drop [] (suc i) x rest is = absurd (cc)
+rest_drop (y ∷ xs) zero x rest is = cc
+rest_drop (y ∷ xs) (suc i) x rest is = let next : suc i + 1 ≡ suc (i + 1) = omega arith in rest_drop xs i x rest is ∙ sym (ap (λ n. drop n (y ∷ xs)) next)
+
+pub below_drop : {X : Type 0} (xs : List X) (i : ℕ) (x : X) (rest : List X) → drop i xs ≡ x ∷ rest → i + 1 ≤ length xs
+below_drop [] zero x rest is = absurd (cc)
+below_drop [] (suc i) x rest is = absurd (cc)
+below_drop (y ∷ xs) zero x rest is = omega arith
+below_drop (y ∷ xs) (suc i) x rest is = let later = below_drop xs i x rest is in omega (arith, later)
+
+pub empty_drop : {X : Type 0} (xs : List X) (i : ℕ) → drop i xs ≡ [] → length xs ≤ i
+empty_drop [] i is = omega arith
+empty_drop (y ∷ xs) zero is = absurd (cc)
+empty_drop (y ∷ xs) (suc i) is = let later = empty_drop xs i is in omega (arith, later)
+
+-- the next of the first n
+next_taken : {X Y : Type 0} (f : X → Y) (xs : List X) (i n : ℕ) → i < n → slice_get (map f (drop i xs)) 0 ≡ slice_get (map f (take n xs)) i
+next_taken f xs i zero below = absurd (omega (arith, below))
+next_taken f [] zero (suc n) below = refl
+next_taken f [] (suc i) (suc n) below = refl
+next_taken f (x ∷ xs) zero (suc n) below = refl
+next_taken f (x ∷ xs) (suc i) (suc n) below = next_taken f xs i n (omega (arith, below))
+
+-- ---- pops
+
+abbrev pub shown_parts : Queue → List Word
+shown_parts pairs = map bulk (flat_map (parts_of_pair true) pairs)
+
+shown_next : (xs : Queue) (x : Scored) → shown_parts (xs ++ x ∷ []) ≡ shown_parts xs ++ map bulk (parts_of_pair true x)
+shown_next [] x = refl
+shown_next (y ∷ xs) x = ap (λ ws. map bulk (parts_of_pair true y) ++ ws) (shown_next xs x)
+
+shown_bytes : (q : Queue) → array_bytes (shown_parts q) ≡ bytes_of (pairs_reply true q)
+shown_bytes q = ap (λ n. 42 ∷ line (decimal n) ++ joined (shown_parts q)) (length-map (flat_map (parts_of_pair true) q) bulk)
+
+module _ (site stamp : ℕ) (key : List ℕ) where
+  -- after the first so many pairs
+  pub record PoppedAfter (s t : Lending) (done : ℕ) (parts : List Word) : Type 0 where
+    pub lent : t ≡ lent_after_all site stamp (drops key (take done (queues_in s key))) s
+    pub left : queues_in t key ≡ drop done (queues_in s key)
+    pub within : done ≤ length (queues_in s key)
+    pub shown : parts ≡ shown_parts (take done (queues_in s key))
+
+  pub popped_first : (s : Lending) → PoppedAfter s s 0 []
+  popped_first s = record { lent = refl; left = refl; within = omega arith; shown = refl }
+
+  -- one pair more
+  pub popped_next : (s t u : Lending) (done : ℕ) (parts later : List Word) → PoppedAfter s t done parts → PopsFirst site stamp key t u parts later → PoppedAfter s u (done + 1) later
+  popped_next s t u done parts later here step =
+      let q = queues_in s key in
+      let x = step.drops.first in
+      let is : drop done q ≡ x ∷ step.drops.rest = sym here.left ∙ step.drops.was in
+      let longer : take (done + 1) q ≡ take done q ++ x ∷ [] = take_next q done x (at_drop q done x step.drops.rest is) in
+      let moves : drops key (take (done + 1) q) ≡ drops key (take done q) ++ drop_of key x ∷ []
+      = ap (drops key) longer ∙ map-append (drop_of key) (take done q) (x ∷ []) in
+      record {
+        lent =
+            step.drops.lent ∙ ap (lent_after site stamp (drop_of key x)) here.lent
+            ∙ sym (lent-append site stamp (drops key (take done q)) (drop_of key x ∷ []) s) ∙ ap (λ ms. lent_after_all site stamp ms s) (sym moves);
+        left = step.drops.left ∙ rest_drop q done x step.drops.rest is;
+        within = below_drop q done x step.drops.rest is;
+        shown = step.parts ∙ ap (λ ws. ws ++ map bulk (parts_of_pair true x)) here.shown ∙ sym (shown_next (take done q) x) ∙ ap shown_parts (sym longer);
+      }
+
+  module _ (n : ℕ) (s t : Lending) (done : ℕ) (parts : List Word) (here : PoppedAfter s t done parts) (bytes : Word) where
+    ran_taken : take done (queues_in s key) ≡ take n (queues_in s key) → bytes ≡ array_bytes parts →
+        RunsOver site stamp false (pop key n (queues_in s)) (cut_pop (Some (key, n)) (queues_in s)) s t bytes
+    ran_taken same is = record {
+      runs = whole (ap (λ (l : Lending). l.books) here.lent ∙ ap (λ pairs. books_after site stamp (drops key pairs) s.books) same)
+          (is ∙ ap array_bytes here.shown ∙ ap (λ pairs. array_bytes (shown_parts pairs)) same ∙ shown_bytes (take n (queues_in s key)));
+      rule = ap (λ (l : Lending). l.rule) here.lent;
+      heaps = ap (λ (l : Lending). l.heaps) here.lent;
+    }
+
+    -- all that were asked for
+    pub popped_whole : done ≡ n → bytes ≡ array_bytes parts → RunsOver site stamp false (pop key n (queues_in s)) (cut_pop (Some (key, n)) (queues_in s)) s t bytes
+    popped_whole all is = ran_taken (ap (λ k. take k (queues_in s key)) all) is
+
+    -- and all that were there
+    pub popped_out : done ≤ n → queues_in t key ≡ [] → bytes ≡ array_bytes parts → RunsOver site stamp false (pop key n (queues_in s)) (cut_pop (Some (key, n)) (queues_in s)) s t bytes
+    popped_out low none is =
+        let q = queues_in s key in
+        let past = empty_drop q done (sym here.left ∙ none) in
+        ran_taken (take_all done q past ∙ sym (take_all n q (omega (arith, past, low)))) is
+
+    why_next : (cut : Cut) → done < n → (cut ≡ Worn → IsWhy site (slice_get (drops key (queues_in t key)) 0) t.books Number) →
+        IsWhy site (slice_get (drops key (take n (queues_in s key))) done) t.books (want_of cut)
+    why_next Worn below why =
+        subst (λ o. IsWhy site o t.books Number) (ap (λ q. slice_get (drops key q) 0) here.left ∙ next_taken (drop_of key) (queues_in s key) done n below) (why refl)
+    why_next NoMemory below why = tt
+
+    said : (cut : Cut) → (0 < done → bytes ≡ array_bytes parts) → (done ≡ 0 → bytes ≡ bytes_of (cut_error 0 (want_of cut))) →
+        bytes ≡ bytes_of (cut_pop (Some (key, n)) (queues_in s) done (want_of cut))
+    said cut some none =
+        elim done as (λ k. done ≡ k → bytes ≡ bytes_of (cut_pop (Some (key, n)) (queues_in s) k (want_of cut))) [
+          | zero ↦ λ is. none is
+          | suc k ↦ λ is. some (omega (arith, is)) ∙ ap array_bytes here.shown ∙ shown_bytes (take done (queues_in s key)) ∙ ap (λ j. bytes_of (pairs_reply true (take j (queues_in s key)))) is
+        ] refl
+
+    -- those before the one that was refused
+    pub popped_cut : (cut : Cut) → done < n → (cut ≡ Worn → IsWhy site (slice_get (drops key (queues_in t key)) 0) t.books Number) → (0 < done → bytes ≡ array_bytes parts) →
+        (done ≡ 0 → bytes ≡ bytes_of (cut_error 0 (want_of cut))) → RunsOver site stamp false (pop key n (queues_in s)) (cut_pop (Some (key, n)) (queues_in s)) s t bytes
+    popped_cut cut below why some none =
+        let q = queues_in s key in
+        let moves : take done (drops key (take n q)) ≡ drops key (take done q) = take-map (drop_of key) done (take n q) ∙ ap (drops key) (take-take done n q (omega (arith, below))) in
+        record {
+          runs = part done (want_of cut) (let within = here.within in omega (arith, within, below, length-map (take n q) (drop_of key), length-take n q))
+              (ap (λ (l : Lending). l.books) here.lent ∙ ap (λ ms. books_after site stamp ms s.books) (sym moves)) (why_next cut below why) (said cut some none);
+          rule = ap (λ (l : Lending). l.rule) here.lent;
+          heaps = ap (λ (l : Lending). l.heaps) here.lent;
+        }

@@ -1,0 +1,137 @@
+-- What a loop over the parts of a command comes to.
+
+use Rattle.std.proofs.Common.{Bool, None, Option, ap, arith, false, inl, inr, refl, subst, suc, sym, true, true≢false, zero, ℤ, ◌∙◌}
+use Rattle.std.proofs.lemmas.Bool.{cond-true}
+use Rattle.std.specs.Prelude.{List, Some, [], codes, drop, length, slice_get, take, ℕ, ◌++◌, ◌+◌, ◌∷◌, ◌≡◌}
+use Rattle.zq_commands.proofs.InTurn.{StandsAfter, moves_split, stands_cut, stands_whole}
+use Rattle.zq_commands.specs.Cut.{want_of}
+use Rattle.zq_commands.specs.Lending.{Lending, lent_after, queues_in}
+use Rattle.zq_commands.specs.Commands.{IsRunOver, is_reading}
+use Rattle.zq_commands.specs.Running.{IsRead, RunsOver}
+use Rattle.zq_commands.specs.declared.cut.Cut.{Cut}
+use Rattle.zq_commands.specs.declared.cut.Cut.TheVariants.{NoMemory, Worn}
+use Rattle.zq_moves.specs.Lent.{books_after}
+use Rattle.zq_moves.specs.Moves.{Move, Queues, after_all}
+use Rattle.zq_history.specs.Books.{Book}
+use Rattle.zq_plans.specs.Plan.{Part, Plan, in_turn, lets, moves_in_turn, one, plan_of, raise, raise_if, raising, reading, sum_of}
+use Rattle.zq_plans.specs.Replies.{Error, NullBulk, Reply, bytes_of, count_reply, number_text}
+use Rattle.zq_plans.specs.Run.{IsStrictlyWhy, IsWhy, Memory, Number, Want, cut_error, part, whole}
+use Rattle.zq_words.specs.Command.{Command, Del, Ping, Zadd, ZaddIncr, Zcard, Zcount, Zincrby, Zpopmin, Zpopnear, Zrange, Zrank, Zrem, Zrevrank, Zscore}
+use Rattle.zq_words.specs.Words.{Word, is_in_range}
+use Rattle.zq_words.specs.declared.flags.Flags.{Flags}
+
+pub drop_at : {X : Type 0} (xs : List X) (i : ℕ) (x : X) → slice_get xs i ≡ Some x → drop i xs ≡ x ∷ drop (i + 1) xs
+drop_at [] i x at = absurd (cc)
+drop_at (y ∷ xs) zero x at = let same : y ≡ x = cc in ap (λ z. z ∷ xs) same
+drop_at (y ∷ xs) (suc i) x at = let next : suc i + 1 ≡ suc (i + 1) = omega arith in drop_at xs i x at ∙ ap (λ n. x ∷ drop n (y ∷ xs)) (sym next)
+
+after_front : {X : Type 0} (front rest : List X) (x : X) → slice_get (front ++ x ∷ rest) (length front) ≡ Some x
+after_front [] rest x = refl
+after_front (y ∷ front) rest x = after_front front rest x
+
+-- why the next of some moves was not made
+why_first : (site : ℕ) (books : List Book) (moves : List Move) (next : Option Move) (cut : Cut) → slice_get moves 0 ≡ next → (cut ≡ Worn → IsWhy site (slice_get moves 0) books Number) →
+    IsWhy site next books (want_of cut)
+why_first site books moves next Worn at why = subst (λ o. IsWhy site o books Number) at (why refl)
+why_first site books moves next NoMemory at why = tt
+
+-- and where no memory was asked for before it
+why_strictly : (site : ℕ) (books : List Book) (move : Move) (cut : Cut) → (cut ≡ Worn → IsWhy site (Some move) books Number) → (cut ≡ NoMemory → IsWhy site (Some move) books Number → ⊥) →
+    IsStrictlyWhy site (Some move) books (want_of cut)
+why_strictly site books move Worn worn memory = worn refl
+why_strictly site books move NoMemory worn memory = memory refl
+
+module _ {X : Type 0} (f : Queues → X → Part) (site stamp : ℕ) (xs : List X) (s t : Lending) (counted done : ℕ) where
+  pub ran_whole : (strict : Bool) → StandsAfter f site stamp xs (length xs) s t counted done → (bytes : Word) → bytes ≡ bytes_of (count_reply counted) →
+      RunsOver site stamp strict (in_turn f xs (queues_in s)) cut_error s t bytes
+  ran_whole strict here bytes is =
+      let all = stands_whole f site stamp xs s t counted done here in
+      record {
+        runs = whole (ap (λ (l : Lending). l.books) all.0) (is ∙ ap (λ n. bytes_of (count_reply n)) all.1);
+        rule = ap (λ (l : Lending). l.rule) all.0;
+        heaps = ap (λ (l : Lending). l.heaps) all.0;
+      }
+
+  -- the move that was to come next
+  next_move : (i : ℕ) (x : X) (move : Move) → StandsAfter f site stamp xs i s t counted done → slice_get xs i ≡ Some x → (f (queues_in t) x).moves ≡ move ∷ [] →
+      slice_get (moves_in_turn f xs (queues_in s)) done ≡ Some move
+  next_move i x move here at is =
+      let front = moves_in_turn f (take i xs) (queues_in s) in
+      let later = moves_in_turn f (drop (i + 1) xs) (after_all (f (queues_in t) x).moves (queues_in t)) in
+      let rest : moves_in_turn f (drop i xs) (queues_in t) ≡ move ∷ later
+      = ap (λ ys. moves_in_turn f ys (queues_in t)) (drop_at xs i x at) ∙ ap (λ ms. ms ++ later) is in
+      ap (λ ms. slice_get ms done) (moves_split f site stamp xs i s t counted done here ∙ ap (λ ms. front ++ ms) rest)
+      ∙ ap (slice_get (front ++ move ∷ later)) here.made ∙ after_front front later move
+
+  -- where the part at i, which was to make this move, was refused
+  pub ran_cut : (cut : Cut) (i : ℕ) (x : X) (move : Move) → StandsAfter f site stamp xs i s t counted done → slice_get xs i ≡ Some x → (f (queues_in t) x).moves ≡ move ∷ [] →
+      (cut ≡ Worn → IsWhy site (Some move) t.books Number) → (cut ≡ NoMemory → IsWhy site (Some move) t.books Number → ⊥) → (bytes : Word) → bytes ≡ bytes_of (cut_error done (want_of cut)) →
+      RunsOver site stamp true (in_turn f xs (queues_in s)) cut_error s t bytes
+  ran_cut cut i x move here at is worn memory bytes says =
+      let stands = stands_cut f site stamp xs i s t counted done here in
+      record {
+        runs = part done (want_of cut) stands.0 (ap (λ (l : Lending). l.books) stands.1)
+            (subst (λ o. IsStrictlyWhy site o t.books (want_of cut)) (sym (next_move i x move here at is)) (why_strictly site t.books move cut worn memory)) says;
+        rule = ap (λ (l : Lending). l.rule) stands.1;
+        heaps = ap (λ (l : Lending). l.heaps) stands.1;
+      }
+
+-- a plan of which nothing was made for want of memory
+pub ran_none : (site stamp : ℕ) (plan : Plan) (lent : Lending) (bytes : Word) → bytes ≡ bytes_of (cut_error 0 Memory) → RunsOver site stamp false plan cut_error lent lent bytes
+ran_none site stamp plan lent bytes says = record { runs = part 0 Memory (omega arith) refl tt says; rule = refl; heaps = refl }
+
+-- a plan of one move, which was not made
+pub ran_refused : (site stamp : ℕ) (plan : Plan) (move : Move) (cut : Cut) (old new : Lending) (bytes : Word) → plan.moves ≡ move ∷ [] → new ≡ old →
+    (cut ≡ Worn → IsWhy site (Some move) old.books Number) → bytes ≡ bytes_of (cut_error 0 (want_of cut)) → RunsOver site stamp false plan cut_error old new bytes
+ran_refused site stamp plan move cut old new bytes is same why says =
+    subst (λ l. RunsOver site stamp false plan cut_error old l bytes) (sym same)
+    (record {
+      runs = part 0 (want_of cut) (omega arith) refl (subst (λ moves. IsWhy site (slice_get moves 0) old.books (want_of cut)) (sym is) (why_first site old.books (move ∷ []) (Some move) cut refl why)) says;
+      rule = refl;
+      heaps = refl;
+    })
+
+-- a plan of one move, which was made
+pub ran_one : (site stamp : ℕ) (plan : Plan) (move : Move) (old new : Lending) (bytes : Word) → plan.moves ≡ move ∷ [] → new ≡ lent_after site stamp move old →
+    bytes ≡ bytes_of plan.reply → RunsOver site stamp false plan cut_error old new bytes
+ran_one site stamp plan move old new bytes is same says = record {
+  runs = whole (ap (λ (l : Lending). l.books) same ∙ ap (λ moves. books_after site stamp moves old.books) (sym is)) says;
+  rule = ap (λ (l : Lending). l.rule) same;
+  heaps = ap (λ (l : Lending). l.heaps) same;
+}
+
+-- the plan of a sum in range
+pub raise_in : (key member : Word) (old : Option ℤ) (increment : ℤ) → is_in_range (sum_of old increment) ≡ true →
+    raise key member old increment ≡ record { moves = one key member (raising old increment); reply = number_text (sum_of old increment) }
+raise_in key member old increment within =
+    cond-true (is_in_range (sum_of old increment)) (record { moves = one key member (raising old increment); reply = number_text (sum_of old increment) })
+    (reading (Error (codes "ERR result out of range") None)) within
+
+-- the plan that the flags let
+pub raise_let : (flags : Flags) (key member : Word) (old : Option ℤ) (increment : ℤ) → lets flags old (sum_of old increment) ≡ true →
+    raise_if flags key member old increment ≡ raise key member old increment
+raise_let flags key member old increment passes = cond-true (lets flags old (sum_of old increment)) (raise key member old increment) (reading NullBulk) passes
+
+-- a plan that only reads, whole or without its reply for want of memory
+reading_ran : (site stamp : ℕ) (reply : Reply) (cut : ℕ → Want → Reply) (lent : Lending) (bytes : Word) → cut 0 Memory ≡ cut_error 0 Memory → IsRead reply bytes →
+    RunsOver site stamp false (reading reply) cut lent lent bytes
+reading_ran site stamp reply cut lent bytes error (inl says) = record { runs = whole refl says; rule = refl; heaps = refl }
+reading_ran site stamp reply cut lent bytes error (inr says) = record { runs = part 0 Memory (omega arith) refl tt (says ∙ sym (ap bytes_of error)); rule = refl; heaps = refl }
+
+-- a command that only reads
+pub ran_read : (site stamp : ℕ) (command : Command) (lent : Lending) (bytes : Word) → is_reading command ≡ true → IsRead (plan_of command (queues_in lent)).reply bytes →
+    IsRunOver site stamp command lent lent bytes
+ran_read site stamp (Ping message) lent bytes reads says = reading_ran site stamp _ _ lent bytes refl says
+ran_read site stamp (Zscore key member) lent bytes reads says = reading_ran site stamp _ _ lent bytes refl says
+ran_read site stamp (Zcard key) lent bytes reads says = reading_ran site stamp _ _ lent bytes refl says
+ran_read site stamp (Zcount key min max) lent bytes reads says = reading_ran site stamp _ _ lent bytes refl says
+ran_read site stamp (Zrank key member) lent bytes reads says = reading_ran site stamp _ _ lent bytes refl says
+ran_read site stamp (Zrevrank key member) lent bytes reads says = reading_ran site stamp _ _ lent bytes refl says
+ran_read site stamp (Zrange key range is_turned with_scores) lent bytes reads says = reading_ran site stamp _ _ lent bytes refl says
+ran_read site stamp (Zadd key flags pairs) lent bytes reads says = absurd (true≢false (sym reads))
+ran_read site stamp (ZaddIncr key flags increment member) lent bytes reads says = absurd (true≢false (sym reads))
+ran_read site stamp (Zincrby key increment member) lent bytes reads says = absurd (true≢false (sym reads))
+ran_read site stamp (Zrem key members) lent bytes reads says = absurd (true≢false (sym reads))
+ran_read site stamp (Zpopmin key count) lent bytes reads says = absurd (true≢false (sym reads))
+ran_read site stamp (Zpopnear key) lent bytes reads says = absurd (true≢false (sym reads))
+ran_read site stamp (Del keys) lent bytes reads says = absurd (true≢false (sym reads))

@@ -1,0 +1,71 @@
+-- Books of which one was worked on, at its place.
+
+use Rattle.std.proofs.Common.{Bool, List, Some, [], ap, arith, false, inl, inr, length, refl, set, subst, suc, sym, true, zero, ℕ, ◌<◌, ◌∙◌, ◌∷◌, ◌≡◌, ◌≢◌, ◌||◌, ◌⊎◌}
+use Rattle.std.proofs.lemmas.Bool.{cases_eq, eq-eqb, eqb-true}
+use Rattle.std.proofs.lemmas.List.{length-set}
+use Rattle.std.proofs.lemmas.Option.{same_Some, slice_get_within}
+use Rattle.std.specs.Prelude.{slice_get, slice_index}
+use Rattle.zq_commands.specs.VecBooks.{AreWorkedOn, IsWorkedOn}
+use Rattle.zq_commands.specs.WorkedBooks.{worked_on_itself}
+use Rattle.zq_history.specs.Books.{Book}
+use Rattle.zq_journal.specs.Books.{LAST_STAMP}
+use Rattle.zq_model.specs.Sets.{LAST}
+use Rattle.zq_plans.specs.Run.{is_worn}
+
+-- ---- an element at its place
+
+-- a list with an element at a place has it there,
+pub get_set : {X : Type 0} (xs : List X) (i : ℕ) (x : X) → i < length xs → slice_get (set xs i x) i ≡ Some x
+get_set [] i x within = absurd (omega (arith, within))
+get_set (y ∷ xs) zero x within = refl
+get_set (y ∷ xs) (suc i) x within = get_set xs i x (omega (arith, within))
+
+-- and the others at theirs
+pub get_set_other : {X : Type 0} (xs : List X) (i j : ℕ) (x : X) → j ≢ i → slice_get (set xs i x) j ≡ slice_get xs j
+get_set_other [] i j x other = refl
+get_set_other (y ∷ xs) zero zero x other = absurd (other refl)
+get_set_other (y ∷ xs) zero (suc j) x other = refl
+get_set_other (y ∷ xs) (suc i) zero x other = refl
+get_set_other (y ∷ xs) (suc i) (suc j) x other = get_set_other xs i j x (λ same. other (ap suc same))
+
+-- one of the books was worked on, and the others were left
+pub worked_at : (books : List Book) (place : ℕ) (old new : Book) → slice_get books place ≡ Some old → IsWorkedOn old new → AreWorkedOn books (set books place new)
+worked_at books place old new is worked = record {
+  number = length-set books place new;
+  each = λ i before later was then. elim (cases_eq i place) [
+    | inl same ↦
+        let first : before ≡ old = same_Some before old (sym was ∙ ap (slice_get books) same ∙ is) in
+        let second : new ≡ later = same_Some new later (sym (get_set books place new (slice_get_within books place old is)) ∙ ap (slice_get (set books place new)) (sym same) ∙ then) in
+        subst (λ b. IsWorkedOn b later) (sym first) (subst (IsWorkedOn old) second worked)
+    | inr other ↦
+        subst (IsWorkedOn before) (same_Some before later (sym was ∙ sym (get_set_other books place i new other) ∙ then)) (worked_on_itself before)
+  ];
+}
+
+-- ---- a number at its last value
+
+or_from : (a b : Bool) → (a || b) ≡ true → (a ≡ true) ⊎ (b ≡ true)
+or_from true b is = inl refl
+or_from false b is = inr is
+
+or_of : (a b : Bool) → (a ≡ true) ⊎ (b ≡ true) → (a || b) ≡ true
+or_of true b is = refl
+or_of false b (inl is) = absurd (cc)
+or_of false b (inr is) = is
+
+-- the site's counter in a book, or the book's count, is at its last value
+abbrev AreLast : ℕ → Book → Type 0
+AreLast site b = (slice_index b.state.vector site ≡ LAST) ⊎ (b.count ≡ LAST_STAMP)
+
+-- which is what the test of a command's cut says
+pub worn_from : (site : ℕ) (b : Book) → is_worn site b ≡ true → AreLast site b
+unfolding LAST_STAMP
+worn_from site b worn = elim (or_from _ _ worn) [
+  | inl is ↦ inl (eqb-true _ _ is)
+  | inr is ↦ inr (eqb-true _ _ is)
+]
+
+pub worn_of : (site : ℕ) (b : Book) → AreLast site b → is_worn site b ≡ true
+unfolding LAST_STAMP
+worn_of site b (inl is) = or_of _ _ (inl (eq-eqb _ _ is))
+worn_of site b (inr is) = or_of _ _ (inr (eq-eqb _ _ is))

@@ -1,0 +1,47 @@
+use Rattle.std.proofs.Common.{[], Bor, List, Some, ap, arith, drop, flat_map, get_or, length, map, pos, refl, slice_get, suc, sym, take, zero, ◌++◌, ◌+◌, ◌-◌, ◌<◌, ◌∙◌, ◌∷◌, ◌≡◌, ◌≤◌, ℕ, ℤ}
+use Rattle.std.proofs.lemmas.Grind.{flat_map-append}
+use Rattle.std.proofs.lemmas.List.{append-nil, length-drop, length-map, map-append, take_all}
+use Rattle.std.proofs.lemmas.Option.{slice_get-get_or, slice_get-map}
+use Rattle.std.specs.Option.{option_map}
+use Rattle.std.specs.Prelude.{slice_range}
+use Rattle.zq_commands.proofs.InTurn.{take_next}
+use Rattle.zq_commands.specs.FirstPairs.{lent_pair}
+use Rattle.zq_plans.specs.Replies as plan
+use Rattle.zq_resp.specs.Reply.{bulk, reply_bytes}
+use Rattle.zq_words.specs.Words.{Word}
+use Rattle.zq_commands.proofs.pairs.copy_parts.Goals as goal
+
+get_rest : {X : Type 0} (xs : List X) (from i : ℕ) → from ≤ i → slice_get (drop from xs) (i - from) ≡ slice_get xs i
+get_rest xs zero i low = let same : i - 0 ≡ i = omega arith in ap (slice_get xs) same
+get_rest [] (suc from) zero low = absurd (omega (arith, low))
+get_rest [] (suc from) (suc i) low = refl
+get_rest (x ∷ xs) (suc from) zero low = absurd (omega (arith, low))
+get_rest (x ∷ xs) (suc from) (suc i) low =
+    let same : suc i - suc from ≡ i - from = omega arith in ap (slice_get (drop from xs)) same ∙ get_rest xs from i (omega (arith, low))
+
+-- one more of a part of a list
+range_next : {X : Type 0} (xs : List X) (from i : ℕ) (x : X) → from ≤ i → slice_get xs i ≡ Some x → slice_range xs from (i + 1) ≡ slice_range xs from i ++ x ∷ []
+range_next xs from i x low at =
+    let wide : i + 1 - from ≡ (i - from) + 1 = omega (arith, low) in
+    ap (λ n. take n (drop from xs)) wide ∙ take_next (drop from xs) (i - from) x (get_rest xs from i low ∙ at)
+
+shown_more : {X : Type 0} (f : X → List Word) (xs : List X) (x : X) → map bulk (flat_map f xs) ++ map bulk (f x) ≡ map bulk (flat_map f (xs ++ x ∷ []))
+shown_more f xs x = sym (ap (map bulk) (flat_map-append f xs (x ∷ []) ∙ ap (λ r. flat_map f xs ++ r) (append-nil (f x))) ∙ map-append bulk (flat_map f xs) (f x))
+
+pub loop-place-preserved : goal.loop-place-preserved
+loop-place-preserved c =
+    let pairs = c.args.pairs.now in
+    let i = c.loop-place.place in
+    let f = plan.parts_of_pair c.args.with_scores in
+    let within : i < length pairs = omega (arith, c.loop-place-test.true) in
+    let low : c.args.from ≤ i = omega (arith, c.loop-place.auto.place) in
+    let none : ℤ × Bor (List ℕ) = (pos 0, record { ref_ptr = (0, 0); now = [] }) in
+    let x = lent_pair (get_or pairs i none) in
+    let at = slice_get-map lent_pair pairs i ∙ ap (option_map lent_pair) (slice_get-get_or pairs i none within) in
+    record {
+      parts =
+          c.in_ok-push_pair.ensures.parts ∙ ap (λ ws. ws ++ map bulk (f x)) c.loop-place.invariant.parts
+          ∙ shown_more f (slice_range (map lent_pair pairs) c.args.from i) x
+          ∙ sym (ap (λ q. map bulk (flat_map f q)) (range_next (map lent_pair pairs) c.args.from i x low at));
+      writable = c.in_ok-push_pair.ensures.writable c.loop-place.invariant.writable;
+    }

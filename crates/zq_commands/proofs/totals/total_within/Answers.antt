@@ -1,0 +1,22 @@
+use Rattle.std.proofs.Common.{Bool, arith, length, ◌∙◌, ◌≡◌}
+use Rattle.zq_commands.proofs.Counts.{pairs_all, pairs_in, upto_next}
+use Rattle.zq_model.specs.Meaning.{Scored}
+use Rattle.zq_plans.specs.Ranges.{is_within}
+use Rattle.zq_commands.proofs.totals.total_within.Goals as goal
+
+pub loop-place-preserved : goal.loop-place-preserved
+loop-place-preserved g c =
+    let lent = g.B.Books.lent c.args.books.now in
+    let passes : Scored → Bool = is_within c.args.min.now c.args.max.now in
+    record {
+      total =
+          let next = upto_next (pairs_in lent c.args.key.now passes) lent.books c.loop-place.place c.count_within.result (omega (arith, c.loop-place-test.true, c.len-place-end.ensures.number)) c.count_within.ensures in
+          omega (arith, next, c.loop-place.invariant.total, c.in_ok-total.ensures.sum);
+      small = c.in_ok-total.ensures.small;
+    }
+
+pub returns-clause-total : goal.returns-clause-total
+returns-clause-total g c =
+    let lent = g.B.Books.lent c.args.books.now in
+    let all : c.loop-place.place ≡ length lent.books = omega (arith, c.loop-place-test.false, c.loop-place.auto.place-end, c.len-place-end.ensures.number) in
+    c.loop-place.invariant.total ∙ pairs_all lent c.args.key.now (is_within c.args.min.now c.args.max.now) c.loop-place.place c.requires all

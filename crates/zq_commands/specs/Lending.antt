@@ -1,0 +1,34 @@
+-- The books that are lent to a command, by what rule their scores are read, and how many heaps there are.
+
+use Rattle.std.specs.Prelude.{List, ℕ, ◌≡◌, ◌≤◌}
+use Rattle.zq_history.specs.Books.{Book}
+use Rattle.zq_model.specs.Rule.{Rule}
+use Rattle.zq_model.specs.Sets.{IsIn}
+use Rattle.zq_moves.specs.Lent.{AreLent, HasHome, made, queues_of}
+use Rattle.zq_moves.specs.Moves.{Move, Queues}
+use Rattle.zq_plans.specs.Run.{LAST_COUNT}
+
+pub record Lending : Type 0 where
+  pub rule : Rule
+  pub heaps : ℕ
+  pub books : List Book
+
+abbrev pub queues_in : Lending → Queues
+queues_in lent = queues_of lent.rule lent.books
+
+-- the books are of different heaps and of one rule, each within bounds
+pub record IsLending (lent : Lending) : Type 0 where
+  pub books : AreLent lent.heaps lent.books
+  pub ruled : (book : Book) → IsIn book lent.books → book.rule ≡ lent.rule
+
+-- the member of the key lies in one of the heaps
+abbrev pub HasBook : List ℕ → List ℕ → Lending → Type 0
+HasBook key member lent = HasHome key member lent.books
+
+-- the books after a move
+abbrev pub lent_after : ℕ → ℕ → Move → Lending → Lending
+lent_after site stamp move lent = record lent { books = made site stamp move lent.books }
+
+-- a call of this stamp may work on the books: it is in range, and none of theirs is later
+abbrev pub IsDated : ℕ → Lending → Type 0
+IsDated stamp lent = (stamp ≤ LAST_COUNT) × ((book : Book) → IsIn book lent.books → book.stamp ≤ stamp)

@@ -1,0 +1,13 @@
+pub mod Lending
+pub mod Cut
+pub mod Running
+pub mod Stepping
+pub mod Wide
+pub mod FirstPairs
+pub mod Arrays
+pub mod Clearing
+pub mod Weaving
+pub mod Sections
+pub mod Commands
+pub mod VecBooks
+pub mod WorkedBooks

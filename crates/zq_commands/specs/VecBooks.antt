@@ -1,0 +1,32 @@
+-- The books of some heaps of one site, each at its place in a list: how they are lent, and what work leaves of them.
+
+use Rattle.std.specs.Prelude.{List, Some, [], length, slice_get, ℕ, ◌++◌, ◌∷◌, ◌≡◌, ◌≤◌}
+use Rattle.zq_commands.specs.Lending.{Lending}
+use Rattle.zq_history.specs.Books.{Book, Step}
+use Rattle.zq_history.specs.Reach.{IsWorked}
+use Rattle.zq_model.specs.Rule.{Greatest, Rule}
+
+-- the rule of the first book, and any where there is none
+abbrev pub rule_in : List Book → Rule
+rule_in [] = Greatest
+rule_in (book ∷ books) = book.rule
+
+-- the number of heaps of the first book, and any where there is none
+abbrev pub heaps_in : List Book → ℕ
+heaps_in [] = 1
+heaps_in (book ∷ books) = book.heaps
+
+abbrev pub lending_of : List Book → Lending
+lending_of books = record { rule = rule_in books; heaps = heaps_in books; books = books }
+
+-- a site's own work led from the old book to the new one: there are steps with which the work of a call of the new book's
+-- stamp goes on from the one to the other, wherever it began; a call raises a book's stamp to its own before it works
+pub record IsWorkedOn (old new : Book) : Type 0 where
+  pub stamp : old.stamp ≤ new.stamp
+  pub more : List Step
+  pub worked : (start : Book) (steps : List Step) → IsWorked old start new.stamp steps → IsWorked new start new.stamp (steps ++ more)
+
+-- there are as many books, and each was worked on at its place
+pub record AreWorkedOn (old new : List Book) : Type 0 where
+  pub number : length new ≡ length old
+  pub each : (place : ℕ) (before later : Book) → slice_get old place ≡ Some before → slice_get new place ≡ Some later → IsWorkedOn before later

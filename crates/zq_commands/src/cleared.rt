@@ -1,0 +1,12 @@
+//! What clearing a key came to.
+
+use crate::cut::Cut;
+
+/// What clearing a key came to.
+#[derive(Clone, Copy, Debug)]
+pub struct Cleared {
+    /// How many moves were made in all, those before included.
+    pub done: u64,
+    /// Why one was not made.
+    pub cut: Option<Cut>,
+}

@@ -1,0 +1,74 @@
+//! The first pair of a key, copied and dropped.
+
+ghost use Rattle.std.specs.Prelude.{IfOk, IsErrOf, OnErr, OnOk, Some, [], length, option_map, slice_get, true, ◌≡◌, ◌≤◌};
+ghost use Rattle.zq_commands.specs.Arrays.{copied_parts};
+ghost use Rattle.zq_commands.specs.Lending.{IsDated, IsLending, queues_in};
+ghost use Rattle.zq_commands.specs.FirstPairs.{DropsFirst, top_in};
+ghost use Rattle.zq_model.specs.Operation.{LONGEST};
+ghost use Rattle.zq_plans.specs.Plan.{drops};
+ghost use Rattle.zq_plans.specs.Replies.{parts_of_pair};
+ghost use Rattle.zq_plans.specs.Run.{IsWhy, Number};
+
+use crate::books::Books;
+use crate::cut::Cut;
+use crate::making::make_move;
+use crate::tops::top_of;
+use std::alloc::{AllocError, Global};
+use zq_dots::{Act, SiteNo};
+use zq_moves::heading;
+
+/// A member and its score's text.
+#[derive(Debug, Drop)]
+pub struct Copied {
+    pub member: Vec<u8>,
+    pub score: Vec<u8>,
+}
+
+/// A copy of the first pair of a key.
+pub fn copy_top<B: Books>(books: &B, alloc: Global, key: &[u8]) -> Result<Option<Copied>, Cut>
+    requires lent { IsLending (B.lent books.now) }
+    ensures copied { IfOk result (λ copied. option_map copied_parts copied ≡ option_map (parts_of_pair true) (top_in (B.lent books.now) key.now)) }
+    ensures refused { IsErrOf result Cut.Worn → ⊥ }
+{
+    let Some((score, member)) = top_of(books, key) else {
+        return Ok(None);
+    };
+    match copy_pair(alloc, &score, member) {
+        Ok(copied) => Ok(Some(copied)),
+        Err(AllocError) => Err(Cut::NoMemory),
+    }
+}
+
+/// A copy of a pair.
+fn copy_pair(alloc: Global, score: &i128, member: &[u8]) -> Result<Copied, AllocError>
+    ensures { IfOk result (λ copied. copied_parts copied ≡ parts_of_pair true (score.now, member.now)) }
+{
+    let member = Vec::from_slice(alloc, member)?;
+    let score = Vec::from_slice(alloc, itoa::Buffer::new().format(*score).as_bytes())?;
+    Ok(Copied { member, score })
+}
+
+/// Drops the first pair of a key, of which this is the member.
+pub fn drop_top<B: Books>(
+    books: &mut B,
+    alloc: Global,
+    site: SiteNo,
+    stamp: u64,
+    key: &[u8],
+    member: &[u8],
+) -> Result<(), Cut>
+    requires lent { IsLending (B.lent books.old) }
+    requires dated { IsDated stamp (B.lent books.old) }
+    requires key { length key.now ≤ LONGEST }
+    requires top { option_map (λ pair. pair.1) (top_in (B.lent books.old) key.now) ≡ Some member.now }
+    ensures dropped { OnOk result (DropsFirst site stamp key.now (B.lent books.old) (B.lent books.new)) }
+    ensures refused { OnErr result (B.lent books.new ≡ B.lent books.old) }
+    ensures worn { IsErrOf result Cut.Worn → IsWhy site (slice_get (drops key.now (queues_in (B.lent books.old) key.now)) 0) (B.lent books.old).books Number }
+    ensures lent { IsLending (B.lent books.new) }
+    ensures dated { IsDated stamp (B.lent books.new) }
+    ensures keeps { B.keeps books.old books.new }
+{
+    // Without its first member a queue is the rest.
+    heading();
+    make_move(books, alloc, site, stamp, key, member, Act::Drop)
+}

@@ -1,0 +1,38 @@
+//! What commands do to the books that are lent to them, and what they answer.
+#![tactic(auto)]
+
+mod books;
+mod cleared;
+mod clearing;
+mod cut;
+mod dropping;
+mod lets;
+mod made;
+mod making;
+mod merging;
+mod pairs;
+mod popping;
+mod putting;
+mod raising;
+mod ranging;
+mod reading;
+mod removing;
+mod replies;
+mod running;
+mod scores;
+mod section;
+mod tops;
+mod totals;
+mod vec_books;
+
+pub use books::Books;
+pub use clearing::clear_keys;
+pub use cut::Cut;
+pub use popping::pop;
+pub use putting::put_pairs;
+pub use raising::{raise, raise_if};
+pub use ranging::read_range;
+pub use reading::{read_count, read_rank, read_score, read_turned_rank, read_within};
+pub use removing::drop_members;
+pub use replies::message_reply;
+pub use running::run;

@@ -1,0 +1,66 @@
+//! Pairs as the parts of a reply.
+
+ghost use Rattle.std.specs.Prelude.{IfOk, IsTrue, OnOk, [], drop, flat_map, map, ◌++◌, ◌∷◌, ◌≡◌};
+ghost use Rattle.zq_commands.specs.Arrays.{are_writable};
+ghost use Rattle.zq_commands.specs.FirstPairs.{lent_pair};
+ghost use Rattle.zq_commands.specs.Running.{IsRead};
+ghost use Rattle.zq_plans.specs.Replies as plan;
+ghost use Rattle.zq_resp.specs.Reply.{bulk, is_writable, reply_bytes};
+
+use crate::cut::Cut;
+use crate::replies::{array_reply, cut_reply};
+use std::alloc::{AllocError, Global};
+use zq_resp::Reply;
+
+/// The members of these pairs from a place on, each with its score behind it where scores are asked for.
+pub fn pairs_reply(alloc: Global, pairs: &[(i128, &[u8])], from: usize, with_scores: bool) -> Reply
+    ensures read { IsRead (plan.pairs_reply with_scores (drop from (map lent_pair pairs.now))) (reply_bytes result) }
+    ensures writable { IsTrue (is_writable result) }
+{
+    match copy_parts(alloc, pairs, from, with_scores) {
+        Ok(parts) => array_reply(parts),
+        Err(AllocError) => cut_reply(Cut::NoMemory, 0),
+    }
+}
+
+fn copy_parts(
+    alloc: Global,
+    pairs: &[(i128, &[u8])],
+    from: usize,
+    with_scores: bool,
+) -> Result<Vec<Reply>, AllocError>
+    ensures parts { IfOk result (λ parts. map reply_bytes parts.items ≡ map bulk (flat_map (plan.parts_of_pair with_scores) (drop from (map lent_pair pairs.now)))) }
+    ensures writable { IfOk result (λ parts. IsTrue (are_writable parts.items)) }
+{
+    let mut parts = Vec::new(alloc);
+    for place in from..pairs.len() {
+        push_pair(alloc, &mut parts, &pairs[place], with_scores)?;
+    }
+    Ok(parts)
+}
+
+/// Puts a pair behind the parts. Where there is no memory for all of it, its member may stand there.
+fn push_pair(
+    alloc: Global,
+    parts: &mut Vec<Reply>,
+    pair: &(i128, &[u8]),
+    with_scores: bool,
+) -> Result<(), AllocError>
+    ensures parts { OnOk result (map reply_bytes parts.new.items ≡ map reply_bytes parts.old.items ++ map bulk (plan.parts_of_pair with_scores (lent_pair pair.now))) }
+    ensures writable { IsTrue (are_writable parts.old.items) → IsTrue (are_writable parts.new.items) }
+{
+    push_text(parts, Vec::from_slice(alloc, pair.1)?)?;
+    if with_scores {
+        let score = Vec::from_slice(alloc, itoa::Buffer::new().format(pair.0).as_bytes())?;
+        push_text(parts, score)?;
+    }
+    Ok(())
+}
+
+fn push_text(parts: &mut Vec<Reply>, text: Vec<u8>) -> Result<(), AllocError>
+    ensures parts { OnOk result (map reply_bytes parts.new.items ≡ map reply_bytes parts.old.items ++ bulk text.items ∷ []) }
+    ensures writable { IsTrue (are_writable parts.old.items) → IsTrue (are_writable parts.new.items) }
+{
+    parts.push(Reply::Bulk(text))?;
+    Ok(())
+}

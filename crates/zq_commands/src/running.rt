@@ -1,0 +1,111 @@
+//! Commands over the books that are lent to them.
+
+ghost use Rattle.std.specs.Prelude.{IsTrue, ◌≡◌};
+ghost use Rattle.zq_commands.specs.Commands.{HasBooks, IsRunOver, is_reading};
+ghost use Rattle.zq_commands.specs.Lending.{IsDated, IsLending, queues_in};
+ghost use Rattle.zq_commands.specs.Running.{IsRead};
+ghost use Rattle.zq_plans.specs.Plan.{plan_of};
+ghost use Rattle.zq_plans.specs.Run.{IsRun};
+ghost use Rattle.zq_resp.specs.Reply.{is_writable, reply_bytes};
+ghost use Rattle.zq_words.specs.Limits.{IsWithinLimits};
+ghost use Rattle.zq_words.specs.Shown.{shown};
+
+use crate::books::Books;
+use crate::clearing::clear_keys;
+use crate::popping::pop;
+use crate::putting::put_pairs;
+use crate::raising::{raise, raise_if};
+use crate::ranging::read_range;
+use crate::reading::{read_count, read_rank, read_score, read_turned_rank, read_within};
+use crate::removing::drop_members;
+use crate::replies::message_reply;
+use crate::section::from_zero;
+use std::alloc::Global;
+use zq_dots::SiteNo;
+use zq_resp::Reply;
+use zq_words::{Command, Kind};
+
+/// Runs a command over the books that are lent, as a site and at a stamp that is no less than theirs: it makes what the
+/// command plans over their queues, and gives the reply. The heap of each member that the command names is lent. Where a
+/// book's number is at its last value, or memory is refused, the moves before stand, and the reply says how many.
+pub fn run<B: Books>(
+    books: &mut B,
+    alloc: Global,
+    site: SiteNo,
+    stamp: u64,
+    command: &Command,
+) -> Reply
+    requires lent { IsLending (B.lent books.old) }
+    requires dated { IsDated stamp (B.lent books.old) }
+    requires homes { HasBooks command.now (B.lent books.old) }
+    ensures ran { IsRun (B.lent books.old).rule site stamp command.now (B.lent books.old).books (B.lent books.new).books (reply_bytes result) }
+    ensures rule { (B.lent books.new).rule ≡ (B.lent books.old).rule }
+    ensures heaps { (B.lent books.new).heaps ≡ (B.lent books.old).heaps }
+    ensures lent { IsLending (B.lent books.new) }
+    ensures dated { IsDated stamp (B.lent books.new) }
+    ensures keeps { B.keeps books.old books.new }
+    ensures writable { IsTrue (is_writable result) }
+{
+    run_kind(books, alloc, site, stamp, command.kind())
+}
+
+/// The same of what a command asks for.
+fn run_kind<B: Books>(books: &mut B, alloc: Global, site: SiteNo, stamp: u64, kind: &Kind) -> Reply
+    requires lent { IsLending (B.lent books.old) }
+    requires dated { IsDated stamp (B.lent books.old) }
+    requires homes { HasBooks (shown kind.now) (B.lent books.old) }
+    requires limits { IsWithinLimits (shown kind.now) }
+    ensures ran { IsRunOver site stamp (shown kind.now) (B.lent books.old) (B.lent books.new) (reply_bytes result) }
+    ensures lent { IsLending (B.lent books.new) }
+    ensures dated { IsDated stamp (B.lent books.new) }
+    ensures keeps { B.keeps books.old books.new }
+    ensures writable { IsTrue (is_writable result) }
+{
+    match kind {
+        Kind::Zadd { key, flags, pairs } => {
+            put_pairs(books, alloc, site, stamp, key, *flags, pairs.as_slice())
+        }
+        Kind::ZaddIncr { key, flags, pair } => {
+            raise_if(books, alloc, site, stamp, key, *flags, pair)
+        }
+        Kind::Zincrby { key, pair } => raise(books, alloc, site, stamp, key, pair),
+        Kind::Zrem { key, members } => drop_members(books, alloc, site, stamp, key, members),
+        Kind::Zpopmin { key, count } => pop(
+            books,
+            alloc,
+            site,
+            stamp,
+            key,
+            from_zero(*count) as u64,
+        ),
+        Kind::Zpopnear { key } => pop(books, alloc, site, stamp, key, 1),
+        Kind::Del { keys } => clear_keys(books, alloc, site, stamp, keys),
+        reading => read(books, alloc, reading),
+    }
+}
+
+/// The reply of a command that makes nothing.
+fn read<B: Books>(books: &B, alloc: Global, kind: &Kind) -> Reply
+    requires lent { IsLending (B.lent books.now) }
+    requires homes { HasBooks (shown kind.now) (B.lent books.now) }
+    requires limits { IsWithinLimits (shown kind.now) }
+    requires reads { IsTrue (is_reading (shown kind.now)) }
+    ensures read { IsRead (plan_of (shown kind.now) (queues_in (B.lent books.now))).reply (reply_bytes result) }
+    ensures writable { IsTrue (is_writable result) }
+{
+    match kind {
+        Kind::Ping(message) => message_reply(alloc, *message),
+        Kind::Zscore { key, member } => read_score(books, alloc, key, member),
+        Kind::Zcard { key } => read_count(books, key),
+        Kind::Zcount { key, min, max } => read_within(books, key, min, max),
+        Kind::Zrank { key, member } => read_rank(books, key, member),
+        Kind::Zrevrank { key, member } => read_turned_rank(books, key, member),
+        Kind::Zrange {
+            key,
+            range,
+            is_turned,
+            with_scores,
+        } => read_range(books, alloc, key, range, *is_turned, *with_scores),
+        _ => unreachable!(),
+    }
+}

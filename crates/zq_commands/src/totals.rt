@@ -1,0 +1,74 @@
+//! Counts over the books, each book's added to those before.
+
+ghost use Rattle.std.specs.Prelude.{IfSome, count_by, length, ◌+◌, ◌<◌, ◌^◌, ◌≡◌};
+ghost use Rattle.zq_commands.specs.Lending.{IsLending, queues_in};
+ghost use Rattle.zq_moves.specs.Readings.{is_before};
+ghost use Rattle.zq_plans.specs.Ranges.{is_within};
+
+use crate::books::Books;
+use zq_words::Bound;
+
+/// The number of members of a key, and `None` where an `i64` does not hold it.
+pub fn total_members<B: Books>(books: &B, key: &[u8]) -> Option<u64>
+    requires { IsLending (B.lent books.now) }
+    ensures total { IfSome result (λ total. total ≡ length (queues_in (B.lent books.now) key.now)) }
+    ensures small { IfSome result (λ total. total < 2 ^ 63) }
+{
+    let mut total = 0;
+    for place in 0..books.len() {
+        total = add_count(total, books.count(place, key))?;
+    }
+    Some(total)
+}
+
+/// The number of pairs of a key before this one, and `None` where an `i64` does not hold it.
+pub fn total_before<B: Books>(books: &B, key: &[u8], score: &i128, member: &[u8]) -> Option<u64>
+    requires { IsLending (B.lent books.now) }
+    ensures total { IfSome result (λ total. total ≡ count_by (λ pair. is_before pair (score.now, member.now)) (queues_in (B.lent books.now) key.now)) }
+    ensures small { IfSome result (λ total. total < 2 ^ 63) }
+{
+    let mut total = 0;
+    for place in 0..books.len() {
+        total = add_count(total, books.count_before(place, key, score, member))?;
+    }
+    Some(total)
+}
+
+/// The number of pairs of a key after this one, and `None` where an `i64` does not hold it.
+pub fn total_after<B: Books>(books: &B, key: &[u8], score: &i128, member: &[u8]) -> Option<u64>
+    requires { IsLending (B.lent books.now) }
+    ensures total { IfSome result (λ total. total ≡ count_by (λ pair. is_before (score.now, member.now) pair) (queues_in (B.lent books.now) key.now)) }
+    ensures small { IfSome result (λ total. total < 2 ^ 63) }
+{
+    let mut total = 0;
+    for place in 0..books.len() {
+        total = add_count(total, books.count_after(place, key, score, member))?;
+    }
+    Some(total)
+}
+
+/// The number of pairs of a key within these bounds, and `None` where an `i64` does not hold it.
+pub fn total_within<B: Books>(books: &B, key: &[u8], min: &Bound, max: &Bound) -> Option<u64>
+    requires { IsLending (B.lent books.now) }
+    ensures total { IfSome result (λ total. total ≡ count_by (is_within min.now max.now) (queues_in (B.lent books.now) key.now)) }
+    ensures small { IfSome result (λ total. total < 2 ^ 63) }
+{
+    let mut total = 0;
+    for place in 0..books.len() {
+        total = add_count(total, books.count_within(place, key, min, max))?;
+    }
+    Some(total)
+}
+
+/// The sum, and `None` where an `i64` does not hold it.
+fn add_count(total: u64, more: usize) -> Option<u64>
+    requires { total < 2 ^ 63 }
+    ensures sum { IfSome result (λ sum. sum ≡ total + more) }
+    ensures small { IfSome result (λ sum. sum < 2 ^ 63) }
+{
+    let most = i64::MAX as u64 - total;
+    if more as u64 > most {
+        return None;
+    }
+    Some(total + more as u64)
+}

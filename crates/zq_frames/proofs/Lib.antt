@@ -1,0 +1,5 @@
+mod Answered
+pub mod Again
+mod Repeated
+mod Taken
+mod Same

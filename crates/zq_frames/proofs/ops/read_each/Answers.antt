@@ -1,0 +1,20 @@
+use Rattle.std.proofs.Common.{arith, inl, inr}
+use Rattle.std.proofs.lemmas.Result.{err_from_is_err_and}
+use Rattle.zq_frames.proofs.Repeated.{read_done, read_fails, read_more}
+use Rattle.zq_frames.proofs.ops.read_each.Goals as goal
+
+pub returns-in_err-op-clause-exact : goal.returns-in_err-op-clause-exact
+returns-in_err-op-clause-exact c =
+    let p = err_from_is_err_and c.from_residual-in_err-op.result c.from_residual-in_err-op.ensures.1 in
+    rw (p.1, p.2) (elim c.in_err-op.ensures.exact [
+      | inl none ↦ inl none
+      | inr e ↦ inr (read_fails c.args.count c.loop-number.number c.args.bytes.now.now c.loop-number.bytes.now c.loop-number.ops.items c.in_err-op.field-0.0 (omega arith) e c.loop-number.invariant)
+    ])
+
+pub loop-number-preserved : goal.loop-number-preserved
+loop-number-preserved c =
+    rw (c.push_reserved.ensures.items, c.in_ok-reserve.ensures.items) (read_more c.args.count c.loop-number.number c.args.bytes.now.now c.loop-number.bytes.now c.read_one.new.bytes.now c.loop-number.ops.items c.in_ok-op.op (omega arith) c.in_ok-op.ensures.exact c.in_ok-op.ensures.found c.loop-number.invariant)
+
+pub returns-clause-exact : goal.returns-clause-exact
+returns-clause-exact c =
+    read_done c.args.count c.loop-number.number c.args.bytes.now.now c.loop-number.bytes.now c.loop-number.ops.items (omega arith) c.loop-number.invariant

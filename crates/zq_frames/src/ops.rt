@@ -1,0 +1,77 @@
+// Operations, one after the other.
+
+ghost use Rattle.std.specs.Prelude.{◌≡◌, ◌<◌, ◌^◌, ◌++◌, IfOk, OnOk, [], flat_map, length, map};
+ghost use Rattle.zq_frames.specs.Answer.{Answers};
+ghost use Rattle.zq_frames.specs.Ops.{AreSpelled, IsOpSpelled, AreEachSpelled};
+ghost use Rattle.zq_frames.specs.Reading as read;
+ghost use Rattle.zq_frames.specs.Spelling.{newest_op, op_bytes, ops_bytes};
+
+use crate::fault::FrameFault;
+use std::alloc::{AllocError, Global};
+use zq_delta::{append_op, read_op};
+use zq_dots::Op;
+use zq_fields::{read_u32, write_u32};
+
+/// Takes the number of operations, and as many.
+#[tactic(auto, unfolding(crate::specs::Reading::ops_at))]
+pub(crate) fn read_ops(alloc: Global, bytes: &mut &[u8]) -> Result<Vec<Op>, FrameFault>
+    ensures exact { Answers (λ ops. (ops.items, bytes.new.now)) result (read.ops_at bytes.old.now) }
+    ensures found { IfOk result (λ ops. AreSpelled ops.items bytes.old.now bytes.new.now) }
+    ensures few { IfOk result (λ ops. length ops.items < 2 ^ 32) }
+{
+    let Some((count, rest)) = read_u32(bytes) else {
+        return Err(FrameFault::Short);
+    };
+    *bytes = rest;
+    let ops = read_each(alloc, count, bytes)?;
+    Ok(ops)
+}
+
+/// Takes so many operations. No memory is asked for what the number only declares.
+fn read_each(alloc: Global, count: u32, bytes: &mut &[u8]) -> Result<Vec<Op>, FrameFault>
+    ensures exact { Answers (λ ops. (ops.items, bytes.new.now)) result (read.more_ops_at count [] bytes.old.now) }
+    ensures found { IfOk result (λ ops. AreEachSpelled ops.items bytes.old.now bytes.new.now) }
+    ensures count { IfOk result (λ ops. length ops.items ≡ count) }
+{
+    let mut ops = Vec::new(alloc);
+    for number in 0..count {
+        ops.reserve(1)?;
+        let op = read_one(alloc, number, bytes)?;
+        ops.push_reserved(op);
+    }
+    Ok(ops)
+}
+
+/// Takes the operation of this number.
+fn read_one(alloc: Global, number: u32, bytes: &mut &[u8]) -> Result<Op, FrameFault>
+    ensures exact { Answers (λ op. (op, bytes.new.now)) result (read.op_in number bytes.old.now) }
+    ensures found { IfOk result (λ op. IsOpSpelled op bytes.old.now bytes.new.now) }
+{
+    match read_op(alloc, bytes) {
+        Ok((op, used)) => {
+            *bytes = &bytes[used..];
+            Ok(op)
+        }
+        Err(fault) => Err(FrameFault::Op(number, fault)),
+    }
+}
+
+/// Appends the number of operations and each, in version 2.
+#[tactic(auto, unfolding(crate::specs::Spelling::ops_bytes))]
+pub(crate) fn write_ops(out: &mut Vec<u8>, ops: &[Op]) -> Result<(), AllocError>
+    requires { length ops.now < 2 ^ 32 }
+    ensures { OnOk result (out.new.items ≡ out.old.items ++ ops_bytes (map newest_op ops.now)) }
+{
+    write_u32(out, ops.len() as u32)?;
+    write_each(out, ops)?;
+    Ok(())
+}
+
+fn write_each(out: &mut Vec<u8>, ops: &[Op]) -> Result<(), AllocError>
+    ensures { OnOk result (out.new.items ≡ out.old.items ++ flat_map op_bytes (map newest_op ops.now)) }
+{
+    for op in ops {
+        append_op(out, op)?;
+    }
+    Ok(())
+}

@@ -1,0 +1,72 @@
+-- What is parked after a change at one place.
+
+use Rattle.std.proofs.Common.{ap, arith, cond, false, get_or, inl, inr, length, refl, slice_index_or, set, subst, sym, true, Bool, List, None, Option, Some, ℕ, ◌+◌, ◌<◌, ◌≤◌, ◌≡◌, ◌∙◌, ◌⊎◌}
+use Rattle.std.proofs.lemmas.Bool.{cases_Bool, cases_eq, cond-false, cond-true}
+use Rattle.std.proofs.lemmas.Bool.Decides.{nat_tests}
+use Rattle.std.proofs.lemmas.List.{get_or-set_other, get_or-set_same}
+use Rattle.std.specs.BTreeMap.{is_at}
+use Rattle.std.specs.Option.{IfSome}
+use Rattle.zq_dots.specs.Placed.{IsRanged, Placed}
+use Rattle.zq_node.proofs.Ready.{IsPlacedAt}
+use Rattle.zq_node.specs.Parked.{ArePlaced, Entries, IsParked, IsUpdated, Place, parked_at, place_cmp, place_of}
+
+at_same : (p q : Place) → is_at (place_cmp p) q ≡ true → p ≡ q
+at_same p q here =
+    let heap : p.0 ≡ q.0 = grind (arith, nat_tests) in
+    let site : p.1 ≡ q.1 = grind (arith, nat_tests) in
+    let n : p.2 ≡ q.2 = grind (arith, nat_tests) in
+    λ i. (heap i, site i, n i)
+
+-- at each place there is what was given, or what there was
+changed_at : (old new : Entries) (p : Place) (what : Option Placed) (q : Place) → IsUpdated old new p what → ((p ≡ q) × (parked_at new q ≡ what)) ⊎ (parked_at new q ≡ parked_at old q)
+changed_at old new p what q is =
+    elim (cases_Bool (is_at (place_cmp p) q)) [
+      | inl here ↦ inl (at_same p q here, is q ∙ cond-true _ _ _ here)
+      | inr apart ↦ inr (is q ∙ cond-false _ _ _ apart)
+    ]
+
+-- ---- one is taken out
+
+pub placed_without : (old new : Entries) (p : Place) → IsUpdated old new p None → ArePlaced old → ArePlaced new
+placed_without old new p is are q =
+    elim (changed_at old new p None q is) [
+      | inl here ↦ subst (λ x. IfSome x (IsPlacedAt q)) (sym here.1) tt
+      | inr same ↦ subst (λ x. IfSome x (IsPlacedAt q)) (sym same) (are q)
+    ]
+
+-- what is parked then was parked before
+pub parked_before : (old new : Entries) (p : Place) (o : Placed) → IsUpdated old new p None → IsParked new o → IsParked old o
+parked_before old new p o is here =
+    elim (changed_at old new p None (place_of o) is) [
+      | inl gone ↦ absurd (let both : Some o ≡ None = sym here ∙ gone.1 in cc)
+      | inr same ↦ sym same ∙ here
+    ]
+
+-- ---- one is parked
+
+pub placed_with : (old new : Entries) (op : Placed) → IsUpdated old new (place_of op) (Some op) → IsRanged op → ArePlaced old → ArePlaced new
+placed_with old new op is ranged are q =
+    elim (changed_at old new (place_of op) (Some op) q is) [
+      | inl here ↦ subst (λ x. IfSome x (IsPlacedAt q)) (sym here.1) (here.0, ranged)
+      | inr same ↦ subst (λ x. IfSome x (IsPlacedAt q)) (sym same) (are q)
+    ]
+
+flag_set : (sites : List Bool) (i j : ℕ) → i < length sites → (j ≡ i) ⊎ (slice_index_or sites j false ≡ true) → slice_index_or (set sites i true) j false ≡ true
+flag_set sites i j below (inl same) = ap (λ k. get_or (set sites i true) k false) same ∙ get_or-set_same sites i true false below
+flag_set sites i j below (inr was) =
+    elim (cases_eq j i) [
+      | inl same ↦ ap (λ k. get_or (set sites i true) k false) same ∙ get_or-set_same sites i true false below
+      | inr apart ↦ get_or-set_other sites i j true false apart ∙ was
+    ]
+
+-- the sites of what is parked then are those that may have operations here
+pub sites_with : (old new : Entries) (p : Place) (what : Option Placed) (sites : List Bool) → IsUpdated old new p what → p.1 < length sites → ((o : Placed) → IsParked old o → slice_index_or sites o.operation.site false ≡ true) → (o : Placed) → IsParked new o → slice_index_or (set sites p.1 true) o.operation.site false ≡ true
+sites_with old new p what sites is below flags o here =
+    flag_set sites p.1 o.operation.site below (elim (changed_at old new p what (place_of o) is) [
+      | inl at ↦ inl (λ i. (sym at.0 i).1)
+      | inr same ↦ inr (flags o (sym same ∙ here))
+    ])
+
+pub few_with : (b : Bool) (n m most : ℕ) → m ≡ n + cond b 0 1 → n < most → m ≤ most
+few_with true n m most is below = omega arith
+few_with false n m most is below = omega arith

@@ -1,0 +1,16 @@
+use Rattle.std.proofs.Common.{rules, subst, Some}
+use Rattle.zq_node.proofs.Changed.{few_with, placed_with, sites_with}
+use Rattle.zq_node.specs.Parked.{IsUpdated}
+use Rattle.zq_node.proofs.parked.Parked.park.Goals as goal
+
+pub invariant_of-self-2 : goal.invariant_of-self-2
+invariant_of-self-2 c =
+    let old = c.self.inside.ops.entries in
+    let new = c.insert.new.self.entries in
+    let place = c.place_of-place.ensures.place in
+    let changed = c.in_ok-insert.ensures.updates.0 in
+    record {
+      placed = placed_with old new c.args.op (subst (λ p. IsUpdated old new p (Some c.args.op)) place changed) c.place_of-place.ensures.ranged c.self.invariant.placed;
+      sites = sites_with old new c.place_of-place.result (Some c.args.op) c.self.inside.sites changed (search rules) c.self.invariant.sites;
+      few = few_with _ _ _ _ c.in_ok-insert.ensures.len (search rules);
+    }

@@ -1,0 +1,183 @@
+ghost use Rattle.std.specs.Prelude.{◌≡◌, ◌≢◌, ◌≤◌, ◌<◌, ◌+◌, ◌↔◌, [], IfNone, IfOk, IfSome, IsTrue, None, OnErr, Some, false, length, true};
+ghost use Rattle.zq_dots.specs.Placed.{IsRanged, Placed};
+ghost use Rattle.zq_model.specs.Sets as sets;
+ghost use Rattle.zq_node.specs.Parked as parked;
+ghost use Rattle.zq_node.specs.Parked.{ArePlaced, IsParked, IsReadyAt, IsSiteEarly, IsUpdated};
+ghost use Rattle.zq_node.specs.declared.parked.TheConstants as limits;
+
+use std::alloc::{AllocError, Global};
+use std::collections::BTreeMap;
+use std::marker::Model;
+use zq_dots::{Op, SITES, SiteNo, Vector};
+
+/// The most operations that are parked.
+pub const MOST_PARKED: usize = 1024;
+
+/// Where an operation is parked: its heap, its site and its counter.
+type Place = (u8, u8, u64);
+
+/// Operations that came early, until what they follow has come, at most [`MOST_PARKED`]. One that comes again takes no
+/// place of its own.
+///
+/// A site's operations come in the order of their counters, so of those that are parked only the first one of each site
+/// can be ready. They lie by heap, site and counter, so that it is found at once, and a site of which none was parked
+/// since the last one left is passed over: what the others cost does not grow with them.
+#[derive(Drop)]
+pub struct Parked {
+    ops: BTreeMap<Place, Op>,
+    /// Which sites may have operations here.
+    sites: [bool; SITES],
+}
+
+impl Model for Parked {
+    ghost use Rattle.zq_node.specs.Parked.{Entries};
+    ghost use Rattle.zq_node.specs.Inside.{IsInside};
+
+    ghost Value = { Entries };
+
+    ghost view = { λ p. p.ops.entries };
+
+    ghost invariant = { IsInside };
+}
+
+impl Parked {
+    /// None. It takes no memory.
+    pub fn new(alloc: Global) -> Parked
+        ensures { result ≡ [] }
+    {
+        Parked {
+            ops: BTreeMap::new(alloc),
+            sites: [false; SITES],
+        }
+    }
+
+    /// How many are parked.
+    pub fn len(&self) -> usize
+        ensures exact { result ≡ length self.now }
+        ensures most { result ≤ limits.MOST_PARKED }
+    {
+        self.ops.len()
+    }
+
+    /// Parks an operation, in the place of one of its heap and dot. Answers whether it is parked: where as many are as
+    /// there may be it is dropped, as if it had been lost, and so it is where memory is refused.
+    pub fn park(&mut self, op: Op) -> Result<bool, AllocError>
+        ensures full { IfOk result (λ kept. IsTrue kept ↔ (length self.old < limits.MOST_PARKED)) }
+        ensures parked { IfOk result (λ kept. IsTrue kept → IsUpdated self.old self.new (parked.place_of op) (Some op)) }
+        ensures dropped { IfOk result (λ kept. kept ≡ false → self.new ≡ self.old) }
+        ensures refused { OnErr result (self.new ≡ self.old) }
+    {
+        if self.ops.len() >= MOST_PARKED {
+            return Ok(false);
+        }
+        let place = place_of(&op);
+        drop(self.ops.insert(place, op)?);
+        self.sites[place.1 as usize] = true;
+        Ok(true)
+    }
+
+    /// Takes out an operation of this heap that is not Early by this vector, if there is one.
+    pub fn take_ready(&mut self, heap: u8, vector: &Vector) -> Option<Op>
+        ensures ready { IfSome result (λ o. IsParked self.old o × (o.operation.heap ≡ heap) × (sets.taken_of vector.now o.operation ≢ sets.Early)) }
+        ensures others { IfSome result (λ o. IsUpdated self.old self.new (parked.place_of o) None) }
+        ensures fewer { IfSome result (λ o. length self.new + 1 ≡ length self.old) }
+        ensures none { IfNone result ((o : Placed) → IsParked self.old o → o.operation.heap ≡ heap → sets.taken_of vector.now o.operation ≡ sets.Early) }
+        ensures kept { IfNone result (self.new ≡ self.old) }
+    {
+        let place = self.ready_place(heap, vector)?;
+        let op = self.ops.remove(&place)?;
+        self.settle();
+        Some(op)
+    }
+
+    /// No site has operations here where there are none.
+    fn settle(&mut self)
+        ensures { self.new ≡ self.old }
+    {
+        if self.ops.is_empty() {
+            self.sites = [false; SITES];
+        }
+    }
+
+    /// Where an operation of this heap is parked that is not Early by this vector.
+    fn ready_place(&self, heap: u8, vector: &Vector) -> Option<Place>
+        ensures ready { IfSome result (IsReadyAt self.now heap vector.now) }
+        ensures none { IfNone result ((o : Placed) → IsParked self.now o → o.operation.heap ≡ heap → sets.taken_of vector.now o.operation ≡ sets.Early) }
+    {
+        for number in 0..SITES as u8 {
+            let may = self.sites[number as usize];
+            if let Some(place) = ready_from(&self.ops, may, heap, number, vector) {
+                return Some(place);
+            }
+        }
+        None
+    }
+}
+
+/// Where an operation of this heap and this site is parked that is not Early by this vector, if the site may have any.
+fn ready_from(
+    ops: &BTreeMap<Place, Op>,
+    may: bool,
+    heap: u8,
+    number: u8,
+    vector: &Vector,
+) -> Option<Place>
+    requires placed { ArePlaced ops.now.entries }
+    requires may { (o : Placed) → IsParked ops.now.entries o → o.operation.site ≡ number → may ≡ true }
+    requires site { number < sets.SITES }
+    ensures ready { IfSome result (IsReadyAt ops.now.entries heap vector.now) }
+    ensures none { IfNone result (IsSiteEarly ops.now.entries heap vector.now number) }
+{
+    if may {
+        ready_of(ops, heap, number, vector)
+    } else {
+        None
+    }
+}
+
+/// Where the first is parked of a site, if it is not Early by this vector.
+#[tactic(auto, unfolding(zq_model::specs::Sets::LAST))]
+fn ready_of(ops: &BTreeMap<Place, Op>, heap: u8, number: u8, vector: &Vector) -> Option<Place>
+    requires placed { ArePlaced ops.now.entries }
+    requires site { number < sets.SITES }
+    ensures ready { IfSome result (IsReadyAt ops.now.entries heap vector.now) }
+    ensures none { IfNone result (IsSiteEarly ops.now.entries heap vector.now number) }
+{
+    let site = SiteNo::new(number).unwrap();
+    let known = vector.get(site);
+    let near = (heap, number, 0)..(heap, number, known + 2);
+    match ops.range(near).next() {
+        None => None,
+        Some((place, op)) => {
+            if is_early(op, vector) {
+                None
+            } else {
+                Some(*place)
+            }
+        }
+    }
+}
+
+/// Whether the operation is neither known nor complete by this vector.
+fn is_early(op: &Op, vector: &Vector) -> bool
+    ensures early { IsTrue result → sets.taken_of vector.now op.now.operation ≡ sets.Early }
+    ensures ready { result ≡ false → sets.taken_of vector.now op.now.operation ≢ sets.Early }
+{
+    !vector.has(op.dot()) && !vector.covers(op.seen())
+}
+
+/// Where the operation is parked.
+fn place_of(op: &Op) -> Place
+    ensures place { result ≡ parked.place_of op.now }
+    ensures site { result.1 < sets.SITES }
+    ensures ranged { IsRanged op.now }
+{
+    let dot = op.dot();
+    let site = dot.site.value();
+    let _heaps = op.heaps();
+    let _seen = op.seen();
+    let _key = op.key();
+    let _member = op.member();
+    let _act = op.act();
+    (op.heap(), site, dot.n)
+}

@@ -1,0 +1,10 @@
+pub mod Kept
+pub mod InRange
+pub mod KeptRuns
+pub mod Moments
+pub mod Meant
+pub mod BooksOf
+pub mod MovedBooks
+pub mod SiteBooks
+pub mod Questions
+pub mod NearBooks

@@ -1,0 +1,37 @@
+-- A heap after a call, once the call's steps are counted.
+
+use Rattle.std.proofs.Common.{ap, arith, subst, sym, ◌∙◌}
+use Rattle.std.specs.Prelude.{IfSome, None, Option, Some, ◌+◌, ◌≡◌}
+use Rattle.zq_history.proofs.Reached.{worked_reaches}
+use Rattle.zq_history.specs.Reach.{IsWorked}
+use Rattle.zq_spread.specs.Kept.{Follows}
+use Rattle.zq_spread.specs.Rooms.{IsCounted, IsOf, IsWorkedOn}
+use Rattle.zq_spread.specs.declared.kept.Kept.{Kept}
+use Rattle.zq_spread.specs.declared.room.Room.{Room}
+use Rattle.zq_tally.specs.Words.{kept_of, total_of, total_table}
+
+-- what holds of a value that is there, and gives something else of it
+pub if_some : {A : Type 0} {P Q : A → Type 0} (o : Option A) → ((x : A) → P x → Q x) → IfSome o P → IfSome o Q
+if_some (Some x) gives is = gives x is
+if_some None gives is = tt
+
+pub counted_follows : (room : Room) (now old found : Kept) → IsCounted room now old → IsWorkedOn room old found → Follows now found
+counted_follows room now old found counted is =
+    let worked : IsWorked now.book found.book is.stamp is.steps = subst (λ b. IsWorked b found.book is.stamp is.steps) (sym counted.book) is.worked in
+    let same : old.total ≡ found.total = is.total in
+    let count : now.book.count ≡ room.opening + total_of now.total = ap (λ b. b.count) counted.book ∙ sym counted.count in
+    let before : found.book.count ≡ room.opening + total_of found.total = is.of.count in (
+      (is.steps, worked_reaches now.book found.book is.stamp is.steps worked is.later),
+      (counted.table ∙ ap total_table same, counted.parts ∙ ap kept_of same, omega (arith, count, before)),
+    )
+
+pub counted_of : (room : Room) (now old found : Kept) → IsCounted room now old → IsWorkedOn room old found → IsOf room now
+counted_of room now old found counted is =
+    record {
+      heap = ap (λ b. b.heap) counted.book ∙ is.worked.heap ∙ is.of.heap;
+      heaps = ap (λ b. b.heaps) counted.book ∙ is.worked.heaps ∙ is.of.heaps;
+      rule = ap (λ b. b.rule) counted.book ∙ is.worked.rule ∙ is.of.rule;
+      table = counted.table ∙ ap total_table is.total ∙ is.of.table;
+      parts = counted.parts ∙ ap kept_of is.total ∙ is.of.parts;
+      count = ap (λ b. b.count) counted.book ∙ sym counted.count;
+    }

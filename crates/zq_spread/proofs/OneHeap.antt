@@ -1,0 +1,95 @@
+-- Calls in one heap.
+
+use Rattle.std.proofs.Common.{ap, arith, inl, subst, sym, ◌∙◌}
+use Rattle.std.proofs.Math.Nat.{le-max_right, max-zero}
+use Rattle.std.specs.Prelude.{Err, IfOk, IsErrOf, List, Ok, OnErr, OnOk, Option, Result, Some, [], max, refl, ℕ, ◌+◌, ◌++◌, ◌≡◌, ◌≤◌, ◌∷◌, ◌↔◌}
+use Rattle.zq_dots.specs.Placed.{Placed}
+use Rattle.zq_history.specs.Books.{Book, Step}
+use Rattle.zq_history.specs.Reach.{IsWorked}
+use Rattle.zq_journal.specs.Books.{LAST_STAMP, state_of, steps_taken, steps_when}
+use Rattle.zq_journal.specs.declared.faults.TakeFault.{TakeFault}
+use Rattle.zq_journal.specs.declared.faults.TakeFault.TheVariants.{NoMemory, WrongHeap, Worn}
+use Rattle.zq_model.specs.Heaps.{heap_of}
+use Rattle.zq_model.specs.Sets as sets
+use Rattle.zq_shard.specs.Shard.{IsOfHeap}
+use Rattle.zq_shard.specs.Taken.{answer_of}
+use Rattle.zq_shard.specs.declared.taken.Taken.{Taken}
+use Rattle.zq_spread.specs.Answers.{HasWorked, IsTaken}
+use Rattle.zq_spread.specs.Calls.{IsCall, IsOfSite}
+use Rattle.zq_spread.specs.Passes.{IsRoomAt, seen_at, steps_at}
+use Rattle.zq_spread.specs.Rooms.{IsBegun, IsOf, IsWorkedOn}
+use Rattle.zq_spread.specs.declared.kept.Kept.{Kept}
+use Rattle.zq_spread.specs.declared.pass.Pass.{Pass}
+use Rattle.zq_spread.specs.declared.room.Room.{Room}
+use Rattle.zq_spread.specs.declared.site.Site.{Site}
+
+-- what a book answers to an operation is what a call answers
+pub taken_by : (old new a : Book) (stamp : ℕ) (p : Placed) (r : Result Taken TakeFault) → IsOfHeap (state_of old) p →
+    IsErrOf r WrongHeap ↔ (IsOfHeap (state_of old) p → ⊥) → IfOk r (λ taken. answer_of taken ≡ sets.taken_of old.state.vector p.operation) →
+    IsErrOf r Worn ↔ (IsOfHeap (state_of old) p × (sets.taken_of old.state.vector p.operation ≡ sets.New) × (old.count ≡ LAST_STAMP)) →
+    (IsErrOf r NoMemory → sets.taken_of old.state.vector p.operation ≡ sets.New) →
+    OnOk r ((b : Book) (steps : List Step) → IsWorked old b stamp steps → IsWorked new b stamp (steps ++ steps_taken old stamp p.operation)) →
+    OnErr r (new ≡ old) → IsWorked old a stamp [] → HasWorked (IsTaken stamp p r) new a stamp
+taken_by old new a stamp p (Ok taken) of wrong judged worn short worked stays begun =
+    let same : old.state.vector ≡ a.state.vector = ap (λ s. s.vector) begun.state in (
+      steps_taken old stamp p.operation,
+      worked a [] begun,
+      (judged ∙ ap (λ v. sets.taken_of v p.operation) same, ap (λ v. steps_when (sets.taken_of v p.operation) stamp p.operation) same),
+    )
+taken_by old new a stamp p (Err WrongHeap) of wrong judged worn short worked stays begun = absurd (wrong.0 refl of)
+taken_by old new a stamp p (Err Worn) of wrong judged worn short worked stays begun =
+    let same : old.state.vector ≡ a.state.vector = ap (λ s. s.vector) begun.state in
+    let why = worn.0 refl in
+    let count : a.count ≡ LAST_STAMP = let e = begun.count in omega (arith, why.2, e) in
+    ([], subst (λ b. IsWorked b a stamp []) (sym stays) begun, (ap (λ v. sets.taken_of v p.operation) (sym same) ∙ why.1, count, refl))
+taken_by old new a stamp p (Err NoMemory) of wrong judged worn short worked stays begun =
+    let same : old.state.vector ≡ a.state.vector = ap (λ s. s.vector) begun.state in
+    ([], subst (λ b. IsWorked b a stamp []) (sym stays) begun, (ap (λ v. sets.taken_of v p.operation) (sym same) ∙ short refl, refl))
+
+-- the heap of an operation of the site, where a call has begun
+pub begun_of_heap : (site : Site) (room : Room) (h floor stamp : ℕ) (p : Placed) (now found : Kept) → IsRoomAt site h room → IsWorked now.book found.book stamp [] → IsOf room found →
+    IsOfSite site p → p.operation.heap ≡ h → IsOfHeap (state_of now.book) p
+begun_of_heap site room h floor stamp p now found at worked of is here =
+    let heap : now.book.heap ≡ h = worked.heap ∙ of.heap ∙ at.0 in
+    let heaps : now.book.heaps ≡ p.heaps = worked.heaps ∙ of.heaps ∙ at.1 ∙ sym is.heaps in
+    record {
+      heap = here ∙ sym heap;
+      heaps = sym heaps;
+      placed = ap (λ n. heap_of p.operation.key p.operation.member n) heaps ∙ is.placed ∙ here ∙ sym heap;
+    }
+
+-- a call that has worked in its one heap may end there
+pub may_end : (Does : List Book → List (List Step) → Type 0) (room : Room) (before : Option Kept) (floor stamp : ℕ) (begun now found : Kept) → IsBegun room before floor stamp begun found →
+    HasWorked Does now.book found.book stamp → now.total ≡ begun.total → IsWorkedOn room now found
+may_end Does room before floor stamp begun now found is done total = record {
+  home = is.home;
+  of = is.of;
+  stamp = stamp;
+  later = let next = is.next in let above : found.book.stamp ≤ max floor found.book.stamp = le-max_right floor found.book.stamp in omega (arith, next, above);
+  steps = done.0;
+  worked = done.1;
+  total = total ∙ is.total;
+}
+
+-- and then it is a call
+pub one_call : (Does : List Book → List (List Step) → Type 0) (room : Room) (old mid new : Pass) (h stamp : ℕ) (begun now found : Kept) → IsBegun room (seen_at old h) old.stamp stamp begun found →
+    HasWorked Does now.book found.book stamp → new.stamp ≡ stamp → ((left : Kept) × (seen_at new h ≡ Some left) × (left.book ≡ now.book)) →
+    steps_at new h + found.book.count ≡ steps_at mid h + now.book.count → ((k : ℕ) → (k ≡ h → ⊥) → seen_at mid k ≡ seen_at old k) → ((k : ℕ) → steps_at mid k ≡ steps_at old k) →
+    ((k : ℕ) → (k ≡ h → ⊥) → (seen_at new k ≡ seen_at mid k) × (steps_at new k ≡ steps_at mid k)) → IsCall Does old new (h ∷ [])
+one_call Does room old mid new h stamp begun now found is done stamped left counted others steps stay = record {
+  found = found ∷ [];
+  left = left.0 ∷ [];
+  steps = done.0 ∷ [];
+  next = stamped ∙ is.next ∙ ap (λ n. max old.stamp n + 1) (sym (max-zero found.book.stamp));
+  worked = (
+    record {
+      follows = is.follows;
+      worked = subst (λ b. IsWorked b found.book new.stamp done.0) (sym left.2) (subst (λ n. IsWorked now.book found.book n done.0) (sym stamped) done.1);
+      seen = left.1;
+      own = let made = done.1.count in let before = steps h in omega (arith, counted, made, before);
+    },
+    tt,
+  );
+  others = λ k out. let apart : k ≡ h → ⊥ = λ e. out (inl (sym e)) in ((stay k apart).0 ∙ others k apart, (stay k apart).1 ∙ steps k);
+  done = done.2;
+}

@@ -1,0 +1,117 @@
+-- The seats and counts of a pass, while a call has one of them.
+
+use Rattle.std.proofs.Common.{ap, arith, inl, inr, subst, sym, ◌∙◌}
+use Rattle.std.proofs.lemmas.Bool.{cases_eq}
+use Rattle.std.proofs.lemmas.List.{length-set}
+use Rattle.std.proofs.lemmas.Option.{slice_get_read}
+use Rattle.std.specs.Prelude.{List, None, Option, Some, [], get_or, length, refl, slice_get, slice_set, suc, zero, ℕ, ◌<◌, ◌≡◌, ◌≤◌, ◌∷◌}
+use Rattle.zq_journal.specs.Books.{LAST_STAMP}
+use Rattle.zq_spread.specs.Kept.{follows_itself}
+use Rattle.zq_spread.specs.Passes.{IsCountOf, IsPassBut, IsPassOf, IsSeatOf, IsSeenLater, IsStopped, seen_at, steps_in}
+use Rattle.zq_spread.specs.declared.kept.Kept.{Kept}
+use Rattle.zq_spread.specs.declared.pass.Pass.{Pass}
+use Rattle.zq_spread.specs.declared.room.Room.{Room}
+use Rattle.zq_spread.specs.declared.site.Site.{Site}
+use Rattle.zq_tally.specs.declared.count.Count.{Count}
+use Rattle.zq_ticketlock.specs.declared.seat.Seat.{Seat}
+
+-- what stands at an index that is within the list
+pub found_at : {X : Type 0} (xs : List X) (i : ℕ) → i < length xs → (x : X) × (slice_get xs i ≡ Some x)
+found_at [] i within = absurd (omega arith)
+found_at (x ∷ xs) zero within = (x, refl)
+found_at (x ∷ xs) (suc i) within = found_at xs i (omega arith)
+
+pub set_same : {X : Type 0} (xs : List X) (i : ℕ) (y : X) → i < length xs → slice_get (slice_set xs i y) i ≡ Some y
+set_same [] i y within = absurd (omega arith)
+set_same (x ∷ xs) zero y within = refl
+set_same (x ∷ xs) (suc i) y within = set_same xs i y (omega arith)
+
+pub set_other : {X : Type 0} (xs : List X) (i k : ℕ) (y : X) → (k ≡ i → ⊥) → slice_get (slice_set xs i y) k ≡ slice_get xs k
+set_other [] i k y other = refl
+set_other (x ∷ xs) zero zero y other = absurd (other refl)
+set_other (x ∷ xs) zero (suc k) y other = refl
+set_other (x ∷ xs) (suc i) zero y other = refl
+set_other (x ∷ xs) (suc i) (suc k) y other = set_other xs i k y (λ e. other (ap suc e))
+
+pub same_some : {X : Type 0} (x y : X) → Some x ≡ Some y → x ≡ y
+same_some x y e = cc
+
+-- what stood where it was taken out
+pub taken_at : {X : Type 0} (xs : List X) (n i : ℕ) (x took y : X) → length xs ≡ n → i < n → x ≡ get_or xs i x → took ≡ x → took ≡ y → slice_get xs i ≡ Some y
+taken_at xs n i x took y long within is same some = slice_get_read xs n i x (sym long) within is ∙ ap Some (sym same ∙ some)
+
+-- a pass of which a seat was taken
+pub seat_out : (site : Site) (pass new : Pass) (heap : ℕ) (x : Option (Seat Kept)) → new.seats.items ≡ slice_set pass.seats.items heap x → new.counts ≡ pass.counts →
+    new.stamp ≡ pass.stamp → IsPassOf site pass → IsPassBut site heap new
+seat_out site pass new heap x seats counts stamp is = record {
+  seats = ap length seats ∙ length-set pass.seats.items heap x ∙ is.seats;
+  counts = ap (λ c. length c.items) counts ∙ is.counts;
+  rooms = is.rooms;
+  seat = λ h room other at. subst (IsSeatOf room) (sym (ap (λ l. slice_get l h) seats ∙ set_other pass.seats.items heap h x other)) (is.seat h room at);
+  count = λ h room at. subst (λ c. IsCountOf room (slice_get c.items h)) (sym counts) (is.count h room at);
+  stamp = subst (λ n. n ≤ LAST_STAMP) (sym stamp) is.stamp;
+}
+
+-- and of which the seat was put back
+pub seat_back : (site : Site) (pass new : Pass) (heap : ℕ) (room : Room) (seat : Seat Kept) → heap < length site.rooms.items → slice_get site.rooms.items heap ≡ Some room →
+    new.seats.items ≡ slice_set pass.seats.items heap (Some seat) → new.counts ≡ pass.counts → new.stamp ≡ pass.stamp → IsSeatOf room (Some (Some seat)) →
+    IsPassBut site heap pass → IsPassOf site new
+seat_back site pass new heap room seat within at seats counts stamp fits is =
+    let here : slice_get new.seats.items heap ≡ Some (Some seat) =
+    ap (λ l. slice_get l heap) seats ∙ set_same pass.seats.items heap (Some seat) (subst (λ n. heap < n) (sym is.seats) within) in
+    let there : (h : ℕ) → (h ≡ heap → ⊥) → slice_get new.seats.items h ≡ slice_get pass.seats.items h =
+    λ h other. ap (λ l. slice_get l h) seats ∙ set_other pass.seats.items heap h (Some seat) other in
+    record {
+      seats = ap length seats ∙ length-set pass.seats.items heap (Some seat) ∙ is.seats;
+      counts = ap (λ c. length c.items) counts ∙ is.counts;
+      rooms = is.rooms;
+      seat = λ h other_room at_h. elim (cases_eq h heap) [
+        | inl same ↦ (
+            let one : Some room ≡ Some other_room = sym at ∙ ap (slice_get site.rooms.items) (sym same) ∙ at_h in
+            subst (λ r. IsSeatOf r (slice_get new.seats.items h)) (same_some room other_room one) (subst (IsSeatOf room) (sym (ap (slice_get new.seats.items) same ∙ here)) fits))
+        | inr other ↦ subst (IsSeatOf other_room) (sym (there h other)) (is.seat h other_room other at_h)
+      ];
+      count = λ h room at. subst (λ c. IsCountOf room (slice_get c.items h)) (sym counts) (is.count h room at);
+      stamp = subst (λ n. n ≤ LAST_STAMP) (sym stamp) is.stamp;
+    }
+
+-- a pass of which a count was taken and put back
+pub count_back : (site : Site) (pass new : Pass) (heap : ℕ) (room : Room) (x : Option Count) (count : Count) → heap < length site.rooms.items →
+    slice_get site.rooms.items heap ≡ Some room → new.seats ≡ pass.seats → new.counts.items ≡ slice_set (slice_set pass.counts.items heap x) heap (Some count) →
+    new.stamp ≤ LAST_STAMP → IsCountOf room (Some (Some count)) → IsPassBut site heap pass → IsPassBut site heap new
+count_back site pass new heap room x count within at seats counts stamp fits is =
+    let long : length (slice_set pass.counts.items heap x) ≡ length site.rooms.items = length-set pass.counts.items heap x ∙ is.counts in
+    let here : slice_get new.counts.items heap ≡ Some (Some count) =
+    ap (λ l. slice_get l heap) counts ∙ set_same (slice_set pass.counts.items heap x) heap (Some count) (subst (λ n. heap < n) (sym long) within) in
+    let there : (h : ℕ) → (h ≡ heap → ⊥) → slice_get new.counts.items h ≡ slice_get pass.counts.items h =
+    λ h other. ap (λ l. slice_get l h) counts ∙ set_other (slice_set pass.counts.items heap x) heap h (Some count) other ∙ set_other pass.counts.items heap h x other in
+    record {
+      seats = ap (λ l. length l.items) seats ∙ is.seats;
+      counts = ap length counts ∙ length-set (slice_set pass.counts.items heap x) heap (Some count) ∙ long;
+      rooms = is.rooms;
+      seat = λ h room other at. subst (λ l. IsSeatOf room (slice_get l.items h)) (sym seats) (is.seat h room other at);
+      count = λ h other_room at_h. elim (cases_eq h heap) [
+        | inl same ↦ (
+            let one : Some room ≡ Some other_room = sym at ∙ ap (slice_get site.rooms.items) (sym same) ∙ at_h in
+            subst (λ r. IsCountOf r (slice_get new.counts.items h)) (same_some room other_room one) (subst (IsCountOf room) (sym (ap (slice_get new.counts.items) same ∙ here)) fits))
+        | inr other ↦ subst (IsCountOf other_room) (sym (there h other)) (is.count h other_room at_h)
+      ];
+      stamp = stamp;
+    }
+
+-- what a pass has seen, it has seen later
+pub seen_later : (o : Option Kept) → IsSeenLater o o
+seen_later (Some x) = follows_itself x
+seen_later None = tt
+
+-- a pass whose seat came back, having seen what follows what it had
+pub stopped : (before after : Pass) (heap : ℕ) → after.counts ≡ before.counts → after.stamp ≡ before.stamp → IsSeenLater (seen_at after heap) (seen_at before heap) →
+    ((k : ℕ) → (k ≡ heap → ⊥) → seen_at after k ≡ seen_at before k) → IsStopped before after
+stopped before after heap counts stamp later others = record {
+  stamp = stamp;
+  steps = λ h. ap (λ c. steps_in (slice_get c.items h)) counts;
+  seen = λ h. elim (cases_eq h heap) [
+    | inl same ↦ subst (λ k. IsSeenLater (seen_at after k) (seen_at before k)) (sym same) later
+    | inr other ↦ subst (λ o. IsSeenLater o (seen_at before h)) (sym (others h other)) (seen_later (seen_at before h))
+  ];
+}

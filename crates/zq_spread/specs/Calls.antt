@@ -1,0 +1,47 @@
+-- A call of a site.
+
+use Rattle.std.specs.Prelude.{List, Some, [], length, map, max, ℕ, ◌+◌, ◌∷◌, ◌≡◌}
+use Rattle.zq_dots.specs.Placed.{Placed}
+use Rattle.zq_history.specs.Books.{Book, Step}
+use Rattle.zq_history.specs.Reach.{IsWorked}
+use Rattle.zq_model.specs.Heaps.{heap_of}
+use Rattle.zq_model.specs.Sets.{IsIn}
+use Rattle.zq_spread.specs.Kept.{Follows}
+use Rattle.zq_spread.specs.Passes.{seen_at, steps_at}
+use Rattle.zq_spread.specs.declared.kept.Kept.{Kept}
+use Rattle.zq_spread.specs.declared.pass.Pass.{Pass}
+use Rattle.zq_spread.specs.declared.site.Site.{Site}
+use Rattle.zq_ticketlock.specs.Steps.{FollowsSeen}
+
+-- the operation was made among as many heaps as the site's, and lies in its own
+pub record IsOfSite (site : Site) (p : Placed) : Type 0 where
+  pub heaps : p.heaps ≡ length site.rooms.items
+  pub placed : heap_of p.operation.key p.operation.member p.heaps ≡ p.operation.heap
+
+-- a call's part in one heap: what it found there, which follows what the pass had seen, its own steps on that, and what it left, which the pass has then seen
+pub record IsWorkedIn (before after : Pass) (h : ℕ) (found left : Kept) (steps : List Step) : Type 0 where
+  pub follows : FollowsSeen Follows found (seen_at before h)
+  pub worked : IsWorked left.book found.book after.stamp steps
+  pub seen : seen_at after h ≡ Some left
+  pub own : steps_at after h ≡ steps_at before h + length steps
+
+-- its parts in each of its heaps
+abbrev pub AreWorkedIn : Pass → Pass → List ℕ → List Kept → List Kept → List (List Step) → Type 0
+AreWorkedIn before after [] [] [] [] = Unit {0}
+AreWorkedIn before after (h ∷ heaps) (x ∷ found) (y ∷ left) (ss ∷ steps) = IsWorkedIn before after h x y ss × AreWorkedIn before after heaps found left steps
+AreWorkedIn before after heaps found left steps = ⊥
+
+abbrev pub greatest_stamp : List Kept → ℕ
+greatest_stamp [] = 0
+greatest_stamp (x ∷ found) = max x.book.stamp (greatest_stamp found)
+
+-- a call of a pass in these heaps: its stamp is the one after the greatest that it found in them and in the pass; its own steps follow in each, at that
+-- stamp; the pass then has seen what was left there, and of other heaps what it had; the answer and the steps are what the call does over the books found
+pub record IsCall (Does : List Book → List (List Step) → Type 0) (before after : Pass) (heaps : List ℕ) : Type 0 where
+  pub found : List Kept
+  pub left : List Kept
+  pub steps : List (List Step)
+  pub next : after.stamp ≡ max before.stamp (greatest_stamp found) + 1
+  pub worked : AreWorkedIn before after heaps found left steps
+  pub others : (k : ℕ) → (IsIn k heaps → ⊥) → (seen_at after k ≡ seen_at before k) × (steps_at after k ≡ steps_at before k)
+  pub done : Does (map (λ x. x.book) found) steps

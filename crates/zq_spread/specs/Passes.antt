@@ -1,0 +1,73 @@
+-- What a pass has of a site.
+
+use Rattle.std.specs.Prelude.{IfSome, None, Option, Some, length, slice_get, ℕ, ◌≡◌, ◌≤◌}
+use Rattle.zq_journal.specs.Books.{LAST_STAMP}
+use Rattle.zq_spread.specs.Kept.{Follows}
+use Rattle.zq_spread.specs.Rooms.{IsOf}
+use Rattle.zq_spread.specs.declared.kept.Kept.{Kept}
+use Rattle.zq_spread.specs.declared.pass.Pass.{Pass}
+use Rattle.zq_spread.specs.declared.room.Room.{Room}
+use Rattle.zq_spread.specs.declared.site.Site.{Site}
+use Rattle.zq_tally.specs.Words as tally
+use Rattle.zq_tally.specs.declared.count.Count.{Count}
+use Rattle.zq_ticketlock.specs.Seats.{id_of, lock_of, seen}
+use Rattle.zq_ticketlock.specs.Steps.{FollowsSeen}
+use Rattle.zq_ticketlock.specs.declared.seat.Seat.{Seat}
+
+abbrev pub seen_in : Option (Option (Seat Kept)) → Option Kept
+seen_in (Some (Some seat)) = seen seat
+seen_in other = None
+
+abbrev pub steps_in : Option (Option Count) → ℕ
+steps_in (Some (Some count)) = tally.steps_of count
+steps_in other = 0
+
+-- the value that the pass has seen last of a heap
+abbrev pub seen_at : Pass → ℕ → Option Kept
+seen_at pass h = seen_in (slice_get pass.seats.items h)
+
+-- how many steps the pass has made in a heap
+abbrev pub steps_at : Pass → ℕ → ℕ
+steps_at pass h = steps_in (slice_get pass.counts.items h)
+
+-- the seat is there, is of this heap's lock, and what it has seen is of this heap
+abbrev pub IsSeatOf : Room → Option (Option (Seat Kept)) → Type 0
+IsSeatOf room (Some (Some seat)) = (lock_of seat ≡ id_of room.lock) × IfSome (seen seat) (IsOf room)
+IsSeatOf room other = ⊥
+
+-- the count is there, and is of this heap's table
+abbrev pub IsCountOf : Room → Option (Option Count) → Type 0
+IsCountOf room (Some (Some count)) = tally.count_table count ≡ tally.id_of room.tally
+IsCountOf room other = ⊥
+
+-- the room is that of this heap
+abbrev pub IsRoomAt : Site → ℕ → Room → Type 0
+IsRoomAt site h room = (room.heap ≡ h) × (room.heaps ≡ length site.rooms.items) × (room.rule ≡ site.rule)
+
+-- the pass is one of the site's, and a call works in this heap, where its seat is out
+pub record IsPassBut (site : Site) (heap : ℕ) (pass : Pass) : Type 0 where
+  pub seats : length pass.seats.items ≡ length site.rooms.items
+  pub counts : length pass.counts.items ≡ length site.rooms.items
+  pub rooms : (h : ℕ) (room : Room) → slice_get site.rooms.items h ≡ Some room → IsRoomAt site h room
+  pub seat : (h : ℕ) (room : Room) → (h ≡ heap → ⊥) → slice_get site.rooms.items h ≡ Some room → IsSeatOf room (slice_get pass.seats.items h)
+  pub count : (h : ℕ) (room : Room) → slice_get site.rooms.items h ≡ Some room → IsCountOf room (slice_get pass.counts.items h)
+  pub stamp : pass.stamp ≤ LAST_STAMP
+
+-- the pass is one of the site's
+pub record IsPassOf (site : Site) (pass : Pass) : Type 0 where
+  pub seats : length pass.seats.items ≡ length site.rooms.items
+  pub counts : length pass.counts.items ≡ length site.rooms.items
+  pub rooms : (h : ℕ) (room : Room) → slice_get site.rooms.items h ≡ Some room → IsRoomAt site h room
+  pub seat : (h : ℕ) (room : Room) → slice_get site.rooms.items h ≡ Some room → IsSeatOf room (slice_get pass.seats.items h)
+  pub count : (h : ℕ) (room : Room) → slice_get site.rooms.items h ≡ Some room → IsCountOf room (slice_get pass.counts.items h)
+  pub stamp : pass.stamp ≤ LAST_STAMP
+
+-- what was seen later follows what was seen before
+abbrev pub IsSeenLater : Option Kept → Option Kept → Type 0
+IsSeenLater later before = IfSome later (λ x. FollowsSeen Follows x before)
+
+-- a call was refused: the pass has made no step and has its stamp, and what it has seen follows what it had
+pub record IsStopped (before after : Pass) : Type 0 where
+  pub stamp : after.stamp ≡ before.stamp
+  pub steps : (h : ℕ) → steps_at after h ≡ steps_at before h
+  pub seen : (h : ℕ) → IsSeenLater (seen_at after h) (seen_at before h)

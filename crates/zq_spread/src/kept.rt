@@ -1,0 +1,73 @@
+//! What the lock of a heap keeps.
+ghost use Rattle.std.specs.Prelude.{◌≡◌, ◌≤◌, []};
+ghost use Rattle.zq_history.specs.Books.{Book as Books};
+ghost use Rattle.zq_history.specs.Reach.{IsWorked};
+ghost use Rattle.zq_journal.specs.Books.{LAST_STAMP, state_of};
+ghost use Rattle.zq_shard.specs.Shard.{IsOfHeap};
+ghost use Rattle.zq_spread.specs.Answers.{HasWorked, IsTaken};
+
+use std::alloc::Global;
+use zq_dots::Op;
+use zq_history::working;
+use zq_journal::{Book, TakeFault};
+use zq_shard::Taken;
+use zq_tally::Total;
+use zq_ticketlock::Keeps;
+
+/// The last stamp.
+pub(crate) const LAST: u64 = 4_611_686_018_427_387_904;
+
+/// From this length on a tail is cut.
+pub(crate) const LONG: usize = 4096;
+
+/// How many records a cut leaves.
+pub(crate) const KEPT: usize = 2048;
+
+/// The book of a heap, and how many records and merges the passes have made in it.
+#[derive(Drop)]
+pub struct Kept {
+    pub(crate) book: Book,
+    pub(crate) total: Total,
+}
+
+impl Keeps for Kept {
+    ghost use Rattle.zq_spread.specs.Kept.{Follows, IsAtHome, follows_further, follows_itself};
+
+    ghost holds = { IsAtHome };
+
+    ghost follows = { Follows };
+
+    ghost reflexive = { follows_itself };
+
+    ghost transitive = { follows_further };
+}
+
+impl Kept {
+    /// Cuts the tail where it is long, and raises the stamp to that of a call.
+    #[tactic(auto, unfolding(zq_history::specs::Reach::LONG, zq_history::specs::Reach::KEPT))]
+    pub(crate) fn begin(&mut self, stamp: u64)
+        requires stamp { self.old.book.stamp ≤ stamp }
+        requires bounded { stamp ≤ LAST_STAMP }
+        ensures total { self.new.total ≡ self.old.total }
+        ensures worked { IsWorked self.new.book self.old.book stamp [] }
+    {
+        // A call's work begins with a cut and a stamp.
+        working();
+        let length = self.book.tail_len();
+        if length >= LONG {
+            let _ = self.book.advance(length - KEPT);
+        }
+        self.book.touch(stamp);
+    }
+
+    /// Takes an operation of the heap, as its book does.
+    pub(crate) fn take(&mut self, alloc: Global, stamp: u64, op: &Op) -> Result<Taken, TakeFault>
+        requires stamp { self.old.book.stamp ≤ stamp }
+        requires bounded { stamp ≤ LAST_STAMP }
+        requires of_heap { IsOfHeap (state_of self.old.book) op.now }
+        ensures total { self.new.total ≡ self.old.total }
+        ensures worked { (a : Books) → IsWorked self.old.book a stamp [] → HasWorked (IsTaken stamp op.now result) self.new.book a stamp }
+    {
+        self.book.take(alloc, stamp, op)
+    }
+}

@@ -1,0 +1,105 @@
+//! A heap of a site, under its lock.
+ghost use Rattle.std.specs.Prelude.{◌≡◌, ◌≤◌, ◌+◌, Some, [], IfErr, IfOk, IfSome, max};
+ghost use Rattle.zq_history.specs.Reach.{IsWorked};
+ghost use Rattle.zq_journal.specs.Books.{LAST_STAMP};
+ghost use Rattle.zq_spread.specs.Kept.{Follows, IsAtHome};
+ghost use Rattle.zq_spread.specs.Rooms.{IsBegun, IsCounted, IsOf, IsWorkedOn};
+ghost use Rattle.zq_tally.specs.Words as tally;
+ghost use Rattle.zq_ticketlock.specs.Seats.{id_of, lock_of, seen, HasSeen, held_lock, given, value_of};
+ghost use Rattle.zq_ticketlock.specs.Steps.{FollowsSeen};
+
+use crate::kept::{Kept, LAST};
+use std::sync::Wait;
+use zq_dots::Rule;
+use zq_tally::{Count, Tally};
+use zq_ticketlock::{Held, Seat, TicketLock};
+
+/// A heap of a site: its lock, the table that counts the steps there, and what stays of it.
+#[derive(Drop)]
+pub(crate) struct Room {
+    pub(crate) lock: TicketLock<Kept>,
+    pub(crate) tally: Tally,
+    pub(crate) heap: u8,
+    pub(crate) heaps: u8,
+    pub(crate) rule: Rule,
+    // The count that the book began with.
+    pub(crate) opening: u64,
+    // How many parts of the table are no pass's.
+    pub(crate) spare: u64,
+}
+
+impl Room {
+    /// Locks the heap, and begins a call there, with the stamp after those of the heap and of the pass: the tail is cut
+    /// where it is long, and the stamp raised. Where the lock is worn, or that stamp would be past the last one, the
+    /// seat comes back, and nothing has changed.
+    pub(crate) fn begin<R: Wait>(
+        &self,
+        rt: &R,
+        seat: Seat<Kept>,
+        floor: u64,
+    ) -> Result<(Held<Kept>, u64), Seat<Kept>>
+        requires lock { lock_of seat ≡ id_of self.now.lock }
+        requires seen { IfSome (seen seat) (IsOf self.now) }
+        ensures lock { IfOk result (λ begun. held_lock begun.0 ≡ id_of self.now.lock) }
+        ensures bounded { IfOk result (λ begun. begun.1 ≤ LAST_STAMP) }
+        ensures begun { IfOk result (λ begun. IfSome (given begun.0) (IsBegun self.now (seen seat) floor begun.1 (value_of begun.0))) }
+        ensures refused { IfErr result (λ back. (lock_of back ≡ id_of self.now.lock) × IfSome (seen back) (IsOf self.now) × IfSome (seen back) (λ x. FollowsSeen Follows x (seen seat))) }
+    {
+        match self.lock.lock(rt, seat) {
+            Ok(held) => self.date(held, floor),
+            Err((_, seat)) => Err(seat),
+        }
+    }
+
+    /// Begins a call in a heap that was just locked, or puts it home.
+    #[tactic(auto, unfolding(zq_journal::specs::Books::LAST_STAMP))]
+    fn date(&self, mut held: Held<Kept>, floor: u64) -> Result<(Held<Kept>, u64), Seat<Kept>>
+        requires lock { held_lock held ≡ id_of self.now.lock }
+        requires given { given held ≡ Some (value_of held) }
+        requires of { IsOf self.now (value_of held) }
+        requires home { IsAtHome (value_of held) }
+        ensures lock { IfOk result (λ begun. held_lock begun.0 ≡ id_of self.now.lock) }
+        ensures bounded { IfOk result (λ begun. begun.1 ≤ LAST_STAMP) }
+        ensures given { IfOk result (λ begun. given begun.0 ≡ Some (value_of held)) }
+        ensures begun { IfOk result (λ begun. begun.1 ≡ max floor (value_of held).book.stamp + 1) }
+        ensures worked { IfOk result (λ begun. IsWorked (value_of begun.0).book (value_of held).book begun.1 []) }
+        ensures total { IfOk result (λ begun. (value_of begun.0).total ≡ (value_of held).total) }
+        ensures refused { IfErr result (λ back. (lock_of back ≡ id_of self.now.lock) × (seen back ≡ Some (value_of held))) }
+    {
+        let last = u64::max(floor, held.value().book.stamp());
+        if last >= LAST {
+            return Err(self.lock.unlock(held));
+        }
+        held.value_mut().begin(last + 1);
+        Ok((held, last + 1))
+    }
+
+    /// Counts a step for each record and each merge that was made since the total was right.
+    fn count_up(&self, kept: &mut Kept, count: &mut Count)
+        requires own { (tally.count_table count.old ≡ tally.id_of self.now.tally) × (tally.total_table kept.old.total ≡ tally.id_of self.now.tally) }
+        requires behind { self.now.opening + tally.total_of kept.old.total ≤ kept.old.book.count }
+        ensures counted { IsCounted self.now kept.new kept.old }
+        ensures steps { tally.steps_of count.new + self.now.opening + tally.total_of kept.old.total ≡ tally.steps_of count.old + kept.old.book.count }
+        ensures table { tally.count_table count.new ≡ tally.count_table count.old }
+    {
+        let made = kept.book.count() - self.opening - kept.total.steps();
+        for _step in 0..made {
+            self.tally.step(count, &mut kept.total);
+        }
+    }
+
+    /// Puts the heap home after a call of this stamp, and counts the call's steps. The seat has then seen the heap.
+    pub(crate) fn end(&self, mut held: Held<Kept>, count: &mut Count) -> Seat<Kept>
+        requires lock { held_lock held ≡ id_of self.now.lock }
+        requires own { tally.count_table count.old ≡ tally.id_of self.now.tally }
+        requires worked { IfSome (given held) (IsWorkedOn self.now (value_of held)) }
+        ensures lock { lock_of result ≡ id_of self.now.lock }
+        ensures table { tally.count_table count.new ≡ tally.count_table count.old }
+        ensures seen { HasSeen result (λ y. (y.book ≡ (value_of held).book) × IsOf self.now y) }
+        ensures steps { tally.steps_of count.new + self.now.opening + tally.total_of (value_of held).total ≡ tally.steps_of count.old + (value_of held).book.count }
+    {
+        held.was_given();
+        self.count_up(held.value_mut(), count);
+        self.lock.unlock(held)
+    }
+}

@@ -1,0 +1,12 @@
+//! A site, its type.
+
+use crate::room::Room;
+use zq_dots::{Rule, SiteNo};
+
+/// A site of several heaps. Threads use it side by side, each by a pass of its own.
+#[derive(Drop)]
+pub struct Site {
+    pub(crate) number: SiteNo,
+    pub(crate) rule: Rule,
+    pub(crate) rooms: Vec<Room>,
+}

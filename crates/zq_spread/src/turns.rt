@@ -1,0 +1,69 @@
+//! How a call begins and ends in one heap.
+ghost use Rattle.std.specs.Prelude.{◌≡◌, ◌≤◌, ◌<◌, ◌+◌, IfOk, IfSome, OnErr, OnOk, Some, length, slice_get, ℕ};
+ghost use Rattle.zq_journal.specs.Books.{LAST_STAMP};
+ghost use Rattle.zq_spread.specs.Passes.{IsPassBut, IsPassOf, IsStopped, seen_at, steps_at};
+ghost use Rattle.zq_spread.specs.Rooms.{IsBegun, IsWorkedOn};
+ghost use Rattle.zq_spread.specs.declared.kept.Kept.{Kept as Value};
+ghost use Rattle.zq_spread.specs.declared.room.Room.{Room};
+ghost use Rattle.zq_ticketlock.specs.Seats.{id_of, held_lock, given, value_of};
+
+use crate::kept::Kept;
+use crate::pass::Pass;
+use crate::site::Site;
+use std::sync::Wait;
+use zq_ticketlock::{Held, Worn};
+
+impl Site {
+    /// Begins a call in one heap, as `Room::begin` does. The pass has no seat there until the call ends.
+    pub(crate) fn begin_in<R: Wait>(
+        &self,
+        rt: &R,
+        pass: &mut Pass,
+        heap: usize,
+    ) -> Result<(Held<Kept>, u64), Worn>
+        requires pass { IsPassOf self.now pass.old }
+        requires heap { heap < length self.now.rooms.items }
+        ensures pass { OnOk result (IsPassBut self.now heap pass.new) }
+        ensures bounded { IfOk result (λ begun. begun.1 ≤ LAST_STAMP) }
+        ensures lock { IfOk result (λ begun. (room : Room) → slice_get self.now.rooms.items heap ≡ Some room → held_lock begun.0 ≡ id_of room.lock) }
+        ensures begun { IfOk result (λ begun. (room : Room) → slice_get self.now.rooms.items heap ≡ Some room →
+            IfSome (given begun.0) (IsBegun room (seen_at pass.old heap) pass.old.stamp begun.1 (value_of begun.0))) }
+        ensures others { OnOk result ((k : ℕ) → (k ≡ heap → ⊥) → seen_at pass.new k ≡ seen_at pass.old k) }
+        ensures steps { OnOk result ((k : ℕ) → steps_at pass.new k ≡ steps_at pass.old k) }
+        ensures refused { OnErr result (IsPassOf self.now pass.new × IsStopped pass.old pass.new) }
+    {
+        let Some(seat) = pass.seats[heap].take() else {
+            unreachable!()
+        };
+        match self.rooms[heap].begin(rt, seat, pass.stamp) {
+            Ok(begun) => Ok(begun),
+            Err(seat) => {
+                pass.seats[heap] = Some(seat);
+                Err(Worn)
+            }
+        }
+    }
+
+    /// Ends a call in one heap, as `Room::end` does. The pass has its seat there again, the steps that the call made, and
+    /// the call's stamp.
+    pub(crate) fn end_in(&self, pass: &mut Pass, heap: usize, held: Held<Kept>, stamp: u64)
+        requires pass { IsPassBut self.now heap pass.old }
+        requires heap { heap < length self.now.rooms.items }
+        requires stamp { stamp ≤ LAST_STAMP }
+        requires lock { (room : Room) → slice_get self.now.rooms.items heap ≡ Some room → held_lock held ≡ id_of room.lock }
+        requires worked { (room : Room) → slice_get self.now.rooms.items heap ≡ Some room → IfSome (given held) (IsWorkedOn room (value_of held)) }
+        ensures pass { IsPassOf self.now pass.new }
+        ensures stamp { pass.new.stamp ≡ stamp }
+        ensures seen { (left : Value) × (seen_at pass.new heap ≡ Some left) × (left.book ≡ (value_of held).book) }
+        ensures steps { IfSome (given held) (λ found. steps_at pass.new heap + found.book.count ≡ steps_at pass.old heap + (value_of held).book.count) }
+        ensures others { (k : ℕ) → (k ≡ heap → ⊥) → (seen_at pass.new k ≡ seen_at pass.old k) × (steps_at pass.new k ≡ steps_at pass.old k) }
+    {
+        let Some(mut count) = pass.counts[heap].take() else {
+            unreachable!()
+        };
+        let seat = self.rooms[heap].end(held, &mut count);
+        pass.counts[heap] = Some(count);
+        pass.seats[heap] = Some(seat);
+        pass.stamp = stamp;
+    }
+}
