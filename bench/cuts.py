@@ -40,7 +40,7 @@ def cut(seed):
 
 
 def main():
-    data = streams.stream("mixed", 7, 30000, 500)[:1 << 20]
+    data = streams.stream("mixed", 7, 30000, 500)[1][:1 << 20]
     whole = fed(data, iter([len(data)]))
     seeds = [int(word) for word in sys.argv[1:]] or [1, 2, 3]
     differ = [seed for seed in seeds if fed(data, cut(seed)) != whole]

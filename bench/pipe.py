@@ -1,6 +1,7 @@
 #!/usr/bin/env python3
 """Times `./zqueue pipe` on streams made from a seed, in alternation with redis-server over loopback, where it is
-there, and with the yardstick in C, and prints the medians and their ratios.
+there, and with the yardstick in C, and prints the medians and their ratios. One loader, feed.c, feeds them all. Needs a C
+compiler.
 
 Usage: bench/pipe.py [--seed N] [--requests N] [--members N] [--rounds N] [KIND ..]
 The kinds are those of streams.py. Numbers are of one run on one machine: only the ratios are worth a comparison.
@@ -26,6 +27,32 @@ def run_program(command, data):
     begin = time.perf_counter()
     done = subprocess.run(command, input=data, stdout=subprocess.PIPE, check=True)
     return time.perf_counter() - begin, done.stdout
+
+
+def compiled(name, folder):
+    """The path of a compiled program of this folder."""
+    compiler = shutil.which("cc")
+    if compiler is None:
+        sys.exit("pipe.py: there is no C compiler (cc)")
+    path = pathlib.Path(folder) / name
+    subprocess.run([compiler, "-O2", "-o", path, ROOT / "bench" / f"{name}.c"], check=True)
+    return path
+
+
+class Feed:
+    """The loader: it feeds two streams, one after the other, and times the second."""
+
+    def __init__(self, folder):
+        self.program = compiled("feed", folder)
+        self.paths = [pathlib.Path(folder) / "first", pathlib.Path(folder) / "second"]
+
+    def take(self, streams_fed):
+        for path, data in zip(self.paths, streams_fed):
+            path.write_bytes(data)
+
+    def seconds(self, *to):
+        command = [self.program, *self.paths, *map(str, to)]
+        return float(subprocess.run(command, stdout=subprocess.PIPE, check=True).stdout)
 
 
 class Redis:
@@ -65,31 +92,28 @@ class Redis:
             sender.join()
             return seconds
 
+    def clear(self):
+        """Forgets all keys."""
+        with socket.create_connection(("127.0.0.1", self.port)) as link:
+            link.sendall(streams.request(b"FLUSHALL"))
+            link.recv(100)
+
     def stop(self):
         self.server.terminate()
         self.server.wait()
 
 
-def yardstick(folder):
-    """The path of the compiled yardstick, or None without a C compiler."""
-    compiler = shutil.which("cc")
-    if compiler is None:
-        return None
-    path = pathlib.Path(folder) / "yardstick"
-    subprocess.run([compiler, "-O2", "-o", path, ROOT / "bench" / "yardstick.c"], check=True)
-    return path
-
-
-def measure(kind, options, redis, stick):
+def measure(kind, options, feed, redis, stick):
     """Times one kind of stream and prints its line."""
-    data = streams.stream(kind, options.seed, options.requests, options.members)
+    first, data = streams.stream(kind, options.seed, options.requests, options.members)
+    feed.take((first, data))
     times = {"zqueue": [], "redis": [], "yardstick": []}
     for _ in range(options.rounds):
-        times["zqueue"].append(run_program([ROOT / "zqueue", "pipe"], data)[0])
+        times["zqueue"].append(feed.seconds("program", ROOT / "crates" / "zqueue" / "out" / "zqueue", "pipe"))
         if redis:
-            times["redis"].append(redis.run(data))
-        if stick:
-            times["yardstick"].append(run_program([stick], data)[0])
+            redis.clear()
+            times["redis"].append(feed.seconds("port", redis.port))
+        times["yardstick"].append(feed.seconds("program", stick))
     medians = {name: statistics.median(all) for name, all in times.items() if all}
     line = f"{kind}: {options.requests} requests, {len(data)} bytes"
     for name, seconds in medians.items():
@@ -113,13 +137,13 @@ def main():
             parser.error(f"{kind}: no such kind of stream")
     run_program([ROOT / "zqueue", "pipe"], b"")
     with tempfile.TemporaryDirectory() as folder:
-        stick = yardstick(folder)
+        feed, stick = Feed(folder), compiled("yardstick", folder)
         redis = Redis(folder) if shutil.which("redis-server") else None
         if redis is None:
             print("redis-server is not there (Debian's package redis-server): no ratio to it")
         try:
             for kind in options.kinds or streams.KINDS:
-                measure(kind, options, redis, stick)
+                measure(kind, options, feed, redis, stick)
         finally:
             if redis:
                 redis.stop()

@@ -42,11 +42,27 @@ def mixed(draw, members):
     return request(b"ZADD", b"board", b"1.5", member)
 
 
-KINDS = {"unknown": unknown, "adds": adds, "scores": scores, "mixed": mixed}
+def looks(draw, members):
+    """The score of a member."""
+    return request(b"ZSCORE", b"board", b"m%d" % draw.randrange(members))
+
+
+def load(draw, members):
+    """A score for each member, in no order."""
+    order = list(range(members))
+    draw.shuffle(order)
+    return b"".join(request(b"ZADD", b"board", b"%d" % draw.randrange(1000000), b"m%d" % member) for member in order)
+
+
+KINDS = {"unknown": unknown, "adds": adds, "scores": scores, "mixed": mixed, "updates": adds, "looks": looks}
+
+# Before these each member is there.
+LOADED = {"updates", "looks"}
 
 
 def stream(kind, seed, requests, members):
-    """That many requests of a kind over that many members."""
+    """What goes before the requests of a kind over that many members, and that many requests."""
     draw = random.Random(seed)
+    first = load(draw, members) if kind in LOADED else b""
     make = KINDS[kind]
-    return b"".join(make(draw, members) for _ in range(requests))
+    return first, b"".join(make(draw, members) for _ in range(requests))

@@ -14,5 +14,7 @@ mod Woven
 mod Sections
 mod Runs
 mod VecBooks
+mod SitePlaces
+mod SiteRuns
 mod BookMoves
 mod ScoreBounds

@@ -11,3 +11,4 @@ pub mod Sections
 pub mod Commands
 pub mod VecBooks
 pub mod WorkedBooks
+pub mod SiteBooks

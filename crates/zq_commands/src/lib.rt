@@ -21,6 +21,7 @@ mod replies;
 mod running;
 mod scores;
 mod section;
+mod site_books;
 mod tops;
 mod totals;
 mod vec_books;
@@ -36,3 +37,7 @@ pub use reading::{read_count, read_rank, read_score, read_turned_rank, read_with
 pub use removing::drop_members;
 pub use replies::message_reply;
 pub use running::run;
+pub use site_books::SiteBooks;
+
+#[cfg(test)]
+mod tests;
