@@ -9,6 +9,7 @@
 mod changes;
 mod heap;
 pub mod laws;
+mod member;
 mod pairs;
 mod place;
 mod pos_heap;

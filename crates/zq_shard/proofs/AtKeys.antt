@@ -11,8 +11,7 @@ use Rattle.std.specs.declared.alloc.Global.{Global}
 use Rattle.zq_model.proofs.Maps as maps
 use Rattle.zq_model.specs.Image.{Entry}
 use Rattle.zq_model.specs.Rule.{Rule}
-use Rattle.zq_posheap.proofs.Entries.{has_text}
-use Rattle.zq_posheap.specs.Order.{same_key}
+use Rattle.zq_shard.proofs.Keys.{has_text, same_key}
 use Rattle.zq_queue.specs.Entries.{Entries, bytes_cmp}
 use Rattle.zq_queue.specs.Queued.{Queued}
 use Rattle.zq_shard.proofs.ByBytes.{found, others_twice, updated}

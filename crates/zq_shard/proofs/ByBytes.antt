@@ -11,8 +11,7 @@ use Rattle.std.specs.Ordering.{eq_by_cmp}
 use Rattle.std.specs.Prelude.{nat_eq}
 use Rattle.std.specs.declared.alloc.Global.{Global}
 use Rattle.zq_model.proofs.Maps as maps
-use Rattle.zq_posheap.proofs.Entries.{has_text}
-use Rattle.zq_posheap.specs.Order.{same_key}
+use Rattle.zq_shard.proofs.Keys.{has_text, same_key}
 use Rattle.zq_queue.specs.Entries.{bytes_cmp}
 use Rattle.zq_shard.specs.Queues.{HasAt, by_bytes}
 

@@ -18,7 +18,7 @@ use Rattle.std.specs.Ordering.{eq_by_cmp, is_lt, ordering_reverse}
 use Rattle.std.specs.Prelude.{Some, nat_eq, option_map, slice_get}
 use Rattle.std.specs.declared.alloc.Global.{Global}
 use Rattle.zq_posheap.proofs.Lists.{there_is}
-use Rattle.zq_posheap.specs.Order.{same_key}
+use Rattle.zq_shard.proofs.Keys.{same_key}
 use Rattle.zq_queue.specs.Entries.{bytes_cmp}
 use Rattle.zq_shard.specs.Listed.{lent_key}
 use Rattle.zq_shard.specs.Queues.{by_bytes}

@@ -1,3 +1,4 @@
+pub mod Keys
 pub mod ByBytes
 pub mod Members
 pub mod Gathering

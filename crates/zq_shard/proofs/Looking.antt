@@ -13,7 +13,7 @@ use Rattle.zq_model.specs.Queue.{queue_of}
 use Rattle.zq_model.specs.Rule.{Rule}
 use Rattle.zq_model.specs.Score.{score_of}
 use Rattle.zq_model.specs.Sets.{IsIn}
-use Rattle.zq_posheap.proofs.Entries.{has_text}
+use Rattle.zq_shard.proofs.Keys.{has_text}
 use Rattle.zq_queue.proofs.Helds.{score_of_nothing}
 use Rattle.zq_queue.proofs.Listeds.{listed_score, queue_listed}
 use Rattle.zq_queue.specs.Entries.{Entries, bytes_cmp, entry_in}

@@ -12,7 +12,7 @@ use Rattle.std.specs.Map.Iter.{TakesFirst}
 use Rattle.std.specs.Ordering.{eq_by_cmp}
 use Rattle.std.specs.declared.alloc.Global.{Global}
 use Rattle.zq_model.proofs.Maps as maps
-use Rattle.zq_posheap.specs.Order.{same_key}
+use Rattle.zq_shard.proofs.Keys.{same_key}
 use Rattle.zq_queue.specs.Entries.{bytes_cmp}
 use Rattle.zq_shard.proofs.Gathering.{fresh}
 use Rattle.zq_shard.specs.Queues.{by_bytes}
