@@ -1,3 +1,4 @@
+//! Why bytes are no frame.
 use std::alloc::AllocError;
 use zq_delta::OpFault;
 use zq_merge::StateFault;

@@ -1,3 +1,4 @@
+//! A frame, its type.
 use zq_dots::{Op, Rule, SiteNo, Vector};
 use zq_shard::Shard;
 

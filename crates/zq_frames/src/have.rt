@@ -1,4 +1,4 @@
-// What a site has: its heap, its number, its rule and its vector.
+//! What a site has: its heap, its number, its rule and its vector.
 
 ghost use Rattle.std.specs.Prelude.{◌≡◌, ◌≤◌, ◌++◌, ◌∷◌, IfOk, OnOk};
 ghost use Rattle.zq_dots.specs.Rule.{rule_of};

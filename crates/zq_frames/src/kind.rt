@@ -1,4 +1,4 @@
-// The kind of a frame.
+//! The kind of a frame.
 
 ghost use Rattle.std.specs.Prelude.{◌≡◌, ◌∷◌, IfOk};
 ghost use Rattle.zq_frames.specs.Answer.{Gives};

@@ -1,3 +1,4 @@
+//! The law of spellings.
 ghost use Rattle.std.specs.Prelude.{◌≡◌, ◌++◌, List, Ok, ℕ};
 ghost use Rattle.zq_frames.specs.Frame as model;
 ghost use Rattle.zq_frames.specs.Reading.{frame_at};

@@ -1,4 +1,4 @@
-// Operations, one after the other.
+//! Operations, one after the other.
 
 ghost use Rattle.std.specs.Prelude.{◌≡◌, ◌<◌, ◌^◌, ◌++◌, IfOk, OnOk, [], flat_map, length, map};
 ghost use Rattle.zq_frames.specs.Answer.{Answers};

@@ -1,3 +1,4 @@
+//! How a frame is read.
 ghost use Rattle.std.specs.Prelude.{◌≡◌, ◌∷◌, IfErr, IfOk, MatchResult, OnOk, [], Err};
 ghost use Rattle.zq_frames.specs.Answer.{Answers, IsOfMemory};
 ghost use Rattle.zq_frames.specs.Frame as model;

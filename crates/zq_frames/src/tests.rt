@@ -1,3 +1,4 @@
+//! Frames of an independent codec, and cut ones.
 ghost use Rattle.std.specs.Prelude.{◌≤◌};
 
 mod vectors;

@@ -1,3 +1,4 @@
+//! How a frame is written.
 ghost use Rattle.std.specs.Prelude.{◌≡◌, IfOk};
 ghost use Rattle.zq_frames.specs.Frame as model;
 ghost use Rattle.zq_frames.specs.Spelling.{frame_spelling, newest};

@@ -1,3 +1,4 @@
+//! Operations that came early.
 ghost use Rattle.std.specs.Prelude.{◌≡◌, ◌≢◌, ◌≤◌, ◌<◌, ◌+◌, ◌↔◌, [], IfNone, IfOk, IfSome, IsTrue, None, OnErr, Some, false, length, true};
 ghost use Rattle.zq_dots.specs.Placed.{IsRanged, Placed};
 ghost use Rattle.zq_model.specs.Sets as sets;
