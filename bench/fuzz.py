@@ -1,0 +1,163 @@
+#!/usr/bin/env python3
+"""Feeds drawn and mutated requests to `./zqueue pipe` and compares what is written, byte for byte, with a plain model
+(plain_model.py). It shows nothing that is not tried: the proofs are what carries the promises.
+
+    words   long streams in which words of requests are changed: numbers, flags and names that are none, words left out
+    bytes   short streams of which bytes are changed, left out, put in or cut off
+
+Usage: bench/fuzz.py [--seed N] [--requests N] [--sessions N]. It prints how much was tried. Where a stream is answered
+otherwise than by the model it is kept in fuzz-SEED-PART.bin, and the status is 1.
+"""
+import argparse
+import multiprocessing
+import pathlib
+import random
+import subprocess
+import sys
+import time
+
+import plain_model
+import streams
+
+ROOT = pathlib.Path(__file__).resolve().parent.parent
+KEYS = [b"q", b"board", b"", b"a\r\nb"]
+NUMBERS = [b"0", b"1", b"-1", b"+7", b"007", b"3.0", b"-2.000", b"1.5", b"", b"+", b".0", b"1.", b"nan", b"inf", b"-INF", b"(3",
+           b"((3", b"(-inf", b"9007199254740992", b"9007199254740993", b"-9007199254740992", b"9223372036854775807",
+           b"9223372036854775808", b"-9223372036854775808", b"1e3", b" 1", b"99999999999999999999999"]
+WORDS = [b"NX", b"xx", b"Gt", b"LT", b"ch", b"INCR", b"BYSCORE", b"rev", b"LIMIT", b"withscores", b"WITHSCORE", b"*", b"$1"]
+# How many requests a long stream has.
+STREAM = 20000
+
+
+def drawn_member(draw):
+    return b"m%d" % draw.randrange(60) if draw.randrange(20) else bytes(draw.randrange(256) for _ in range(draw.randrange(40)))
+
+
+def drawn_score(draw):
+    return b"%d" % draw.randrange(-20, 20) if draw.randrange(8) else draw.choice(NUMBERS)
+
+
+def drawn_bound(draw):
+    return draw.choice([b"", b"("]) + drawn_score(draw) if draw.randrange(4) else draw.choice([b"-inf", b"+inf", b"inf"])
+
+
+def drawn_range(draw):
+    if draw.randrange(2):
+        words = [drawn_bound(draw), drawn_bound(draw), b"BYSCORE"]
+        if draw.randrange(2):
+            words += [b"LIMIT", drawn_score(draw), drawn_score(draw)]
+    else:
+        words = [drawn_score(draw), drawn_score(draw)]
+    return words + [word for word in (b"REV", b"WITHSCORES") if draw.randrange(2)]
+
+
+def drawn_flags(draw):
+    return [word for word in (b"NX", b"XX", b"GT", b"LT", b"CH", b"INCR") if draw.randrange(7) == 0]
+
+
+def drawn_pairs(draw):
+    return [word for _ in range(1 + draw.randrange(3)) for word in (drawn_score(draw), drawn_member(draw))]
+
+
+def drawn_words(draw):
+    """The words of a request, most of them of one that is served."""
+    key = draw.choice(KEYS)
+    name = draw.choice([b"ZADD"] * 8 + [b"ZINCRBY", b"ZREM", b"ZSCORE", b"ZCARD", b"ZCOUNT", b"ZRANK", b"ZREVRANK", b"ZRANGE", b"ZRANGE",
+                                        b"ZPOPMIN", b"ZPOPNEAR", b"DEL", b"PING"])
+    rest = {
+        b"ZADD": lambda: [key, *drawn_flags(draw), *drawn_pairs(draw)],
+        b"ZINCRBY": lambda: [key, drawn_score(draw), drawn_member(draw)],
+        b"ZREM": lambda: [key, *(drawn_member(draw) for _ in range(1 + draw.randrange(3)))],
+        b"ZSCORE": lambda: [key, drawn_member(draw)],
+        b"ZCARD": lambda: [key],
+        b"ZCOUNT": lambda: [key, drawn_bound(draw), drawn_bound(draw)],
+        b"ZRANK": lambda: [key, drawn_member(draw)],
+        b"ZREVRANK": lambda: [key, drawn_member(draw)],
+        b"ZRANGE": lambda: [key, *drawn_range(draw)],
+        b"ZPOPMIN": lambda: [key] + [drawn_score(draw)] * draw.randrange(2),
+        b"ZPOPNEAR": lambda: [key],
+        b"DEL": lambda: [draw.choice(KEYS) for _ in range(1 + draw.randrange(2))] if draw.randrange(8) == 0 else [b"none"],
+        b"PING": lambda: [drawn_member(draw)] * draw.randrange(3),
+    }[name]()
+    return [draw.choice([name, name.lower()]), *rest]
+
+
+def mutated_words(draw, words):
+    """The same words, of which sometimes one is changed, left out, doubled or put in."""
+    if draw.randrange(6):
+        return words
+    at = draw.randrange(len(words))
+    kind = draw.randrange(4)
+    if kind == 0:
+        return words[:at] + [draw.choice(NUMBERS + WORDS)] + words[at + 1:]
+    if kind == 1:
+        return words[:at] + words[at + 1:]
+    if kind == 2:
+        return words[:at] + [words[at]] + words[at:]
+    return words[:at] + [draw.choice(NUMBERS + WORDS)] + words[at:]
+
+
+def mutated_bytes(draw, data):
+    """The same bytes with a few of them changed, left out, put in, or all cut off from one on."""
+    data = bytearray(data)
+    for _ in range(draw.randrange(4)):
+        if not data:
+            break
+        at = draw.randrange(len(data))
+        kind = draw.randrange(5)
+        if kind == 0:
+            data[at] = draw.randrange(256)
+        elif kind == 1:
+            del data[at]
+        elif kind == 2:
+            data.insert(at, draw.choice(b"*$\r\n0123456789-+"))
+        elif kind == 3:
+            data[at] ^= 1 << draw.randrange(8)
+        else:
+            del data[at:]
+    return bytes(data)
+
+
+def stream_of(draw, requests):
+    return b"".join(streams.request(*mutated_words(draw, drawn_words(draw))) for _ in range(requests))
+
+
+def answered(data):
+    """What the program writes for this input, and its status."""
+    done = subprocess.run([ROOT / "zqueue", "pipe"], input=data, stdout=subprocess.PIPE)
+    return done.stdout, done.returncode
+
+
+def tried(part):
+    """How many bytes one part is, and where they are kept if the program answers otherwise than the model."""
+    seed, number, requests = part
+    draw = random.Random(f"{seed} {number}")
+    data = stream_of(draw, requests) if requests else mutated_bytes(draw, stream_of(draw, 1 + draw.randrange(20)))
+    if answered(data) == plain_model.served(data):
+        return len(data), None
+    path = ROOT / f"fuzz-{seed}-{number}.bin"
+    path.write_bytes(data)
+    return len(data), path.name
+
+
+def main():
+    words = argparse.ArgumentParser(description=__doc__, formatter_class=argparse.RawDescriptionHelpFormatter)
+    words.add_argument("--seed", type=int, default=1)
+    words.add_argument("--requests", type=int, default=1000000, help="in long streams (1,000,000)")
+    words.add_argument("--sessions", type=int, default=2000, help="short streams (2,000)")
+    asked = words.parse_args()
+    started = time.monotonic()
+    longs = [min(STREAM, asked.requests - first) for first in range(0, asked.requests, STREAM)]
+    parts = [(asked.seed, number, requests) for number, requests in enumerate(longs + [0] * asked.sessions)]
+    with multiprocessing.Pool() as pool:
+        ended = pool.map(tried, parts, chunksize=1)
+    kept = [name for _, name in ended if name]
+    for name in kept:
+        print(f"fuzz: otherwise than the model: {name}", file=sys.stderr)
+    print(f"{asked.requests} requests in long streams and {asked.sessions} short ones, {sum(size for size, _ in ended)} bytes, in "
+          f"{time.monotonic() - started:.0f} s: {len(kept)} answered otherwise")
+    return 1 if kept else 0
+
+
+if __name__ == "__main__":
+    sys.exit(main())
