@@ -7,6 +7,7 @@ Usage: bench/pipe.py [--seed N] [--requests N] [--members N] [--rounds N] [KIND 
 The kinds are those of streams.py. Numbers are of one run on one machine: only the ratios are worth a comparison.
 """
 import argparse
+import os
 import pathlib
 import shutil
 import socket
@@ -50,8 +51,10 @@ class Feed:
         for path, data in zip(self.paths, streams_fed):
             path.write_bytes(data)
 
-    def seconds(self, *to):
-        command = [self.program, *self.paths, *map(str, to)]
+    def seconds(self, *to, loads=True):
+        """The seconds of the second stream. What keeps nothing needs no first one."""
+        first, second = self.paths
+        command = [self.program, first if loads else os.devnull, second, *map(str, to)]
         return float(subprocess.run(command, stdout=subprocess.PIPE, check=True).stdout)
 
 
@@ -113,7 +116,7 @@ def measure(kind, options, feed, redis, stick):
         if redis:
             redis.clear()
             times["redis"].append(feed.seconds("port", redis.port))
-        times["yardstick"].append(feed.seconds("program", stick))
+        times["yardstick"].append(feed.seconds("program", stick, loads=False))
     medians = {name: statistics.median(all) for name, all in times.items() if all}
     line = f"{kind}: {options.requests} requests, {len(data)} bytes"
     for name, seconds in medians.items():

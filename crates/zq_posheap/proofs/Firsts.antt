@@ -1,8 +1,8 @@
 -- The first of a list in order.
-use Rattle.std.specs.Prelude.{AllPairs, Contains, IsPermutation, List, Some, [], false, get_or, length, map, pos, slice_get, suc, take, zero, ℕ, ℤ, ◌++◌, ◌+◌, ◌<◌, ◌≤◌, ◌⊎◌, ◌≡◌, ◌≢◌, ◌∷◌}
+use Rattle.std.specs.Prelude.{AllPairs, Contains, IsPermutation, List, Some, [], false, get_or, length, map, pos, slice_get, suc, take, zero, ℕ, ℤ, ◌++◌, ◌+◌, ◌<◌, ◌⊎◌, ◌≡◌, ◌≢◌, ◌∷◌}
 use Rattle.std.proofs.Common.{ap, arith, inl, inr, refl, subst, sym, ◌∙◌}
 use Rattle.std.proofs.HeapSift.{ranks}
-use Rattle.std.proofs.lemmas.List.{append-nil, get_or-append-add, get_or_append_left, get_or_default, length-append, length-map, map-append, take_all}
+use Rattle.std.proofs.lemmas.List.{append-nil, get_or-append-add, get_or_append_left, get_or_default, length-append, length-map, map-append}
 use Rattle.std.proofs.lemmas.List.Elements.{Contains-append_cases, Contains-append_left}
 use Rattle.std.proofs.lemmas.List.Sorted.{Contains-permutation, IsPermutation-append_left, IsPermutation-map, IsPermutation-refl, IsPermutation-sym, IsPermutation-trans, length_permutation}
 use Rattle.std.proofs.lemmas.Map.Keys.{sorted_from_all_adjacent}

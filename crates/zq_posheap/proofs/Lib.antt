@@ -1,3 +1,4 @@
+pub mod ByWords
 pub mod Lists
 pub mod Linked
 pub mod Ordered

@@ -1,5 +1,5 @@
 -- What the map's entries list, and what follows for its scores in order.
-use Rattle.std.specs.Prelude.{Bool, Contains, IsPermutation, List, Some, Vec, [], cond, count_by, false, get_or, length, map, nat_eq, option_map, pos, slice_get, true, zip, ℕ, ℤ, ◌++◌, ◌+◌, ◌<◌, ◌≡◌, ◌∷◌}
+use Rattle.std.specs.Prelude.{Bool, Contains, IsPermutation, List, Some, [], cond, count_by, false, get_or, length, map, nat_eq, option_map, pos, slice_get, true, zip, ℕ, ℤ, ◌++◌, ◌+◌, ◌<◌, ◌≡◌, ◌∷◌}
 use Rattle.std.proofs.Common.{ap, append_assoc, arith, refl, subst, sym, zero-add, ◌∙◌}
 use Rattle.std.proofs.lemmas.List.{length-map, map-append}
 use Rattle.std.proofs.lemmas.List.Sorted.{IsPermutation-map}
@@ -23,26 +23,26 @@ use Rattle.zq_posheap.specs.InOrder.{ListsInOrder}
 use Rattle.zq_posheap.specs.Listing.{IsListing, Row, entry_row, lent_pair, scored_of}
 use Rattle.zq_posheap.specs.Members.{Entries, Scores, scores_of}
 use Rattle.zq_posheap.specs.Moves.{shown}
-use Rattle.zq_posheap.specs.Order.{Scored, same_key, scored_cmp, texts_of}
+use Rattle.zq_posheap.specs.Order.{Scored, same_key, scored_cmp}
 use Rattle.zq_posheap.specs.declared.heap.Held.{Held}
 
-module _ {V Z : Type 0} where
-  apart_from : (q : List ℕ) (es : List (Vec ℕ Z × Held V)) → AllByRecursion (λ key. pointwise nat_eq q key.items ≡ false) (keys_of es) →
+module _ {V : Type 0} where
+  apart_from : (q : List ℕ) (es : List (List ℕ × Held V)) → AllByRecursion (λ key. pointwise nat_eq q key ≡ false) (keys_of es) →
       AllByRecursion (λ member. pointwise nat_eq q member ≡ false) (members (map entry_row es))
   apart_from q [] all = tt
   apart_from q (e ∷ es) all = (all.0, apart_from q es all.1)
 
-  distinct_members : (es : List (Vec ℕ Z × Held V)) → IsDistinct same_key (keys_of es) → IsDistinct (pointwise nat_eq) (members (map entry_row es))
+  distinct_members : (es : List (List ℕ × Held V)) → IsDistinct same_key (keys_of es) → IsDistinct (pointwise nat_eq) (members (map entry_row es))
   unfolding IsDistinct
   distinct_members [] distinct = tt
-  distinct_members (e ∷ es) distinct = (apart_from e.0.items es distinct.0, distinct_members es distinct.1)
+  distinct_members (e ∷ es) distinct = (apart_from e.0 es distinct.0, distinct_members es distinct.1)
 
-  as_entries : (es : List (Vec ℕ Z × Held V)) → map entry_of (map entry_row es) ≡ zip (texts_of (keys_of es)) (map shown (values_of es))
+  as_entries : (es : List (List ℕ × Held V)) → map entry_of (map entry_row es) ≡ zip (keys_of es) (map shown (values_of es))
   as_entries [] = refl
-  as_entries (e ∷ es) = ap (λ xs. (e.0.items, shown e.1) ∷ xs) (as_entries es)
+  as_entries (e ∷ es) = ap (λ xs. (e.0, shown e.1) ∷ xs) (as_entries es)
 
   -- the entries' rows are the map's
-  pub listed : (es : List (Vec ℕ Z × Held V)) → IsDistinct same_key (keys_of es) → IsListing (seen_in shown es) (map entry_row es)
+  pub listed : (es : List (List ℕ × Held V)) → IsDistinct same_key (keys_of es) → IsListing (seen_in shown es) (map entry_row es)
   listed es distinct = subst (λ m. IsListing m (map entry_row es)) (ap from_entries (as_entries es))
       (listing (map entry_row es) (are_apart (map entry_row es) (distinct_members es distinct)))
 

@@ -6,12 +6,12 @@ use Rattle.std.proofs.Common.{refl, ◌∙◌}
 use Rattle.std.proofs.lemmas.List.{length-map}
 use Rattle.indexmap.specs.IndexMap.{keys}
 use Rattle.zq_posheap.specs.Moves.{IsLinkedHeap, OnlyMoves, queue_of}
-use Rattle.zq_posheap.specs.Order.{scored_at, texts_of}
+use Rattle.zq_posheap.specs.Order.{scored_at}
 use Rattle.zq_posheap.specs.declared.heap.Heap.{Heap}
 
 module _ {V : Type 0} where
   pub long : (heap : Heap V) → length (queue_of heap) ≡ length heap.slots.items
-  long heap = length-map heap.slots.items (scored_at (texts_of (keys heap.members)))
+  long heap = length-map heap.slots.items (scored_at (keys heap.members))
 
   pub stays : (heap : Heap V) → IsLinkedHeap heap → OnlyMoves heap heap
   stays heap linked = record { linked = linked; members = refl; shown = refl; len = refl; room = refl }
@@ -27,4 +27,4 @@ module _ {V : Type 0} where
 
   -- moved places leave what is seen
   pub same_entries : (a b : Heap V) → OnlyMoves a b → entries_map b ≡ entries_map a
-  same_entries a b moves = λ k. from_entries (zip (texts_of (moves.members k)) (moves.shown k))
+  same_entries a b moves = λ k. from_entries (zip (moves.members k) (moves.shown k))

@@ -1,15 +1,14 @@
 -- The map's entries without one, in whose place the last came.
-use Rattle.std.specs.Prelude.{IfSome, List, Option, Some, Vec, [], get_or, length, map, option_map, slice_get, swap_remove, ℕ, ◌+◌, ◌-◌, ◌<◌, ◌≡◌, ◌≢◌}
+use Rattle.std.specs.Prelude.{IfSome, List, Option, Some, [], get_or, length, map, option_map, slice_get, swap_remove, ℕ, ◌+◌, ◌-◌, ◌<◌, ◌≡◌, ◌≢◌}
 use Rattle.std.proofs.Common.{ap, arith, subst, sym, ◌∙◌}
 use Rattle.std.proofs.lemmas.List.{length-map, length-set, length-take-le}
 use Rattle.std.proofs.lemmas.Option.{slice_get-map}
 use Rattle.std.specs.Map.{keys_of, values_of}
 use Rattle.zq_posheap.proofs.Lists.{get_or_same, swap_remove_here, swap_remove_other, there_is}
-use Rattle.zq_posheap.specs.Order.{texts_of}
 
-module _ {Z W : Type 0} (es es' : List (Vec ℕ Z × W)) (i n : ℕ) (r : Option (Vec ℕ Z × W)) (long : length es ≡ n + 1) (within : i < n + 1)
+module _ {W : Type 0} (es es' : List (List ℕ × W)) (i n : ℕ) (r : Option (List ℕ × W)) (long : length es ≡ n + 1) (within : i < n + 1)
     (entry : r ≡ slice_get es i) (entries : IfSome r (λ p. es' ≡ swap_remove es i p)) where
-  gone : (p : Vec ℕ Z × W) × (slice_get es i ≡ Some p)
+  gone : (p : List ℕ × W) × (slice_get es i ≡ Some p)
   gone = there_is es i (omega arith)
 
   -- the entry that goes
@@ -17,7 +16,7 @@ module _ {Z W : Type 0} (es es' : List (Vec ℕ Z × W)) (i n : ℕ) (r : Option
   gone_entry = entry ∙ gone.1
 
   is : es' ≡ swap_remove es i gone.0
-  is = subst (λ (o : Option (Vec ℕ Z × W)). IfSome o (λ p. es' ≡ swap_remove es i p)) gone_entry entries
+  is = subst (λ (o : Option (List ℕ × W)). IfSome o (λ p. es' ≡ swap_remove es i p)) gone_entry entries
 
   others : (j : ℕ) → j ≢ i → j < n → slice_get es' j ≡ slice_get es j
   others j apart inside = ap (λ fs. slice_get fs j) is ∙ swap_remove_other es i j gone.0 apart (omega arith)
@@ -45,13 +44,13 @@ module _ {Z W : Type 0} (es es' : List (Vec ℕ Z × W)) (i n : ℕ) (r : Option
     pub seen_here : i < n → slice_get (map f (values_of es')) i ≡ slice_get (map f (values_of es)) n
     seen_here inside = same_seen i n (here inside)
 
-  text_map : (fs : List (Vec ℕ Z × W)) (j : ℕ) → slice_get (texts_of (keys_of fs)) j ≡ option_map (λ key. key.items) (option_map (λ e. e.0) (slice_get fs j))
-  text_map fs j = slice_get-map (λ key. key.items) (keys_of fs) j ∙ ap (option_map (λ key. key.items)) (slice_get-map (λ e. e.0) fs j)
+  text_map : (fs : List (List ℕ × W)) (j : ℕ) → slice_get (keys_of fs) j ≡ option_map (λ e. e.0) (slice_get fs j)
+  text_map fs j = slice_get-map (λ e. e.0) fs j
 
-  pub other_texts : (j : ℕ) → j ≢ i → j < n → get_or (texts_of (keys_of es')) j [] ≡ get_or (texts_of (keys_of es)) j []
+  pub other_texts : (j : ℕ) → j ≢ i → j < n → get_or (keys_of es') j [] ≡ get_or (keys_of es) j []
   other_texts j apart inside = get_or_same _ _ j j []
-      (text_map es' j ∙ ap (λ o. option_map (λ key. key.items) (option_map (λ e. e.0) o)) (others j apart inside) ∙ sym (text_map es j))
+      (text_map es' j ∙ ap (option_map (λ e. e.0)) (others j apart inside) ∙ sym (text_map es j))
 
-  pub text_here : i < n → get_or (texts_of (keys_of es')) i [] ≡ get_or (texts_of (keys_of es)) n []
+  pub text_here : i < n → get_or (keys_of es') i [] ≡ get_or (keys_of es) n []
   text_here inside = get_or_same _ _ i n []
-      (text_map es' i ∙ ap (λ o. option_map (λ key. key.items) (option_map (λ e. e.0) o)) (here inside) ∙ sym (text_map es n))
+      (text_map es' i ∙ ap (option_map (λ e. e.0)) (here inside) ∙ sym (text_map es n))

@@ -11,16 +11,16 @@ use Rattle.std.specs.declared.cmp.Ordering.TheVariants.{Equal}
 use Rattle.std.specs.Ordering.{int_cmp, is_lt, nat_cmp}
 use Rattle.std.proofs.lemmas.Option.{slice_get-map, get_or_from_slice_get}
 use Rattle.std.specs.Map.{keys_of}
-use Rattle.std.specs.Prelude.{List, Some, Vec, [], ◌++◌, ◌∷◌, ◌+◌, ◌<◌, ℤ, get_or, length, slice_set, option_map, slice_get, ℕ, ◌≡◌, Bool}
+use Rattle.std.specs.Prelude.{List, Some, [], ◌++◌, ◌∷◌, ◌+◌, ◌<◌, ℤ, get_or, length, slice_set, option_map, slice_get, ℕ, ◌≡◌, Bool}
 use Rattle.zq_posheap.specs.declared.heap.Slot.{Slot}
 use Rattle.std.proofs.Common.{◌∙◌, arith, sym, subst, ap, refl}
-use Rattle.zq_posheap.specs.Order.{Scored, scored_at, scored_slots, texts_of, turned_cmp}
+use Rattle.zq_posheap.specs.Order.{Scored, scored_at, scored_slots, turned_cmp}
 
 -- the member of a map's entry, among the members' bytes
-pub text_there : {Z X : Type 0} (es : List (Vec ℕ Z × X)) (i : ℕ) (k : Vec ℕ Z) (v : X) → slice_get es i ≡ Some (k, v) → k.items ≡ get_or (texts_of (keys_of es)) i []
+pub text_there : {X : Type 0} (es : List (List ℕ × X)) (i : ℕ) (k : List ℕ) (v : X) → slice_get es i ≡ Some (k, v) → k ≡ get_or (keys_of es) i []
 text_there es i k v at =
     let key : slice_get (keys_of es) i ≡ Some k = slice_get-map (λ e. e.0) es i ∙ ap (option_map (λ e. e.0)) at in
-    sym (get_or_from_slice_get (texts_of (keys_of es)) i k.items [] (slice_get-map (λ key. key.items) (keys_of es) i ∙ ap (option_map (λ key. key.items)) key))
+    sym (get_or_from_slice_get (keys_of es) i k [] key)
 
 -- what stands at a place of the heap
 pub scored_there : (members : List (List ℕ)) (slots : List Slot) (p : ℕ) (s : Slot) (d : Scored) → slice_get slots p ≡ Some s → get_or (scored_slots members slots) p d ≡ scored_at members s

@@ -1,5 +1,5 @@
 -- The scores of a map of scores and values.
-use Rattle.std.specs.Prelude.{FitsSigned, List, None, Option, Some, Vec, [], map, option_map, ℕ, ℤ, ◌∷◌, ◌≡◌, cond}
+use Rattle.std.specs.Prelude.{FitsSigned, List, None, Option, Some, [], map, option_map, ℕ, ℤ, ◌∷◌, ◌≡◌, cond}
 use Rattle.std.proofs.Common.{ap, refl, subst, sym, ◌∙◌}
 use Rattle.std.proofs.lemmas.Cmp.{nat_list_cmp_total}
 use Rattle.std.specs.Cmp.Lexicographic.{slice_cmp}
@@ -29,7 +29,7 @@ option_map-twice f h None = refl
 option_map-twice f h (Some x) = refl
 
 -- the scores seen with the values are the scores
-pub scores_of_seen : {V Z : Type 0} (es : List (Vec ℕ Z × Held V)) → scores_of (seen_in shown es) ≡ seen_in (λ w. w.score) es
+pub scores_of_seen : {V : Type 0} (es : List (List ℕ × Held V)) → scores_of (seen_in shown es) ≡ seen_in (λ w. w.score) es
 scores_of_seen es = same_map nat_list_cmp_total bytes_antisymmetric _ _ (λ q.
     get-scores_of (seen_in shown es) q ∙ ap (option_map (λ e. e.0)) (get-seen shown es q)
     ∙ option_map-twice shown (λ e. e.0) (lookup (has_text q) es) ∙ sym (get-seen (λ w. w.score) es q))

@@ -1,5 +1,5 @@
 -- What stands between two places of a list in order.
-use Rattle.std.specs.Prelude.{AllPairs, Contains, IsPermutation, List, [], cond, drop, false, get_or, length, map, min, suc, take, true, ℕ, ℤ, ◌++◌, ◌+◌, ◌-◌, ◌<◌, ◌≤◌, ◌⊎◌, ◌≡◌, ◌≢◌, ◌∷◌}
+use Rattle.std.specs.Prelude.{AllPairs, Contains, IsPermutation, List, [], cond, drop, false, length, map, min, take, true, ℕ, ℤ, ◌++◌, ◌+◌, ◌-◌, ◌<◌, ◌≤◌, ◌⊎◌, ◌≡◌, ◌≢◌, ◌∷◌}
 use Rattle.std.proofs.Common.{ap, append_assoc, arith, inl, inr, refl, subst, sym, true≢false, ◌∙◌}
 use Rattle.std.proofs.HeapSift.{ranks}
 use Rattle.std.proofs.lemmas.List.{drop-append-le, drop-take, drop_all, get_or-append-add, get_or-take, length-append, length-drop, length-map, length-take, map-append, nil_from_length, same_lists}

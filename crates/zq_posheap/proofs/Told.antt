@@ -1,6 +1,6 @@
 -- A member that is told of its new position, or of its new score and value.
 use Rattle.std.specs.Map.{values_of}
-use Rattle.std.specs.Prelude.{List, Some, Vec, [], ◌++◌, ◌∷◌, map, slice_get, slice_set, ℕ, ℤ, ◌<◌, ◌≡◌}
+use Rattle.std.specs.Prelude.{List, Some, [], ◌++◌, ◌∷◌, map, slice_get, slice_set, ℕ, ℤ, ◌<◌, ◌≡◌}
 use Rattle.std.proofs.Common.{ap, arith, refl, ◌∙◌}
 use Rattle.std.proofs.lemmas.List.{length-map, map-append, map-set}
 use Rattle.std.proofs.lemmas.Map.Entries.{length-values_of}
@@ -13,7 +13,7 @@ use Rattle.zq_posheap.specs.Links.{Link, link_of}
 use Rattle.zq_posheap.specs.Moves.{shown}
 use Rattle.zq_posheap.specs.declared.heap.Held.{Held}
 
-module _ {Z V S : Type 0} (m n : IndexMap (Vec ℕ Z) (Held V) S) (i : ℕ) where
+module _ {V S : Type 0} (m n : IndexMap (List ℕ) (Held V) S) (i : ℕ) where
   -- a link is that of an entry
   pub link_within : (w : Link) → slice_get (map link_of (values m)) i ≡ Some w → i < index_map_len m
   link_within w here = omega (arith, slice_get_within (map link_of (values m)) i w here, length-map (values m) link_of, length-values_of m.entries)
@@ -43,7 +43,7 @@ module _ {Z V S : Type 0} (m n : IndexMap (Vec ℕ Z) (Held V) S) (i : ℕ) wher
     told_spare = ap spare is
 
 -- what is seen of the members after a write at an index
-pub written_seen : {Z W Y S : Type 0} (f : W → Y) (m n : IndexMap (Vec ℕ Z) W S) (i : ℕ) (w : W) → n ≡ with_value_at m i w → map f (values n) ≡ slice_set (map f (values m)) i (f w)
+pub written_seen : {W Y S : Type 0} (f : W → Y) (m n : IndexMap (List ℕ) W S) (i : ℕ) (w : W) → n ≡ with_value_at m i w → map f (values n) ≡ slice_set (map f (values m)) i (f w)
 written_seen f m n i w is = ap (map f) (ap values is ∙ set_value_at-values m.entries i w) ∙ map-set f (values m) i w
 
 -- what is kept of a member
@@ -51,5 +51,5 @@ abbrev pub held : {V : Type 0} → ℤ → ℕ → V → Held V
 held score position value = record { score = score; position = position; value = value }
 
 -- what is seen of the members once one more is there
-pub one_more_seen : {Z W Y : Type 0} (f : W → Y) (es es' : List (Vec ℕ Z × W)) (key : Vec ℕ Z) (w : W) → es' ≡ es ++ (key, w) ∷ [] → map f (values_of es') ≡ map f (values_of es) ++ f w ∷ []
+pub one_more_seen : {W Y : Type 0} (f : W → Y) (es es' : List (List ℕ × W)) (key : List ℕ) (w : W) → es' ≡ es ++ (key, w) ∷ [] → map f (values_of es') ≡ map f (values_of es) ++ f w ∷ []
 one_more_seen f es es' key w is = ap (λ xs. map f (values_of xs)) is ∙ ap (map f) (map-append (λ e. e.1) es ((key, w) ∷ [])) ∙ map-append f (values_of es) (w ∷ [])

@@ -1,3 +1,5 @@
+pub mod Hashing
+pub mod Kept
 pub mod Links
 pub mod Order
 pub mod Moves

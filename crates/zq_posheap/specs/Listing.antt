@@ -1,5 +1,5 @@
 -- A map's pairs, one after another.
-use Rattle.std.specs.Prelude.{AllPairs, Contains, FitsSigned, List, Some, Vec, slice_get, ℕ, ℤ, ◌↔◌, ◌≡◌, ◌≢◌}
+use Rattle.std.specs.Prelude.{AllPairs, Contains, FitsSigned, List, Some, slice_get, ℕ, ℤ, ◌↔◌, ◌≡◌, ◌≢◌}
 use Rattle.std.specs.Borrow.{Bor}
 use Rattle.std.specs.Cmp.Lexicographic.{slice_cmp}
 use Rattle.std.specs.FinMap.{FinMap, get}
@@ -21,8 +21,8 @@ abbrev pub lent_row : {V : Type 0} → (ℤ × Bor (List ℕ)) × Bor V → Row 
 lent_row row = ((row.0.0, row.1.now), row.0.1.now)
 
 -- the row of an entry of the map
-abbrev pub entry_row : {V Z : Type 0} → Vec ℕ Z × Held V → Row V
-entry_row entry = ((entry.1.score, entry.1.value), entry.0.items)
+abbrev pub entry_row : {V : Type 0} → List ℕ × Held V → Row V
+entry_row entry = ((entry.1.score, entry.1.value), entry.0)
 
 -- each score is a number of 128 bits
 abbrev pub AllInRange : {V : Type 0} → List (Row V) → Type 0

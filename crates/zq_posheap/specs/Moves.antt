@@ -2,13 +2,13 @@
 use Rattle.std.specs.Prelude.{List, [], ℕ, ℤ, min, ◌-◌, ◌≡◌, length, map, slice_index_or, vec_capacity}
 use Rattle.indexmap.specs.IndexMap.{keys, spare, values}
 use Rattle.zq_posheap.specs.Links.{IsLinked, Link, link_of}
-use Rattle.zq_posheap.specs.Order.{Scored, scored_slots, texts_of}
+use Rattle.zq_posheap.specs.Order.{Scored, scored_slots}
 use Rattle.zq_posheap.specs.declared.heap.Heap.{Heap}
 use Rattle.zq_posheap.specs.declared.heap.Held.{Held}
 
 -- the members with their scores, in the order of the heap
 abbrev pub queue_of : {V : Type 0} → Heap V → List Scored
-queue_of heap = scored_slots (texts_of (keys heap.members)) heap.slots.items
+queue_of heap = scored_slots (keys heap.members) heap.slots.items
 
 -- a member's score and value
 abbrev pub shown : {V : Type 0} → Held V → ℤ × V
@@ -24,7 +24,7 @@ links_of heap = map link_of (values heap.members)
 
 -- the member at an index of the map
 abbrev pub member_of : {V : Type 0} → Heap V → ℕ → List ℕ
-member_of heap index = slice_index_or (texts_of (keys heap.members)) index []
+member_of heap index = slice_index_or (keys heap.members) index []
 
 -- heap and map know each other
 abbrev pub IsLinkedHeap : {V : Type 0} → Heap V → Type 0

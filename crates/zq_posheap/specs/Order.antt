@@ -1,5 +1,5 @@
 -- The order of members with scores, and what the heap keeps of it.
-use Rattle.std.specs.Prelude.{Bool, List, Vec, nat_eq, ℕ, ℤ, [], map, slice_index_or}
+use Rattle.std.specs.Prelude.{Bool, List, nat_eq, ℕ, ℤ, [], map, slice_index_or}
 use Rattle.std.specs.Cmp.Lexicographic.{pointwise, slice_cmp}
 use Rattle.std.specs.Ordering.{int_cmp, nat_cmp, on, then_cmp}
 use Rattle.std.specs.declared.cmp.Ordering.{Ordering}
@@ -17,13 +17,9 @@ scored_cmp = then_cmp (on (λ x. x.0) int_cmp) (on (λ x. x.1) (slice_cmp nat_cm
 abbrev pub turned_cmp : Scored → Scored → Ordering
 turned_cmp x y = scored_cmp y x
 
--- the bytes of each key
-abbrev pub texts_of : {Z : Type 0} → List (Vec ℕ Z) → List (List ℕ)
-texts_of keys = map (λ key. key.items) keys
-
--- keys are equal where their bytes are
-abbrev pub same_key : {Z : Type 0} → Vec ℕ Z → Vec ℕ Z → Bool
-same_key x y = pointwise nat_eq x.items y.items
+-- members are equal where their bytes are
+abbrev pub same_key : List ℕ → List ℕ → Bool
+same_key = pointwise nat_eq
 
 -- the member at a place of the heap, with its score
 abbrev pub scored_at : List (List ℕ) → Slot → Scored

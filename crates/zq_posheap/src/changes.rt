@@ -8,6 +8,7 @@ ghost use Rattle.zq_posheap.specs.Order.{Scored, same_key};
 ghost use Rattle.zq_posheap.specs.Whole.{IsWhole, entries_map};
 
 use crate::heap::{Heap, Held, Slot};
+use crate::name::Name;
 use crate::seeded::Seeded;
 use indexmap::IndexMap;
 use std::alloc::AllocError;
@@ -15,7 +16,7 @@ use std::mem::replace;
 
 /// Notes another score and value for the member at an index, and answers the value that it had.
 fn exchange<V>(
-    members: &mut IndexMap<Vec<u8>, Held<V>, Seeded>,
+    members: &mut IndexMap<Name, Held<V>, Seeded>,
     index: usize,
     score: i128,
     value: V,
@@ -71,11 +72,11 @@ impl<V: Drop> Heap<V> {
     }
 
     /// Adds a member that is not there, in room that is there.
-    pub(crate) fn add(&mut self, member: Vec<u8>, score: i128, value: V)
+    pub(crate) fn add(&mut self, member: Name, score: i128, value: V)
         requires whole { IsWhole self.old }
-        requires absent { get (entries_map self.old) member.items ≡ None }
+        requires absent { get (entries_map self.old) member ≡ None }
         requires room { 0 < room_of self.old }
-        ensures held { entries_map self.new ≡ insert (entries_map self.old) member.items (score, value) }
+        ensures held { entries_map self.new ≡ insert (entries_map self.old) member (score, value) }
         ensures less_room { room_of self.old ≤ room_of self.new + 1 }
         ensures still_whole { IsWhole self.new }
     {

@@ -12,6 +12,7 @@ ghost use Rattle.zq_posheap.specs.Moves.{IsLinkedHeap, OnlyMoves, member_of, que
 ghost use Rattle.zq_posheap.specs.Order.{turned_cmp};
 ghost use Rattle.zq_posheap.specs.Whole.{IsWhole, entries_map};
 
+use crate::name::Name;
 use crate::seeded::Seeded;
 use indexmap::IndexMap;
 use std::cmp::Ordering;
@@ -35,11 +36,11 @@ pub(crate) struct Held<V> {
 #[derive(Drop)]
 pub(crate) struct Heap<V> {
     pub(crate) slots: Vec<Slot>,
-    pub(crate) members: IndexMap<Vec<u8>, Held<V>, Seeded>,
+    pub(crate) members: IndexMap<Name, Held<V>, Seeded>,
 }
 
 /// Notes where a member now stands in the heap.
-fn set_position<V>(members: &mut IndexMap<Vec<u8>, Held<V>, Seeded>, index: usize, position: usize)
+fn set_position<V>(members: &mut IndexMap<Name, Held<V>, Seeded>, index: usize, position: usize)
     requires { index < index_map_len members.old }
     ensures { (w : Held V) → slice_get (values members.old) index ≡ Some w →
         members.new ≡ with_value_at members.old index (record w { position = position }) }

@@ -7,8 +7,10 @@
 #![tactic(auto)]
 
 mod changes;
+mod hashing;
 mod heap;
 pub mod laws;
+mod name;
 mod pairs;
 mod place;
 mod pos_heap;
@@ -17,6 +19,7 @@ mod seeded;
 #[cfg(test)]
 mod tests;
 
+pub use name::{Name, NameRef};
 pub use pairs::Pairs;
 pub use place::Place;
 pub use pos_heap::PosHeap;

@@ -8,6 +8,7 @@ ghost use Rattle.zq_posheap.specs.Members.{HasPlace, IsPlaceOf, scores_of};
 ghost use Rattle.zq_posheap.specs.Order.{Scored};
 
 use crate::heap::Heap;
+use crate::name::{Name, NameRef};
 use crate::place::Place;
 use crate::seeded::Seeded;
 use indexmap::IndexMap;
@@ -31,10 +32,9 @@ impl<V> Model for PosHeap<V> {
     ghost use Rattle.indexmap.specs.IndexMap.{keys};
     ghost use Rattle.zq_posheap.specs.Members.{AreInRange};
     ghost use Rattle.zq_posheap.specs.Moves.{room_of};
-    ghost use Rattle.zq_posheap.specs.Order.{texts_of};
     ghost use Rattle.zq_posheap.specs.Whole.{IsWhole, entries_map};
 
-    ghost view = { λ a. record { held = entries_map a.heap; places = texts_of (keys a.heap.members); room = room_of a.heap } };
+    ghost view = { λ a. record { held = entries_map a.heap; places = keys a.heap.members; room = room_of a.heap } };
 
     ghost invariant = { λ a. IsWhole a.heap × AreInRange (entries_map a.heap) };
 }
@@ -79,8 +79,8 @@ impl<V: Drop> PosHeap<V> {
     pub fn get(&self, member: &[u8]) -> Option<(i128, &V)>
         ensures { option_map (λ e. (e.0, e.1.now)) result ≡ get self.now.held member.now }
     {
-        let held = self.heap.members.get(member)?;
-        Some((held.score, &held.value))
+        let place = self.find(member)?;
+        Some(self.at(place))
     }
 
     /// The first score and its member: the head of `in_order`, at hand with no sort.
@@ -98,7 +98,7 @@ impl<V: Drop> PosHeap<V> {
         ensures place { IfSome result (IsPlaceOf self.now member.now) }
         ensures has_place { IfSome result (HasPlace self.now) }
     {
-        let index = self.heap.members.get_index_of(member)?;
+        let index = self.heap.members.get_index_of(NameRef(member))?;
         Some(Place { index })
     }
 
@@ -150,7 +150,7 @@ impl<V: Drop> PosHeap<V> {
         ensures held { self.new.held ≡ insert self.old.held member.items (score, value) }
         ensures less_room { self.old.room ≤ self.new.room + 1 }
     {
-        self.heap.add(member, score, value);
+        self.heap.add(Name::of(member), score, value);
     }
 
     /// Adds a member that is not there, with a copy of its bytes. Where memory is refused nothing changes, and the
@@ -162,7 +162,7 @@ impl<V: Drop> PosHeap<V> {
         ensures places { OnErr result (self.new.places ≡ self.old.places) }
         ensures value { IfErr result (λ refused. refused.value ≡ value) }
     {
-        match self.owned(member) {
+        match self.copied(member) {
             Ok(member) => {
                 self.heap.add(member, score, value);
                 Ok(())
@@ -172,14 +172,14 @@ impl<V: Drop> PosHeap<V> {
     }
 
     /// A copy of a member's bytes, with room for one member more.
-    fn owned(&mut self, member: &[u8]) -> Result<Vec<u8>, AllocError>
+    fn copied(&mut self, member: &[u8]) -> Result<Name, AllocError>
         ensures held { self.new.held ≡ self.old.held }
         ensures places { self.new.places ≡ self.old.places }
         ensures room { OnOk result (0 < self.new.room) }
-        ensures bytes { IfOk result (λ bytes. bytes.items ≡ member.now) }
+        ensures bytes { IfOk result (λ copy. copy ≡ member.now) }
     {
         self.heap.reserve(1)?;
-        member.to_vec(*self.heap.slots.allocator())
+        Name::copied(*self.heap.slots.allocator(), member)
     }
 
     /// Gives a member a score and a value, whether it was there or not, and answers the value that it had. Where memory

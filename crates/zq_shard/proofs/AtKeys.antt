@@ -1,13 +1,12 @@
 -- What a map of the code has at one key, and what is left of its bounds by a change there.
 
-use Rattle.std.proofs.Common.{List, None, arith, Option, Some, Vec, [], ap, cond, false, length, refl, sym, true, ℕ, ◌∙◌, ◌∷◌, ◌==◌, ◌≡◌, ◌≢◌, eqb-true}
+use Rattle.std.proofs.Common.{List, None, arith, Option, Some, [], ap, cond, false, length, refl, sym, true, ℕ, ◌∙◌, ◌∷◌, ◌==◌, ◌≡◌, ◌≢◌, eqb-true}
 use Rattle.std.proofs.lemmas.Cmp.{nat_list_cmp_total}
 use Rattle.std.proofs.lemmas.Map.Lookups.{exact_bytes}
 use Rattle.std.proofs.lemmas.Option.{none-some, same_Some}
 use Rattle.std.specs.FinMap.{empty, entries, find, get-empty, get-entries, len, len-empty, len-entries, same_map}
 use Rattle.std.specs.Map.{KeepsOthers, lookup}
 use Rattle.std.specs.Ordering.{eq_by_cmp}
-use Rattle.std.specs.declared.alloc.Global.{Global}
 use Rattle.zq_model.proofs.Maps as maps
 use Rattle.zq_model.specs.Image.{Entry}
 use Rattle.zq_model.specs.Rule.{Rule}
@@ -16,7 +15,7 @@ use Rattle.zq_posheap.specs.Order.{same_key}
 use Rattle.zq_queue.specs.Entries.{Entries, bytes_cmp}
 use Rattle.zq_queue.specs.Queued.{Queued}
 use Rattle.zq_shard.proofs.ByBytes.{found, others_twice, updated}
-use Rattle.zq_shard.specs.Queues.{AreQueues, HasAt, by_bytes, entries_in, entries_or_none, unless_empty}
+use Rattle.zq_shard.specs.Queues.{AreQueues, HasAt, entries_in, entries_or_none, unless_empty}
 
 -- ---- a queue with members, or without
 
@@ -57,12 +56,12 @@ unless_is queue q is =
 
 -- ---- one key
 
-pub entries_found : (pairs : List (Vec ℕ Global × Queued)) (key : List ℕ) (r : Option Queued) → r ≡ lookup (has_text key) pairs → entries_in (by_bytes pairs) key ≡ entries_or_none r
+pub entries_found : (pairs : List (List ℕ × Queued)) (key : List ℕ) (r : Option Queued) → r ≡ lookup (has_text key) pairs → entries_in pairs key ≡ entries_or_none r
 entries_found pairs key r is = ap entries_or_none (found pairs key ∙ sym is)
 
 -- the same of the key by another name
-pub key_entries : (pairs : List (Vec ℕ Global × Queued)) (key k : List ℕ) (r : Option Queued) → key ≡ k → r ≡ lookup (has_text key) pairs → entries_in (by_bytes pairs) k ≡ entries_or_none r
-key_entries pairs key k r same is = ap (entries_in (by_bytes pairs)) (sym same) ∙ entries_found pairs key r is
+pub key_entries : (pairs : List (List ℕ × Queued)) (key k : List ℕ) (r : Option Queued) → key ≡ k → r ≡ lookup (has_text key) pairs → entries_in pairs k ≡ entries_or_none r
+key_entries pairs key k r same is = ap (entries_in pairs) (sym same) ∙ entries_found pairs key r is
 
 -- no change
 pub unchanged_at : {X : Type 0} (k : List ℕ) (w : Option X) (old : List (List ℕ × X)) → find bytes_cmp k old ≡ w → HasAt k w old old
@@ -73,14 +72,14 @@ unchanged_at k w old is q =
     ] refl
 
 -- the key's queue was written and has members
-pub written_at : (k : List ℕ) (queue after : Queued) (old new : List (Vec ℕ Global × Queued)) → lookup (has_text k) new ≡ Some queue → KeepsOthers same_key (has_text k) old new →
-    queue ≡ after → queue.entries ≢ empty → HasAt k (unless_empty after) (by_bytes old) (by_bytes new)
+pub written_at : (k : List ℕ) (queue after : Queued) (old new : List (List ℕ × Queued)) → lookup (has_text k) new ≡ Some queue → KeepsOthers same_key (has_text k) old new →
+    queue ≡ after → queue.entries ≢ empty → HasAt k (unless_empty after) old new
 written_at k queue after old new is others same full =
     updated k (unless_empty after) old new (is ∙ sym (unless_some queue full) ∙ ap unless_empty same) others
 
 -- the key's queue was written, has no members, and was taken out
-pub removed_at : (k : List ℕ) (queue after : Queued) (old mid new : List (Vec ℕ Global × Queued)) → lookup (has_text k) new ≡ None → KeepsOthers same_key (has_text k) old mid →
-    KeepsOthers same_key (has_text k) mid new → queue ≡ after → queue.entries ≡ empty → HasAt k (unless_empty after) (by_bytes old) (by_bytes new)
+pub removed_at : (k : List ℕ) (queue after : Queued) (old mid new : List (List ℕ × Queued)) → lookup (has_text k) new ≡ None → KeepsOthers same_key (has_text k) old mid →
+    KeepsOthers same_key (has_text k) mid new → queue ≡ after → queue.entries ≡ empty → HasAt k (unless_empty after) old new
 removed_at k queue after old mid new is first second same none =
     updated k (unless_empty after) old new (is ∙ sym (unless_none queue none) ∙ ap unless_empty same) (others_twice k old mid new first second)
 

@@ -1,6 +1,6 @@
 -- The keys of a map of the code, listed and sorted.
 
-use Rattle.std.proofs.Common.{Bor, Equal, Greater, Less, List, Vec, [], ap, arith, false, get_or, is_some, length, map, refl, sym, true≢false, ℕ, ◌+◌, ◌<◌, ◌∙◌, ◌∷◌, ◌≡◌, ◌≢◌}
+use Rattle.std.proofs.Common.{Bor, Equal, Greater, Less, List, [], ap, arith, false, get_or, is_some, length, map, refl, sym, true≢false, ℕ, ◌+◌, ◌<◌, ◌∙◌, ◌∷◌, ◌≡◌, ◌≢◌}
 use Rattle.std.proofs.lemmas.Cmp.{nat_list_cmp_total, nat_list_eq_equiv}
 use Rattle.std.proofs.lemmas.List.{length-map}
 use Rattle.std.proofs.lemmas.List.Sorted.{IsPermutation-map, list_any-IsPermutation}
@@ -16,23 +16,21 @@ use Rattle.std.specs.List.Sorted.{IsPermutation, IsSorted, IsSortedBy, IsStrictl
 use Rattle.std.specs.Map.{keys_of}
 use Rattle.std.specs.Ordering.{eq_by_cmp, is_lt, ordering_reverse}
 use Rattle.std.specs.Prelude.{Some, nat_eq, option_map, slice_get}
-use Rattle.std.specs.declared.alloc.Global.{Global}
 use Rattle.zq_posheap.proofs.Lists.{there_is}
 use Rattle.zq_posheap.specs.Order.{same_key}
 use Rattle.zq_queue.specs.Entries.{bytes_cmp}
 use Rattle.zq_shard.specs.Listed.{lent_key}
-use Rattle.zq_shard.specs.Queues.{by_bytes}
 
 -- the keys of the code are apart by their bytes
 module _ {X : Type 0} where
-  apart_from : (q : List ℕ) (es : List (Vec ℕ Global × X)) → AllByRecursion (λ key. pointwise nat_eq q key.items ≡ false) (keys_of es) → AllByRecursion (λ k. pointwise nat_eq q k ≡ false) (map (λ e. e.0) (by_bytes es))
+  apart_from : (q : List ℕ) (es : List (List ℕ × X)) → AllByRecursion (λ key. pointwise nat_eq q key ≡ false) (keys_of es) → AllByRecursion (λ k. pointwise nat_eq q k ≡ false) (map (λ e. e.0) es)
   apart_from q [] all = tt
   apart_from q (e ∷ es) all = (all.0, apart_from q es all.1)
 
-  pub distinct_keys : (es : List (Vec ℕ Global × X)) → IsDistinct same_key (keys_of es) → IsDistinct (pointwise nat_eq) (map (λ e. e.0) (by_bytes es))
+  pub distinct_keys : (es : List (List ℕ × X)) → IsDistinct same_key (keys_of es) → IsDistinct (pointwise nat_eq) (map (λ e. e.0) es)
   unfolding IsDistinct
   distinct_keys [] distinct = tt
-  distinct_keys (e ∷ es) distinct = (apart_from e.0.items es distinct.0, distinct_keys es distinct.1)
+  distinct_keys (e ∷ es) distinct = (apart_from e.0 es distinct.0, distinct_keys es distinct.1)
 
 -- a key that is not after another, and is not it, is before it
 before : (x y : List ℕ) → is_lt (bytes_cmp y x) ≡ false → y ≢ x → bytes_cmp x y ≡ Less

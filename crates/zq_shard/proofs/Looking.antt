@@ -1,12 +1,11 @@
 -- What a look-up of a key tells of the heap.
 
-use Rattle.std.proofs.Common.{Bor, List, None, Option, Some, Vec, [], ap, inl, refl, sym, unwrap_or, ℕ, ◌∙◌, ◌∷◌, ◌≡◌}
+use Rattle.std.proofs.Common.{Bor, List, None, Option, Some, [], ap, inl, refl, sym, unwrap_or, ℕ, ◌∙◌, ◌∷◌, ◌≡◌}
 use Rattle.std.proofs.lemmas.Option.{none-some}
 use Rattle.std.specs.FinMap.{empty, get, get-empty}
 use Rattle.std.specs.Map.{lookup}
 use Rattle.std.specs.Option.{option_copied}
 use Rattle.std.specs.Prelude.{IfNone, IfSome}
-use Rattle.std.specs.declared.alloc.Global.{Global}
 use Rattle.zq_model.specs.Image.{Entry, Place, entry_at, no_additions}
 use Rattle.zq_model.specs.Meaning.{Scored}
 use Rattle.zq_model.specs.Queue.{queue_of}
@@ -22,7 +21,7 @@ use Rattle.zq_queue.specs.Queued.{Queued}
 use Rattle.zq_shard.proofs.AtKeys.{entries_found}
 use Rattle.zq_shard.proofs.ByBytes.{found}
 use Rattle.zq_shard.proofs.Members.{entries_at-members_in, get-entries_at, get-members_in}
-use Rattle.zq_shard.specs.Queues.{AreQueues, Keyed, by_bytes, entries_at, entries_in, members_of}
+use Rattle.zq_shard.specs.Queues.{AreQueues, Keyed, entries_at, entries_in, members_in}
 
 -- the list of no entries
 pub listed_nothing : (rule : Rule) → listed rule empty ≡ []
@@ -33,12 +32,12 @@ listed_nothing rule = nothing_in (listed rule empty) (λ z here.
     nothing_in [] none = refl
     nothing_in (z ∷ q) none = absurd (none z (inl refl))
 
-module _ (pairs : List (Vec ℕ Global × Queued)) (rule : Rule) (s : Keyed) (view : record { rule = rule; members = members_of pairs } ≡ s) where
-  pub entries_seen : (key : List ℕ) → entries_at s.members key ≡ entries_in (by_bytes pairs) key
-  entries_seen key = ap (λ (x : Keyed). entries_at x.members key) (sym view) ∙ entries_at-members_in (by_bytes pairs) key
+module _ (pairs : List (List ℕ × Queued)) (rule : Rule) (s : Keyed) (view : record { rule = rule; members = members_in pairs } ≡ s) where
+  pub entries_seen : (key : List ℕ) → entries_at s.members key ≡ entries_in pairs key
+  entries_seen key = ap (λ (x : Keyed). entries_at x.members key) (sym view) ∙ entries_at-members_in pairs key
 
-  pub place_seen : (q : Place) → get s.members q ≡ get (entries_in (by_bytes pairs) q.0) q.1
-  place_seen q = ap (λ (x : Keyed). get x.members q) (sym view) ∙ get-members_in (by_bytes pairs) q
+  pub place_seen : (q : Place) → get s.members q ≡ get (entries_in pairs q.0) q.1
+  place_seen q = ap (λ (x : Keyed). get x.members q) (sym view) ∙ get-members_in pairs q
 
   module _ (key : List ℕ) where
     -- the key's queue in the model
@@ -57,7 +56,7 @@ module _ (pairs : List (Vec ℕ Global × Queued)) (rule : Rule) (s : Keyed) (vi
     look_no_list None is = list_seen empty (look_absent None is) ∙ listed_nothing s.rule
     look_no_list (Some queue) is = tt
 
-    module _ (kept : AreQueues rule (by_bytes pairs)) where
+    module _ (kept : AreQueues rule pairs) where
       pub look_rule : (r : Option (Bor Queued)) → option_copied r ≡ lookup (has_text key) pairs → IfSome r (λ queue. queue.now.rule ≡ s.rule)
       look_rule None is = tt
       look_rule (Some queue) is = (kept key queue.now (found pairs key ∙ sym is)).0 ∙ ap (λ (x : Keyed). x.rule) view

@@ -3,8 +3,7 @@
 use Rattle.std.specs.Coded.{Coded, code_by, coded×}
 use Rattle.std.specs.FinMap.{empty, find, get, keys, len}
 use Rattle.std.specs.Ordering.{eq_by_cmp}
-use Rattle.std.specs.Prelude.{List, None, Option, Some, Vec, flat_map, if◌then◌else◌, ◌==◌, map, refl, unwrap_or, ℕ, ◌++◌, ◌≡◌, ◌≢◌}
-use Rattle.std.specs.declared.alloc.Global.{Global}
+use Rattle.std.specs.Prelude.{List, None, Option, Some, flat_map, if◌then◌else◌, ◌==◌, map, refl, unwrap_or, ℕ, ◌++◌, ◌≡◌, ◌≢◌}
 use Rattle.zq_model.specs.Codes.{members_code}
 use Rattle.zq_model.specs.Image.{Entry, Members, Place, entry_after, entry_at, join_entry, map_on, no_additions, place_cmp, place_of, put_entry, unless_bare}
 use Rattle.zq_model.specs.Operation.{Operation}
@@ -21,10 +20,6 @@ pub record Keyed : Type 0 where
 abbrev pub keyed_code : Coded Keyed
 keyed_code = code_by (Rule × Members) (coded× rule_code members_code) (λ q. (q.rule, q.members)) (λ p. record { rule = p.0; members = p.1 }) (λ _. refl)
 
--- the pairs of a map by the bytes of their keys
-abbrev pub by_bytes : {X : Type 0} → List (Vec ℕ Global × X) → List (List ℕ × X)
-by_bytes pairs = map (λ e. (e.0.items, e.1)) pairs
-
 abbrev pub entries_or_none : Option Queued → Entries
 entries_or_none None = empty
 entries_or_none (Some queue) = queue.entries
@@ -40,10 +35,6 @@ places_of queue = map (λ member. (queue.0, member)) (keys queue.1.entries)
 -- the members of all keys with their entries
 abbrev pub members_in : List (List ℕ × Queued) → Members
 members_in queues = map_on place_cmp (λ q. get (entries_in queues q.0) q.1) (flat_map places_of queues)
-
--- the members that a map of the code keeps
-abbrev pub members_of : List (Vec ℕ Global × Queued) → Members
-members_of pairs = members_in (by_bytes pairs)
 
 -- each key's queue has this rule, and a key without members is not there
 abbrev pub AreQueues : Rule → List (List ℕ × Queued) → Type 0

@@ -2,13 +2,13 @@
 ghost use Rattle.std.specs.Prelude.{◌≡◌, [], IfOk, List, None, OnOk, Some, ℕ};
 ghost use Rattle.std.specs.FinMap as map;
 ghost use Rattle.zq_queue.specs.Entries.{bytes_cmp, joined_entries};
-ghost use Rattle.zq_shard.specs.Queues.{AreQueues, HasAt, and_then, by_bytes, entries_in, members_joined, queue_joined, unless_empty};
+ghost use Rattle.zq_shard.specs.Queues.{AreQueues, HasAt, and_then, entries_in, members_joined, queue_joined, unless_empty};
 
 use crate::queues::{Queues, add};
 use indexmap::IndexMap;
 use std::alloc::{AllocError, Global};
 use zq_dots::Vector;
-use zq_posheap::Seeded;
+use zq_posheap::{Name, NameRef, Seeded};
 use zq_queue::Queue;
 
 impl Queues {
@@ -56,23 +56,23 @@ impl Queues {
 /// Adds the join at each key of this side.
 fn join_mine(
     alloc: Global,
-    merged: &mut IndexMap<Vec<u8>, Queue, Seeded>,
+    merged: &mut IndexMap<Name, Queue, Seeded>,
     none: &Queue,
     mine: &Vector,
-    my_queues: &IndexMap<Vec<u8>, Queue, Seeded>,
+    my_queues: &IndexMap<Name, Queue, Seeded>,
     theirs: &Vector,
-    their_queues: &IndexMap<Vec<u8>, Queue, Seeded>,
+    their_queues: &IndexMap<Name, Queue, Seeded>,
 ) -> Result<(), AllocError>
     requires empty { merged.old.entries ≡ [] }
     requires nothing { none.now.entries ≡ map.empty }
-    requires kept { AreQueues none.now.rule (by_bytes my_queues.now.entries) }
-    requires their_kept { AreQueues none.now.rule (by_bytes their_queues.now.entries) }
-    ensures { OnOk result ((q : List ℕ) → map.find bytes_cmp q (by_bytes merged.new.entries)
-        ≡ and_then (λ queue. queue_joined none.now.rule mine.now theirs.now (Some queue) (map.find bytes_cmp q (by_bytes their_queues.now.entries))) (map.find bytes_cmp q (by_bytes my_queues.now.entries))) }
+    requires kept { AreQueues none.now.rule my_queues.now.entries }
+    requires their_kept { AreQueues none.now.rule their_queues.now.entries }
+    ensures { OnOk result ((q : List ℕ) → map.find bytes_cmp q merged.new.entries
+        ≡ and_then (λ queue. queue_joined none.now.rule mine.now theirs.now (Some queue) (map.find bytes_cmp q their_queues.now.entries)) (map.find bytes_cmp q my_queues.now.entries)) }
 {
     for (key, queue) in my_queues {
-        let other = queue_or(their_queues, key, none);
-        join_at(merged, alloc, key, mine, queue, theirs, other)?;
+        let other = queue_or(their_queues, key.as_slice(), none);
+        join_at(merged, alloc, key.as_slice(), mine, queue, theirs, other)?;
     }
     Ok(())
 }
@@ -80,40 +80,36 @@ fn join_mine(
 /// Adds the join at each key that the other side alone has.
 fn join_theirs(
     alloc: Global,
-    merged: &mut IndexMap<Vec<u8>, Queue, Seeded>,
+    merged: &mut IndexMap<Name, Queue, Seeded>,
     none: &Queue,
     mine: &Vector,
-    my_queues: &IndexMap<Vec<u8>, Queue, Seeded>,
+    my_queues: &IndexMap<Name, Queue, Seeded>,
     theirs: &Vector,
-    their_queues: &IndexMap<Vec<u8>, Queue, Seeded>,
+    their_queues: &IndexMap<Name, Queue, Seeded>,
 ) -> Result<(), AllocError>
     requires nothing { none.now.entries ≡ map.empty }
-    requires their_kept { AreQueues none.now.rule (by_bytes their_queues.now.entries) }
-    requires begun { (q : List ℕ) → map.find bytes_cmp q (by_bytes merged.old.entries)
-        ≡ and_then (λ queue. queue_joined none.now.rule mine.now theirs.now (Some queue) (map.find bytes_cmp q (by_bytes their_queues.now.entries))) (map.find bytes_cmp q (by_bytes my_queues.now.entries)) }
-    ensures { OnOk result ((q : List ℕ) → map.find bytes_cmp q (by_bytes merged.new.entries)
-        ≡ queue_joined none.now.rule mine.now theirs.now (map.find bytes_cmp q (by_bytes my_queues.now.entries)) (map.find bytes_cmp q (by_bytes their_queues.now.entries))) }
+    requires their_kept { AreQueues none.now.rule their_queues.now.entries }
+    requires begun { (q : List ℕ) → map.find bytes_cmp q merged.old.entries
+        ≡ and_then (λ queue. queue_joined none.now.rule mine.now theirs.now (Some queue) (map.find bytes_cmp q their_queues.now.entries)) (map.find bytes_cmp q my_queues.now.entries) }
+    ensures { OnOk result ((q : List ℕ) → map.find bytes_cmp q merged.new.entries
+        ≡ queue_joined none.now.rule mine.now theirs.now (map.find bytes_cmp q my_queues.now.entries) (map.find bytes_cmp q their_queues.now.entries)) }
 {
     for (key, queue) in their_queues {
         if !my_queues.contains_key(key) {
-            join_at(merged, alloc, key, mine, none, theirs, queue)?;
+            join_at(merged, alloc, key.as_slice(), mine, none, theirs, queue)?;
         }
     }
     Ok(())
 }
 
 /// The queue of a key, and `none` where the key is not there.
-fn queue_or<'a>(
-    queues: &'a IndexMap<Vec<u8>, Queue, Seeded>,
-    key: &[u8],
-    none: &'a Queue,
-) -> &'a Queue
+fn queue_or<'a>(queues: &'a IndexMap<Name, Queue, Seeded>, key: &[u8], none: &'a Queue) -> &'a Queue
     requires nothing { none.now.entries ≡ map.empty }
-    requires kept { AreQueues none.now.rule (by_bytes queues.now.entries) }
+    requires kept { AreQueues none.now.rule queues.now.entries }
     ensures rule { result.now.rule ≡ none.now.rule }
-    ensures entries { result.now.entries ≡ entries_in (by_bytes queues.now.entries) key.now }
+    ensures entries { result.now.entries ≡ entries_in queues.now.entries key.now }
 {
-    match queues.get(key) {
+    match queues.get(NameRef(key)) {
         Some(queue) => queue,
         None => none,
     }
@@ -121,7 +117,7 @@ fn queue_or<'a>(
 
 /// Adds a key that is not there with the join of two queues, unless that has no members.
 fn join_at(
-    merged: &mut IndexMap<Vec<u8>, Queue, Seeded>,
+    merged: &mut IndexMap<Name, Queue, Seeded>,
     alloc: Global,
     key: &[u8],
     mine: &Vector,
@@ -129,10 +125,10 @@ fn join_at(
     theirs: &Vector,
     other: &Queue,
 ) -> Result<(), AllocError>
-    requires absent { map.find bytes_cmp key.now (by_bytes merged.old.entries) ≡ None }
+    requires absent { map.find bytes_cmp key.now merged.old.entries ≡ None }
     requires rule { other.now.rule ≡ queue.now.rule }
     ensures { OnOk result (HasAt key.now (unless_empty (record { rule = queue.now.rule; entries = joined_entries mine.now theirs.now queue.now.entries other.now.entries }))
-        (by_bytes merged.old.entries) (by_bytes merged.new.entries)) }
+        merged.old.entries merged.new.entries) }
 {
     let joined = queue.merge(alloc, mine, other, theirs)?;
     add(merged, alloc, key, joined)

@@ -8,13 +8,13 @@ ghost use Rattle.zq_model.specs.Rows.{row_of};
 ghost use Rattle.std.specs.Ordering.{eq_by_cmp};
 ghost use Rattle.zq_queue.specs.Entries.{bytes_cmp};
 ghost use Rattle.zq_shard.specs.Listed.{block, lent_key, lent_row};
-ghost use Rattle.zq_shard.specs.Queues.{by_bytes, entries_at};
+ghost use Rattle.zq_shard.specs.Queues.{entries_at};
 
 use crate::queues::Queues;
 use crate::row::RowRef;
 use indexmap::IndexMap;
 use std::alloc::{AllocError, Global};
-use zq_posheap::Seeded;
+use zq_posheap::{Name, Seeded};
 use zq_queue::Queue;
 
 impl Queues {
@@ -49,10 +49,10 @@ impl Queues {
 /// The keys, by their bytes.
 fn keys_in_order<'a>(
     alloc: Global,
-    queues: &'a IndexMap<Vec<u8>, Queue, Seeded>,
+    queues: &'a IndexMap<Name, Queue, Seeded>,
 ) -> Result<Vec<&'a [u8]>, AllocError>
     ensures rising { IfOk result (λ keys. IsStrictlySortedBy bytes_cmp (map lent_key keys.items)) }
-    ensures all { IfOk result (λ keys. (q : List ℕ) → list_any (eq_by_cmp bytes_cmp q) (map lent_key keys.items) ≡ is_some (finite.find bytes_cmp q (by_bytes queues.now.entries))) }
+    ensures all { IfOk result (λ keys. (q : List ℕ) → list_any (eq_by_cmp bytes_cmp q) (map lent_key keys.items) ≡ is_some (finite.find bytes_cmp q queues.now.entries)) }
 {
     let mut keys = keys_in_any_order(alloc, queues)?;
     keys.sort_unstable();
@@ -62,9 +62,9 @@ fn keys_in_order<'a>(
 /// The keys, in the map's order.
 fn keys_in_any_order<'a>(
     alloc: Global,
-    queues: &'a IndexMap<Vec<u8>, Queue, Seeded>,
+    queues: &'a IndexMap<Name, Queue, Seeded>,
 ) -> Result<Vec<&'a [u8]>, AllocError>
-    ensures keys { IfOk result (λ keys. map lent_key keys.items ≡ map (λ e. e.0) (by_bytes queues.now.entries)) }
+    ensures keys { IfOk result (λ keys. map lent_key keys.items ≡ map (λ e. e.0) queues.now.entries) }
     ensures distinct { IfOk result (λ keys. IsDistinct (pointwise nat_eq) (map lent_key keys.items)) }
 {
     let mut keys = Vec::with_capacity(alloc, queues.len())?;

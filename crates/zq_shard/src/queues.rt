@@ -7,34 +7,34 @@ ghost use Rattle.zq_model.specs.Score.{score_of};
 ghost use Rattle.zq_queue.specs.Entries.{HasRoomFor, bytes_cmp, entries_after, set_entry};
 ghost use Rattle.zq_queue.specs.Queued.{Queued};
 ghost use Rattle.zq_queue.specs.Listed.{listed};
-ghost use Rattle.zq_shard.specs.Queues.{AreQueues, HasAt, and_then, by_bytes, entries_at, entries_in, members_after, or_none, unless_empty};
+ghost use Rattle.zq_shard.specs.Queues.{AreQueues, HasAt, and_then, entries_at, entries_in, members_after, or_none, unless_empty};
 
 use indexmap::IndexMap;
 use std::alloc::{AllocError, Global};
 use std::marker::Model;
 use zq_dots::{Op, Rule, Vector};
 use zq_entry::Entry;
-use zq_posheap::Seeded;
+use zq_posheap::{Name, NameRef, Seeded};
 use zq_queue::Queue;
 
 /// The keys of a heap with their queues. A key without members is not there.
 #[derive(Drop)]
 pub(crate) struct Queues {
     pub(crate) rule: Rule,
-    pub(crate) queues: IndexMap<Vec<u8>, Queue, Seeded>,
+    pub(crate) queues: IndexMap<Name, Queue, Seeded>,
 }
 
 impl Model for Queues {
     ghost use Rattle.zq_dots.specs.Rule.{rule_of};
-    ghost use Rattle.zq_shard.specs.Queues.{AreQueues, Keyed, by_bytes, keyed_code, members_of};
+    ghost use Rattle.zq_shard.specs.Queues.{AreQueues, Keyed, keyed_code, members_in};
 
     ghost Value = { Keyed };
 
     ghost coded = { keyed_code };
 
-    ghost view = { λ q. record { rule = rule_of q.rule; members = members_of q.queues.entries } };
+    ghost view = { λ q. record { rule = rule_of q.rule; members = members_in q.queues.entries } };
 
-    ghost invariant = { λ q. AreQueues (rule_of q.rule) (by_bytes q.queues.entries) };
+    ghost invariant = { λ q. AreQueues (rule_of q.rule) q.queues.entries };
 }
 
 impl Queues {
@@ -71,7 +71,7 @@ impl Queues {
         ensures absent { IfNone result (entries_at self.now.members key.now ≡ map.empty) }
         ensures no_list { IfNone result (queue_of self.now.rule key.now (self.now.members ∷ []) ≡ []) }
     {
-        self.queues.get(key)
+        self.queues.get(NameRef(key))
     }
 
     /// The entry of a member of a key, and `None` where it does not stand.
@@ -143,23 +143,23 @@ impl Queues {
 
 /// Takes a new operation, and answers what its member had.
 fn take(
-    queues: &mut IndexMap<Vec<u8>, Queue, Seeded>,
+    queues: &mut IndexMap<Name, Queue, Seeded>,
     alloc: Global,
     rule: Rule,
     op: &Op,
 ) -> Result<Option<Entry>, AllocError>
-    requires room { HasRoomFor op.now.operation (entries_in (by_bytes queues.old.entries) op.now.operation.key) }
-    requires kept { AreQueues (rule_of rule) (by_bytes queues.old.entries) }
-    ensures before { IfOk result (λ before. before ≡ map.get (entries_in (by_bytes queues.old.entries) op.now.operation.key) op.now.operation.member) }
-    ensures taken { OnOk result (HasAt op.now.operation.key (unless_empty (record { rule = rule_of rule; entries = entries_after op.now.operation (entries_in (by_bytes queues.old.entries) op.now.operation.key) }))
-        (by_bytes queues.old.entries) (by_bytes queues.new.entries)) }
-    ensures refused { OnErr result (by_bytes queues.new.entries ≡ by_bytes queues.old.entries) }
+    requires room { HasRoomFor op.now.operation (entries_in queues.old.entries op.now.operation.key) }
+    requires kept { AreQueues (rule_of rule) queues.old.entries }
+    ensures before { IfOk result (λ before. before ≡ map.get (entries_in queues.old.entries op.now.operation.key) op.now.operation.member) }
+    ensures taken { OnOk result (HasAt op.now.operation.key (unless_empty (record { rule = rule_of rule; entries = entries_after op.now.operation (entries_in queues.old.entries op.now.operation.key) }))
+        queues.old.entries queues.new.entries) }
+    ensures refused { OnErr result (queues.new.entries ≡ queues.old.entries) }
 {
     let key = op.key();
-    if let Some(queue) = queues.get_mut(key) {
+    if let Some(queue) = queues.get_mut(NameRef(key)) {
         let before = queue.take(alloc, op)?;
         if queue.is_empty() {
-            drop(queues.swap_remove(key));
+            drop(queues.swap_remove(NameRef(key)));
         }
         return Ok(before);
     }
@@ -171,22 +171,22 @@ fn take(
 
 /// Gives a member of a key this entry, and takes it out where there is none.
 fn put_back(
-    queues: &mut IndexMap<Vec<u8>, Queue, Seeded>,
+    queues: &mut IndexMap<Name, Queue, Seeded>,
     alloc: Global,
     rule: Rule,
     key: &[u8],
     member: &[u8],
     before: Option<Entry>,
 ) -> Result<(), AllocError>
-    requires kept { AreQueues (rule_of rule) (by_bytes queues.old.entries) }
-    ensures back { OnOk result (HasAt key.now (unless_empty (record { rule = rule_of rule; entries = set_entry (entries_in (by_bytes queues.old.entries) key.now) member.now (or_none before) }))
-        (by_bytes queues.old.entries) (by_bytes queues.new.entries)) }
-    ensures refused { OnErr result (by_bytes queues.new.entries ≡ by_bytes queues.old.entries) }
+    requires kept { AreQueues (rule_of rule) queues.old.entries }
+    ensures back { OnOk result (HasAt key.now (unless_empty (record { rule = rule_of rule; entries = set_entry (entries_in queues.old.entries key.now) member.now (or_none before) }))
+        queues.old.entries queues.new.entries) }
+    ensures refused { OnErr result (queues.new.entries ≡ queues.old.entries) }
 {
-    if let Some(queue) = queues.get_mut(key) {
+    if let Some(queue) = queues.get_mut(NameRef(key)) {
         queue.put_back(member, before)?;
         if queue.is_empty() {
-            drop(queues.swap_remove(key));
+            drop(queues.swap_remove(NameRef(key)));
         }
         return Ok(());
     }
@@ -197,17 +197,17 @@ fn put_back(
 
 /// Adds a key that is not there with its queue, unless that has no members.
 pub(crate) fn add(
-    queues: &mut IndexMap<Vec<u8>, Queue, Seeded>,
+    queues: &mut IndexMap<Name, Queue, Seeded>,
     alloc: Global,
     key: &[u8],
     queue: Queue,
 ) -> Result<(), AllocError>
-    requires absent { map.find bytes_cmp key.now (by_bytes queues.old.entries) ≡ None }
-    ensures added { OnOk result (HasAt key.now (unless_empty queue) (by_bytes queues.old.entries) (by_bytes queues.new.entries)) }
-    ensures refused { OnErr result (by_bytes queues.new.entries ≡ by_bytes queues.old.entries) }
+    requires absent { map.find bytes_cmp key.now queues.old.entries ≡ None }
+    ensures added { OnOk result (HasAt key.now (unless_empty queue) queues.old.entries queues.new.entries) }
+    ensures refused { OnErr result (queues.new.entries ≡ queues.old.entries) }
 {
     if !queue.is_empty() {
-        let key = Vec::from_slice(alloc, key)?;
+        let key = Name::copied(alloc, key)?;
         drop(queues.insert(key, queue)?);
     }
     Ok(())
@@ -215,35 +215,32 @@ pub(crate) fn add(
 
 /// Adds copies of these queues where there are none.
 fn copy_into(
-    queues: &mut IndexMap<Vec<u8>, Queue, Seeded>,
+    queues: &mut IndexMap<Name, Queue, Seeded>,
     alloc: Global,
-    source: &IndexMap<Vec<u8>, Queue, Seeded>,
+    source: &IndexMap<Name, Queue, Seeded>,
 ) -> Result<(), AllocError>
     requires empty { queues.old.entries ≡ [] }
-    ensures { OnOk result ((q : List ℕ) → map.find bytes_cmp q (by_bytes queues.new.entries) ≡ and_then unless_empty (map.find bytes_cmp q (by_bytes source.now.entries))) }
+    ensures { OnOk result ((q : List ℕ) → map.find bytes_cmp q queues.new.entries ≡ and_then unless_empty (map.find bytes_cmp q source.now.entries)) }
 {
     for (key, queue) in source {
-        add(queues, alloc, key, queue.copy(alloc)?)?;
+        add(queues, alloc, key.as_slice(), queue.copy(alloc)?)?;
     }
     Ok(())
 }
 
 /// Whether both have the same keys with the same queues.
-fn are_same(
-    queues: &IndexMap<Vec<u8>, Queue, Seeded>,
-    others: &IndexMap<Vec<u8>, Queue, Seeded>,
-) -> bool
-    ensures { IsTrue result ↔ ((q : List ℕ) → map.find bytes_cmp q (by_bytes queues.now.entries) ≡ map.find bytes_cmp q (by_bytes others.now.entries)) }
+fn are_same(queues: &IndexMap<Name, Queue, Seeded>, others: &IndexMap<Name, Queue, Seeded>) -> bool
+    ensures { IsTrue result ↔ ((q : List ℕ) → map.find bytes_cmp q queues.now.entries ≡ map.find bytes_cmp q others.now.entries) }
 {
     are_within(queues, others) && are_within(others, queues)
 }
 
 /// Whether the others have each of these keys with the same queue.
 fn are_within(
-    queues: &IndexMap<Vec<u8>, Queue, Seeded>,
-    others: &IndexMap<Vec<u8>, Queue, Seeded>,
+    queues: &IndexMap<Name, Queue, Seeded>,
+    others: &IndexMap<Name, Queue, Seeded>,
 ) -> bool
-    ensures { IsTrue result ↔ ((q : List ℕ) (queue : Queued) → map.find bytes_cmp q (by_bytes queues.now.entries) ≡ Some queue → map.find bytes_cmp q (by_bytes others.now.entries) ≡ Some queue) }
+    ensures { IsTrue result ↔ ((q : List ℕ) (queue : Queued) → map.find bytes_cmp q queues.now.entries ≡ Some queue → map.find bytes_cmp q others.now.entries ≡ Some queue) }
 {
     for (key, queue) in queues {
         match others.get(key) {

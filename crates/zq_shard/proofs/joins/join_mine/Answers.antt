@@ -4,16 +4,16 @@ use Rattle.std.specs.Map.Iter.{deref_pair}
 use Rattle.zq_queue.specs.Entries.{bytes_cmp, joined_entries}
 use Rattle.zq_queue.specs.Queued.{Queued}
 use Rattle.zq_shard.proofs.Gathering.{gathered_and, turn_begins, turn_end, turn_more, turn_source, turn_start}
-use Rattle.zq_shard.specs.Queues.{HasAt, by_bytes, entries_in, queue_joined, unless_empty}
+use Rattle.zq_shard.specs.Queues.{HasAt, entries_in, queue_joined, unless_empty}
 use Rattle.zq_shard.proofs.joins.join_mine.Goals as goal
 use Rattle.zq_shard.proofs.joins.join_mine.Goals.{In-Some}
 
 abbrev value_of : (c : In-Some) → List ℕ → Queued → Option Queued
-value_of c q queue = queue_joined c.args.none.now.rule c.args.mine.now c.args.theirs.now (Some queue) (find bytes_cmp q (by_bytes c.args.their_queues.now.entries))
+value_of c q queue = queue_joined c.args.none.now.rule c.args.mine.now c.args.theirs.now (Some queue) (find bytes_cmp q c.args.their_queues.now.entries)
 
 -- the queue that comes has the rule
 has_rule : (c : In-Some) → c.in-Some.queue.now.rule ≡ c.args.none.now.rule
-has_rule c = (c.requires.kept c.in-Some.key.now.items c.in-Some.queue.now
+has_rule c = (c.requires.kept c.in-Some.key.now c.in-Some.queue.now
     (turn_source deref_pair (value_of c) (λ _. None) c.args.my_queues.now.entries c.loop-key.key-iterator c.next.new.self c.loop-key.merged.entries c.next.result
     c.loop-key.invariant c.next.ensures.steps (c.in-Some.key, c.in-Some.queue) c.in-Some.is)).0
 
@@ -21,12 +21,12 @@ pub loop-key-init : goal.loop-key-init
 loop-key-init c =
     let gives = c.into_iter-key-iterator.ensures.into_iter_gives in
     turn_start _ (λ _. None) c.args.my_queues.now.entries c.into_iter-key-iterator.result c.args.merged.now.entries gives.0 gives.4
-    (λ q. ap (λ es. find bytes_cmp q (by_bytes es)) c.requires.empty)
+    (λ q. ap (λ es. find bytes_cmp q es) c.requires.empty)
 
 pub join_at-requires-clause-absent : goal.join_at-requires-clause-absent
 join_at-requires-clause-absent c =
     let d = (goal.at.join_at-requires-clause-absent c).In-Some in
-    ap (λ k. find bytes_cmp k (by_bytes c.loop-key.merged.entries)) c.deref-in-loop-key.ensures.value
+    ap (λ k. find bytes_cmp k c.loop-key.merged.entries) c.as_slice-in-loop-key.ensures
     ∙ turn_begins deref_pair (value_of d) (λ _. None) c.args.my_queues.now.entries c.loop-key.key-iterator c.next.new.self c.loop-key.merged.entries c.next.result
     c.loop-key.invariant c.next.ensures.steps (c.in-Some.key, c.in-Some.queue) c.in-Some.is
 
@@ -38,19 +38,19 @@ loop-key-preserved c =
     let d = (goal.at.loop-key-preserved c).In-Some in
     let queue = c.in-Some.queue.now in
     let rule : queue.rule ≡ c.args.none.now.rule = has_rule d in
-    let others : c.queue_or-other.result.now.entries ≡ entries_in (by_bytes c.args.their_queues.now.entries) c.in-Some.key.now.items
-    = c.queue_or-other.ensures.entries ∙ ap (entries_in (by_bytes c.args.their_queues.now.entries)) c.deref.ensures.value in
-    let old = by_bytes c.loop-key.merged.entries in
-    let new = by_bytes c.join_at.new.merged.entries in
+    let others : c.queue_or-other.result.now.entries ≡ entries_in c.args.their_queues.now.entries c.in-Some.key.now
+    = c.queue_or-other.ensures.entries ∙ ap (entries_in c.args.their_queues.now.entries) c.as_slice.ensures in
+    let old = c.loop-key.merged.entries in
+    let new = c.join_at.new.merged.entries in
     turn_more deref_pair (value_of d) (λ _. None) c.args.my_queues.now.entries c.loop-key.key-iterator c.next.new.self c.loop-key.merged.entries c.next.result
     c.loop-key.invariant c.next.ensures.steps (c.in-Some.key, c.in-Some.queue) c.in-Some.is c.join_at.new.merged.entries
-    (subst (λ k. HasAt k (value_of d c.in-Some.key.now.items queue) old new) c.deref-in-loop-key.ensures.value
-    (subst (λ (q : Queued). HasAt c.deref-in-loop-key.result.now (unless_empty q) old new)
+    (subst (λ k. HasAt k (value_of d c.in-Some.key.now queue) old new) c.as_slice-in-loop-key.ensures
+    (subst (λ (q : Queued). HasAt c.as_slice-in-loop-key.result.now (unless_empty q) old new)
     (λ i. record { rule = rule i; entries = joined_entries c.args.mine.now c.args.theirs.now queue.entries (others i) }) c.in_ok-join_at.ensures))
 
 pub returns : goal.returns
 returns c = λ q.
-    let f : List ℕ → Queued → Option Queued = λ k queue. queue_joined c.args.none.now.rule c.args.mine.now c.args.theirs.now (Some queue) (find bytes_cmp k (by_bytes c.args.their_queues.now.entries)) in
+    let f : List ℕ → Queued → Option Queued = λ k queue. queue_joined c.args.none.now.rule c.args.mine.now c.args.theirs.now (Some queue) (find bytes_cmp k c.args.their_queues.now.entries) in
     turn_end deref_pair f (λ _. None) c.args.my_queues.now.entries c.loop-key.key-iterator c.next.new.self c.loop-key.merged.entries c.next.result
     c.loop-key.invariant c.next.ensures.steps c.in-None.is q
-    ∙ gathered_and (f q) (find bytes_cmp q (by_bytes c.args.my_queues.now.entries))
+    ∙ gathered_and (f q) (find bytes_cmp q c.args.my_queues.now.entries)

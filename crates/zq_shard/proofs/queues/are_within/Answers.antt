@@ -15,7 +15,7 @@ pub loop-key-preserved : goal.loop-key-preserved
 loop-key-preserved c =
     within_turn deref_pair c.args.queues.now.entries c.loop-key.key-iterator c.next.new.self c.args.others.now.entries c.next.result c.loop-key.invariant c.next.ensures.steps
     (c.in-Some.key, c.in-Some.queue) c.in-Some.is
-    (found c.args.others.now.entries c.in-Some.key.now.items ∙ sym c.in-Some-get.ensures.value ∙ ap Some (sym (c.same.ensures.0 c.if-same.true)))
+    (found c.args.others.now.entries c.in-Some.key.now ∙ sym c.in-Some-get.ensures.value ∙ ap Some (sym (c.same.ensures.0 c.if-same.true)))
 
 pub returns-in_default : goal.returns-in_default
 returns-in_default c = (
@@ -24,7 +24,7 @@ returns-in_default c = (
       let mine = within_source deref_pair c.args.queues.now.entries c.loop-key.key-iterator c.next.new.self c.args.others.now.entries c.next.result c.loop-key.invariant c.next.ensures.steps
       (c.in-Some.key, c.in-Some.queue) c.in-Some.is in
       let both : Some c.in-Some.queue.now ≡ Some c.in-Some-get.other.now
-      = sym (all c.in-Some.key.now.items c.in-Some.queue.now mine) ∙ found c.args.others.now.entries c.in-Some.key.now.items ∙ sym c.in-Some-get.ensures.value in
+      = sym (all c.in-Some.key.now c.in-Some.queue.now mine) ∙ found c.args.others.now.entries c.in-Some.key.now ∙ sym c.in-Some-get.ensures.value in
       absurd (true≢false (sym (c.same.ensures.1 (same_Some _ _ both)) ∙ c.if-same.false)),
 )
 
@@ -34,8 +34,8 @@ returns-in_default-2 c = (
   λ all.
       let mine = within_source deref_pair c.args.queues.now.entries c.loop-key.key-iterator c.next.new.self c.args.others.now.entries c.next.result c.loop-key.invariant c.next.ensures.steps
       (c.in-Some.key, c.in-Some.queue) c.in-Some.is in
-      absurd (none-some c.in-Some.queue.now (ap option_copied (sym c.in_default.is) ∙ c.get.ensures.value ∙ sym (found c.args.others.now.entries c.in-Some.key.now.items)
-      ∙ all c.in-Some.key.now.items c.in-Some.queue.now mine)),
+      absurd (none-some c.in-Some.queue.now (ap option_copied (sym c.in_default.is) ∙ c.get.ensures.value ∙ sym (found c.args.others.now.entries c.in-Some.key.now)
+      ∙ all c.in-Some.key.now c.in-Some.queue.now mine)),
 )
 
 pub returns : goal.returns

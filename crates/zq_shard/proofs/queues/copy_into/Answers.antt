@@ -4,18 +4,18 @@ use Rattle.std.specs.Map.Iter.{deref_pair}
 use Rattle.zq_queue.specs.Entries.{bytes_cmp}
 use Rattle.zq_queue.specs.Queued.{Queued}
 use Rattle.zq_shard.proofs.Gathering.{gathered_and, turn_begins, turn_end, turn_more, turn_start}
-use Rattle.zq_shard.specs.Queues.{HasAt, by_bytes, unless_empty}
+use Rattle.zq_shard.specs.Queues.{HasAt, unless_empty}
 use Rattle.zq_shard.proofs.queues.copy_into.Goals as goal
 
 pub loop-key-init : goal.loop-key-init
 loop-key-init c =
     let gives = c.into_iter-key-iterator.ensures.into_iter_gives in
     turn_start (λ _ queue. unless_empty queue) (λ _. None) c.args.source.now.entries c.into_iter-key-iterator.result c.args.queues.now.entries gives.0 gives.4
-    (λ q. ap (λ es. find bytes_cmp q (by_bytes es)) c.requires.empty)
+    (λ q. ap (λ es. find bytes_cmp q es) c.requires.empty)
 
 pub add-requires : goal.add-requires
 add-requires c = record {
-  absent = ap (λ k. find bytes_cmp k (by_bytes c.loop-key.queues.entries)) c.deref.ensures.value
+  absent = ap (λ k. find bytes_cmp k c.loop-key.queues.entries) c.as_slice.ensures
       ∙ turn_begins deref_pair (λ _ queue. unless_empty queue) (λ _. None) c.args.source.now.entries c.loop-key.key-iterator c.next.new.self c.loop-key.queues.entries c.next.result
       c.loop-key.invariant c.next.ensures.steps (c.in-Some.key, c.in-Some.queue) c.in-Some.is;
 }
@@ -24,11 +24,11 @@ pub loop-key-preserved : goal.loop-key-preserved
 loop-key-preserved c =
     turn_more deref_pair (λ _ queue. unless_empty queue) (λ _. None) c.args.source.now.entries c.loop-key.key-iterator c.next.new.self c.loop-key.queues.entries c.next.result
     c.loop-key.invariant c.next.ensures.steps (c.in-Some.key, c.in-Some.queue) c.in-Some.is c.add.new.queues.entries
-    (subst (λ k. HasAt k (unless_empty c.in-Some.queue.now) (by_bytes c.loop-key.queues.entries) (by_bytes c.add.new.queues.entries)) c.deref.ensures.value
-    (subst (λ (q : Queued). HasAt c.deref.result.now (unless_empty q) (by_bytes c.loop-key.queues.entries) (by_bytes c.add.new.queues.entries)) c.in_ok-copy.ensures c.in_ok-add.ensures.added))
+    (subst (λ k. HasAt k (unless_empty c.in-Some.queue.now) c.loop-key.queues.entries c.add.new.queues.entries) c.as_slice.ensures
+    (subst (λ (q : Queued). HasAt c.as_slice.result.now (unless_empty q) c.loop-key.queues.entries c.add.new.queues.entries) c.in_ok-copy.ensures c.in_ok-add.ensures.added))
 
 pub returns : goal.returns
 returns c = λ q.
     turn_end deref_pair (λ _ queue. unless_empty queue) (λ _. None) c.args.source.now.entries c.loop-key.key-iterator c.next.new.self c.loop-key.queues.entries c.next.result
     c.loop-key.invariant c.next.ensures.steps c.in-None.is q
-    ∙ gathered_and unless_empty (find bytes_cmp q (by_bytes c.args.source.now.entries))
+    ∙ gathered_and unless_empty (find bytes_cmp q c.args.source.now.entries)

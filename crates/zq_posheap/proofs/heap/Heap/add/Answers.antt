@@ -16,7 +16,7 @@ use Rattle.zq_posheap.proofs.Scored.{hole_added}
 use Rattle.zq_posheap.proofs.Told.{held, link_within, one_more_seen}
 use Rattle.zq_posheap.specs.Links.{link_of}
 use Rattle.zq_posheap.specs.Moves.{links_of, shown}
-use Rattle.zq_posheap.specs.Order.{same_key, texts_of}
+use Rattle.zq_posheap.specs.Order.{same_key}
 use Rattle.zq_posheap.specs.Whole.{entries_map}
 use Rattle.zq_posheap.proofs.heap.Heap.add.Goals as goal
 
@@ -28,7 +28,7 @@ settle-requires-clause-linked g c =
     let heap = c.args.self.now in
     let score = to_z w128 (of_z w128 c.args.score) in
     let more = when_ok c.insert.result (c.insert.ensures.succeeds (omega (arith, c.requires.room))) c.insert.ensures.entries
-    ∙ insert_entry-new same_key heap.members c.args.member (held score c.len-position.result c.args.value) (no_entry shown heap.members.entries c.args.member.items c.requires.absent) in
+    ∙ insert_entry-new same_key heap.members c.args.member (held score c.len-position.result c.args.value) (no_entry shown heap.members.entries c.args.member c.requires.absent) in
     let pushed = c.push_reserved.ensures.items in
     rw (pushed, one_more_seen link_of heap.members.entries c.insert.new.self.entries c.args.member _ more)
     (added heap.slots.items (links_of heap) c.requires.whole.linked c.len-position.result score (omega (arith, c.len-position.ensures, heap.slots.ok.0)))
@@ -38,16 +38,15 @@ settle-requires-clause-hole g c =
     let heap = c.args.self.now in
     let score = to_z w128 (of_z w128 c.args.score) in
     let more = when_ok c.insert.result (c.insert.ensures.succeeds (omega (arith, c.requires.room))) c.insert.ensures.entries
-    ∙ insert_entry-new same_key heap.members c.args.member (held score c.len-position.result c.args.value) (no_entry shown heap.members.entries c.args.member.items c.requires.absent) in
-    let texts = ap (λ es. texts_of (keys_of es)) more
-    ∙ ap texts_of (map-append (λ e. e.0) heap.members.entries ((c.args.member, held score c.len-position.result c.args.value) ∷ [])) ∙ map-append (λ k. k.items) (keys heap.members) (c.args.member ∷ []) in
-    hole_added (texts_of (keys heap.members)) heap.slots.items c.len-position.result (omega (arith, c.len-position.ensures, heap.slots.ok.0)) c.requires.whole.ordered
-    (texts_of (keys c.insert.new.self)) c.push_reserved.new.self.items c.args.member.items score texts c.push_reserved.ensures.items
+    ∙ insert_entry-new same_key heap.members c.args.member (held score c.len-position.result c.args.value) (no_entry shown heap.members.entries c.args.member c.requires.absent) in
+    let texts = ap (λ es. (keys_of es)) more
+    ∙ map-append (λ e. e.0) heap.members.entries ((c.args.member, held score c.len-position.result c.args.value) ∷ []) in
+    hole_added (keys heap.members) heap.slots.items c.len-position.result (omega (arith, c.len-position.ensures, heap.slots.ok.0)) c.requires.whole.ordered
+    (keys c.insert.new.self) c.push_reserved.new.self.items c.args.member score texts c.push_reserved.ensures.items
     (λ p x here. omega (
       arith,
       link_within heap.members heap.members x.index _ (c.requires.whole.linked.known p x here),
       length-map heap.members.entries (λ e. e.0),
-      length-map (keys heap.members) (λ k. k.items),
     ))
 
 pub returns-clause-held : goal.returns-clause-held
@@ -56,7 +55,7 @@ returns-clause-held g c =
     let updates = when_ok c.insert.result (c.insert.ensures.succeeds (omega (arith, c.requires.room))) c.insert.ensures.updates in
     same_entries _ c.settle.new.self c.settle.ensures.moves
     ∙ inserted shown heap.members c.insert.new.self c.args.member (held (to_z w128 (of_z w128 c.args.score)) c.len-position.result c.args.value) updates
-    ∙ (λ k. insert (entries_map heap) c.args.member.items (to_z-of_z w128 c.args.score c.ranges.score k, c.args.value))
+    ∙ (λ k. insert (entries_map heap) c.args.member (to_z-of_z w128 c.args.score c.ranges.score k, c.args.value))
 
 pub returns-clause-less_room : goal.returns-clause-less_room
 returns-clause-less_room g c = omega (arith, c.settle.ensures.moves.room, c.insert.ensures.spare, c.push_reserved.ensures.capacity, c.push_reserved.ensures.len, c.push_reserved.new.self.ok.0, c.args.self.now.slots.ok.0)

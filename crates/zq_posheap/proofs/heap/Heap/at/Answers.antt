@@ -15,5 +15,5 @@ returns-clause-held g c =
     let key = c.unwrap.result.0.now in
     let held = c.unwrap.result.1.now in
     let entry = sym c.get_index.ensures.entry ∙ ap (option_map (λ p. (p.0.now, p.1.now))) c.unwrap.ensures in
-    let found = subst (λ o. IfSome o (λ p. lookup (has_text p.0.now.items) es ≡ Some p.1.now)) c.unwrap.ensures c.get_index.ensures.value in
-    ap (get (entries_map heap)) (sym (text_there es c.args.index key held entry)) ∙ seen_is shown es key.items held (sym found)
+    let found = subst (λ o. IfSome o (λ p. lookup (has_text p.0.now) es ≡ Some p.1.now)) c.unwrap.ensures c.get_index.ensures.value in
+    ap (get (entries_map heap)) (sym (text_there es c.args.index key held entry)) ∙ seen_is shown es key held (sym found)

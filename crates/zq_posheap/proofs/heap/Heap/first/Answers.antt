@@ -21,10 +21,10 @@ pub returns-clause-first : goal.returns-clause-first
 returns-clause-first g c =
     let heap = c.args.self.now in
     let slot = c.in_ok-slot.slot.now in
-    let text = c.in_ok-member.member.now.items in
+    let text = c.in_ok-member.member.now in
     let at_top = sym (c.in_ok-slot.ensures.value ∙ ap (λ xs. slice_get xs 0) c.deref.ensures.value) in
     let seen = first_is heap.members.entries heap.slots.items c.requires.whole.linked c.requires.whole.ordered slot c.in_ok-member.member.now
     c.in_ok-member.field-0-1.now at_top (sym c.in_ok-member.ensures.entry) c.in_ok-member.ensures.value in
     let first = subst (λ m. IsFirst m (slot.score, text)) (sym (scores_of_seen heap.members.entries)) seen in
     let fits = to_z-of_z w128 slot.score (score_in_range (entries_map heap) c.requires.in_range text slot.score first.there) in
-    same_first (scores_of (entries_map heap)) slot.score _ text c.as_slice.result.now (sym fits) (sym c.as_slice.ensures.value) first
+    same_first (scores_of (entries_map heap)) slot.score _ text c.as_slice.result.now (sym fits) (sym c.as_slice.ensures) first

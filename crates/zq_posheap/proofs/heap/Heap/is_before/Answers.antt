@@ -1,7 +1,6 @@
 use Rattle.std.proofs.Common.{ap, sym, ◌∙◌}
 use Rattle.std.specs.Cmp.Lexicographic.{slice_cmp}
 use Rattle.std.specs.Ordering.{is_lt, nat_cmp}
-use Rattle.zq_posheap.specs.Order.{texts_of}
 use Rattle.zq_posheap.proofs.Scored.{tied_by_bytes}
 use Rattle.indexmap.specs.IndexMap.{keys}
 use Rattle.zq_posheap.proofs.Told.{link_within}
@@ -23,5 +22,5 @@ returns-in-Equal g c = λ d.
     let slots = c.args.self.now.slots.items in
     let x = read_at slots c.args.a c.index.result.now c.requires.a_within c.index.ensures in
     let y = read_at slots c.args.b c.index-2.result.now c.requires.b_within c.index-2.ensures in
-    tied_by_bytes (texts_of (keys c.args.self.now.members)) slots c.args.a c.args.b _ _ c.is_lt.result d x y (sym c.in-Equal.ensures)
+    tied_by_bytes (keys c.args.self.now.members) slots c.args.a c.args.b _ _ c.is_lt.result d x y (sym c.in-Equal.ensures)
     (c.is_lt.ensures ∙ ap is_lt (c.cmp-in-Equal.ensures ∙ (λ k. slice_cmp nat_cmp (c.member.ensures k) (c.member-in-Equal.ensures k))))

@@ -16,7 +16,6 @@ use Rattle.zq_posheap.proofs.Scored.{hole_rescored, text_there}
 use Rattle.zq_posheap.proofs.Told.{written_seen}
 use Rattle.zq_posheap.specs.Links.{link_of}
 use Rattle.zq_posheap.specs.Moves.{links_of, shown}
-use Rattle.zq_posheap.specs.Order.{texts_of}
 use Rattle.zq_posheap.specs.Whole.{entries_map}
 use Rattle.zq_posheap.proofs.heap.Heap.replace.Goals as goal
 
@@ -40,9 +39,9 @@ settle-requires-clause-hole g c =
     let heap = c.args.self.now in
     let held = c.at.result.now in
     let new = slot (to_z w128 (of_z w128 c.args.score)) c.args.index in
-    let members = ap texts_of (ap keys (c.exchange-given.ensures.noted held c.at.ensures.there) ∙ keys-with_value_at heap.members c.args.index _) in
-    hole_rescored (texts_of (keys heap.members)) heap.slots.items _ (length-set heap.slots.items held.position new) c.requires.whole.ordered
-    (texts_of (keys c.exchange-given.new.members)) held.position new members
+    let members = ap keys (c.exchange-given.ensures.noted held c.at.ensures.there) ∙ keys-with_value_at heap.members c.args.index _ in
+    hole_rescored (keys heap.members) heap.slots.items _ (length-set heap.slots.items held.position new) c.requires.whole.ordered
+    (keys c.exchange-given.new.members) held.position new members
 
 pub returns-clause-held : goal.returns-clause-held
 returns-clause-held g c =

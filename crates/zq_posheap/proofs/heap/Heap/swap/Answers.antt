@@ -2,7 +2,7 @@ use Rattle.std.proofs.Common.{ap, ◌∙◌}
 use Rattle.std.proofs.lemmas.List.Edits.{length-swap}
 use Rattle.std.specs.Prelude.{length, map, min, slice_set, ◌-◌, ◌≢◌}
 use Rattle.zq_posheap.specs.Moves.{links_of}
-use Rattle.zq_posheap.specs.Order.{scored_at, texts_of}
+use Rattle.zq_posheap.specs.Order.{scored_at}
 use Rattle.zq_posheap.proofs.Lists.{map-swap, swap-set}
 use Rattle.indexmap.specs.IndexMap.{keys}
 use Rattle.zq_posheap.proofs.Linked.{at, one_slot, other_there, read_at, swapped}
@@ -43,7 +43,7 @@ returns-clause-queue g c =
     let there = other_there (links_of heap) (links_of (record heap { members = c.set_position.new.members })) left.index right.index _ _ apart told (linked.known c.args.b right y) in
     let members = told_keys c.set_position.new.members c.set_position-2.new.members right.index c.args.b c.args.a right.score c.set_position-2.ensures there
     ∙ told_keys heap.members c.set_position.new.members left.index c.args.a c.args.b left.score c.set_position.ensures (linked.known c.args.a left x) in
-    (λ k. map (scored_at (texts_of (members k))) (c.swap.ensures.items k)) ∙ map-swap (scored_at (texts_of (keys heap.members))) slots c.args.a c.args.b _ _ x y
+    (λ k. map (scored_at (members k)) (c.swap.ensures.items k)) ∙ map-swap (scored_at (keys heap.members)) slots c.args.a c.args.b _ _ x y
 
 pub returns-clause-moves : goal.returns-clause-moves
 returns-clause-moves g c =

@@ -10,7 +10,7 @@ use Rattle.zq_posheap.proofs.Ordered.{turned_total}
 use Rattle.zq_posheap.proofs.Sifting.{hole_at_removal}
 use Rattle.zq_posheap.specs.Links.{link_of}
 use Rattle.zq_posheap.specs.Moves.{queue_of, shown}
-use Rattle.zq_posheap.specs.Order.{texts_of, turned_cmp}
+use Rattle.zq_posheap.specs.Order.{turned_cmp}
 use Rattle.zq_posheap.proofs.heap.Heap.take_out.Goals as goal
 
 pub move_last-requires-clause-within : goal.move_last-requires-clause-within
@@ -54,4 +54,4 @@ returns-clause-held g c =
     let last = ap (λ n. slice_get c.move_last.new.self.slots.items (n - 1)) c.move_last.ensures.moves.len ∙ c.move_last.ensures.last
     ∙ c.requires.whole.linked.found c.args.index _ (mapped_at link_of (values old.members) c.args.index held c.at.ensures.there) in
     same_entries _ c.settle.new.self c.settle.ensures.moves ∙ c.drop_last.ensures.held (slot held.score c.args.index) last
-    ∙ (λ k. remove (same_entries old c.move_last.new.self c.move_last.ensures.moves k) (get_or (texts_of (c.move_last.ensures.moves.members k)) c.args.index []))
+    ∙ (λ k. remove (same_entries old c.move_last.new.self c.move_last.ensures.moves k) (get_or (c.move_last.ensures.moves.members k) c.args.index []))

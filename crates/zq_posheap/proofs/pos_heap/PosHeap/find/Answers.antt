@@ -1,6 +1,5 @@
 use Rattle.std.proofs.Common.{ap, sym, ◌∙◌}
 use Rattle.std.specs.FinMap.{get}
-use Rattle.std.specs.Map.{keys_of}
 use Rattle.std.specs.Prelude.{Some, is_some, slice_get}
 use Rattle.zq_posheap.proofs.Entries.{found_key, is_seen}
 use Rattle.zq_posheap.proofs.Lists.{mapped_at}
@@ -9,16 +8,18 @@ use Rattle.zq_posheap.proofs.pos_heap.PosHeap.find.Goals as goal
 
 pub returns-in_err-index-clause-there : goal.returns-in_err-index-clause-there
 returns-in_err-index-clause-there g c =
-    ap is_some c.from_residual.ensures ∙ c.in_err-index.ensures.found ∙ sym (is_seen shown c.self.inside.heap.members.entries c.args.member.now)
+    let es = c.self.inside.heap.members.entries in
+    ap is_some c.from_residual.ensures ∙ c.in_err-index.ensures.found ∙ sym (is_seen shown es c.args.member.now)
     ∙ ap (λ m. is_some (get m.held c.args.member.now)) c.self.view_is
 
 pub returns-clause-there : goal.returns-clause-there
 returns-clause-there g c =
-    c.in_ok-index.ensures.found ∙ sym (is_seen shown c.self.inside.heap.members.entries c.args.member.now) ∙ ap (λ m. is_some (get m.held c.args.member.now)) c.self.view_is
+    let es = c.self.inside.heap.members.entries in
+    c.in_ok-index.ensures.found ∙ sym (is_seen shown es c.args.member.now)
+    ∙ ap (λ m. is_some (get m.held c.args.member.now)) c.self.view_is
 
 pub returns-clause-place : goal.returns-clause-place
 returns-clause-place g c =
     let es = c.self.inside.heap.members.entries in
     let key = found_key es c.args.member.now c.in_ok-index.index c.in_ok-index.ensures.index in
-    ap (λ m. slice_get m.places c.in_ok-index.index) (sym c.self.view_is)
-    ∙ mapped_at (λ k. k.items) (keys_of es) c.in_ok-index.index key.0.0 (mapped_at (λ x. x.0) es c.in_ok-index.index key.0 key.1) ∙ ap (λ x. Some x) (sym key.2)
+    ap (λ m. slice_get m.places c.in_ok-index.index) (sym c.self.view_is) ∙ mapped_at (λ x. x.0) es c.in_ok-index.index key.0 key.1 ∙ ap (λ x. Some x) (sym key.2)

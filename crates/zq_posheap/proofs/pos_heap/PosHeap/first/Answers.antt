@@ -1,4 +1,4 @@
-use Rattle.std.proofs.Common.{ap, sym, ◌∙◌}
+use Rattle.std.proofs.Common.{ap, ◌∙◌}
 use Rattle.std.specs.Prelude.{min, take}
 use Rattle.zq_posheap.specs.Members.{scores_of}
 use Rattle.zq_posheap.proofs.Firsts.{firsts_begin, one_length}

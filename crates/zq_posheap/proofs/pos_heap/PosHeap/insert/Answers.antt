@@ -11,6 +11,6 @@ use Rattle.zq_posheap.proofs.pos_heap.PosHeap.insert.Goals as goal
 pub invariant_of-self : goal.invariant_of-self
 invariant_of-self g c = (
   c.add.ensures.still_whole,
-  subst AreInRange (sym c.add.ensures.held) (range-insert (entries_map c.self.inside.heap) c.self.invariant.1 c.in-Ok.member.items (to_z w128 (of_z w128 c.args.score), c.args.value)
+  subst AreInRange (sym c.add.ensures.held) (range-insert (entries_map c.self.inside.heap) c.self.invariant.1 c.in-Ok.member (to_z w128 (of_z w128 c.args.score), c.args.value)
       (subst (FitsSigned w128) (sym (to_z-of_z w128 c.args.score c.ranges.score)) c.ranges.score)),
 )

@@ -1,5 +1,5 @@
 use Rattle.std.proofs.Common.{ap, arith, sym, ◌∙◌}
-use Rattle.std.specs.Prelude.{drop, length, map, min, take, ◌<◌, ◌≡◌, ◌≤◌}
+use Rattle.std.specs.Prelude.{drop, length, map, min, take, ◌<◌, ◌≤◌}
 use Rattle.zq_posheap.specs.Listing.{lent_pair}
 use Rattle.zq_posheap.specs.Members.{scores_of}
 use Rattle.zq_posheap.proofs.Firsts.{one_length}

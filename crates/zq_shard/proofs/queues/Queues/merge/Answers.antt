@@ -2,12 +2,12 @@ use Rattle.std.proofs.Common.{ap, ap₂, subst, sym, ◌∙◌}
 use Rattle.zq_queue.specs.Queued.{Queued}
 use Rattle.zq_shard.proofs.AtKeys.{unless_is}
 use Rattle.zq_shard.proofs.Joined.{members_are_joined}
-use Rattle.zq_shard.specs.Queues.{AreQueues, Keyed, by_bytes, members_joined}
+use Rattle.zq_shard.specs.Queues.{AreQueues, Keyed, members_joined}
 use Rattle.zq_shard.proofs.queues.Queues.merge.Goals as goal
 
 pub join_theirs-requires-clause-their_kept : goal.join_theirs-requires-clause-their_kept
 join_theirs-requires-clause-their_kept c =
-    subst (λ r. AreQueues r (by_bytes c.other.inside.queues.entries))
+    subst (λ r. AreQueues r c.other.inside.queues.entries)
     (ap (λ (s : Keyed). s.rule) c.other.view_is ∙ c.requires ∙ sym (ap (λ (s : Keyed). s.rule) c.self.view_is) ∙ sym c.new-none.ensures.rule) c.other.invariant
 
 pub invariant_of-result : goal.invariant_of-result
@@ -17,6 +17,6 @@ invariant_of-result c = λ key queue there.
 
 pub returns-clause-joined : goal.returns-clause-joined
 returns-clause-joined c =
-    members_are_joined c.new-none.result.rule c.args.mine.now c.args.theirs.now (by_bytes c.self.inside.queues.entries) (by_bytes c.other.inside.queues.entries) (by_bytes c.join_theirs.new.merged.entries)
+    members_are_joined c.new-none.result.rule c.args.mine.now c.args.theirs.now c.self.inside.queues.entries c.other.inside.queues.entries c.join_theirs.new.merged.entries
     c.in_ok-join_theirs.ensures
     ∙ ap₂ (members_joined c.args.mine.now c.args.theirs.now) (ap (λ (s : Keyed). s.members) c.self.view_is) (ap (λ (s : Keyed). s.members) c.other.view_is)

@@ -5,7 +5,7 @@ use Rattle.zq_model.specs.Rows.{row_of}
 use Rattle.zq_shard.proofs.Blocks.{blocks, entries_of_blocks, rows_more}
 use Rattle.zq_shard.proofs.Looking.{entries_seen}
 use Rattle.zq_shard.specs.Listed.{lent_key, lent_row}
-use Rattle.zq_shard.specs.Queues.{Keyed, by_bytes, entries_at}
+use Rattle.zq_shard.specs.Queues.{Keyed, entries_at}
 use Rattle.zq_shard.proofs.queues.Queues.rows.Goals as goal
 
 pub loop-key-init : goal.loop-key-init
@@ -19,7 +19,7 @@ loop-key-preserved c =
 pub returns : goal.returns
 returns c =
     let held = entries_at c.args.self.now.members in
-    let queues = by_bytes c.self.inside.queues.entries in
+    let queues = c.self.inside.queues.entries in
     c.loop-key.invariant
     ∙ ap (λ xs. map row_of (blocks held (map lent_key xs))) (take_all c.loop-key.key-index c.deref-key-items.result.now c.loop-key-test.false ∙ c.deref-key-items.ensures.value)
     ∙ ap (map row_of) (entries_of_blocks queues held (map lent_key c.in_ok-keys.keys.items)

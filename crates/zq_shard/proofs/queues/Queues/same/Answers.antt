@@ -1,13 +1,13 @@
 use Rattle.std.proofs.Common.{ap, rules, subst, sym, tests, ◌∙◌, ◌≡◌}
 use Rattle.zq_dots.specs.Rule.{rule_of}
 use Rattle.zq_shard.proofs.SameQueues.{members_same, queues_same}
-use Rattle.zq_shard.specs.Queues.{AreQueues, Keyed, by_bytes, entries_or_none, members_in}
+use Rattle.zq_shard.specs.Queues.{AreQueues, Keyed, entries_or_none, members_in}
 use Rattle.zq_shard.proofs.queues.Queues.same.Goals as goal
 
 pub returns-then-eq : goal.returns-then-eq
 returns-then-eq c =
-    let a = by_bytes c.self.inside.queues.entries in
-    let b = by_bytes c.other.inside.queues.entries in
+    let a = c.self.inside.queues.entries in
+    let b = c.other.inside.queues.entries in
     let one : rule_of c.self.inside.rule ≡ rule_of c.other.inside.rule = search (rules, tests) in (
       λ t.
           let members : members_in a ≡ members_in b = members_same a b (λ q. ap entries_or_none (c.are_same.ensures.0 t q)) in

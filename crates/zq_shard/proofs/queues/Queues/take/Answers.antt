@@ -6,7 +6,7 @@ use Rattle.zq_shard.proofs.AtKeys.{kept_at}
 use Rattle.zq_shard.proofs.Changed.{operation_taken}
 use Rattle.zq_shard.proofs.Looking.{entries_seen, place_seen}
 use Rattle.zq_shard.proofs.Outcomes.{either, if_ok_map, ok_map}
-use Rattle.zq_shard.specs.Queues.{AreQueues, by_bytes, entries_in}
+use Rattle.zq_shard.specs.Queues.{AreQueues, entries_in}
 use Rattle.zq_shard.proofs.queues.Queues.take.Goals as goal
 
 pub take-requires-clause-room : goal.take-requires-clause-room
@@ -16,10 +16,10 @@ take-requires-clause-room c =
 pub invariant_of-self : goal.invariant_of-self
 invariant_of-self c =
     let o = c.args.op.now.operation in
-    let old = by_bytes c.self.inside.queues.entries in
+    let old = c.self.inside.queues.entries in
     let rule = rule_of c.self.inside.rule in
     either c.take.result c.take.ensures.taken c.take.ensures.refused
-    (λ has. kept_at rule o.key (record { rule = rule; entries = entries_after o (entries_in old o.key) }) old (by_bytes c.take.new.queues.entries) c.self.invariant has refl)
+    (λ has. kept_at rule o.key (record { rule = rule; entries = entries_after o (entries_in old o.key) }) old c.take.new.queues.entries c.self.invariant has refl)
     (λ same. subst (AreQueues rule) (sym same) c.self.invariant)
 
 pub returns-clause-before : goal.returns-clause-before
@@ -30,4 +30,4 @@ returns-clause-before c =
 pub returns-clause-taken : goal.returns-clause-taken
 returns-clause-taken c =
     ok_map c.take.result c.take.ensures.taken
-    (λ has. operation_taken c.self.inside.queues.entries (rule_of c.self.inside.rule) c.args.self.now c.self.view_is (by_bytes c.take.new.queues.entries) (rule_of c.self.inside.rule) c.args.op.now.operation has)
+    (λ has. operation_taken c.self.inside.queues.entries (rule_of c.self.inside.rule) c.args.self.now c.self.view_is c.take.new.queues.entries (rule_of c.self.inside.rule) c.args.op.now.operation has)
