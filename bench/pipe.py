@@ -3,11 +3,11 @@
 there, and with the yardstick in C, and prints the medians and their ratios. One loader, feed.c, feeds them all. Needs a C
 compiler.
 
-Usage: bench/pipe.py [--seed N] [--requests N] [--members N] [--rounds N] [KIND ..]
-The kinds are those of streams.py. Numbers are of one run on one machine: only the ratios are worth a comparison.
+Usage: bench/pipe.py [--seed N] [--requests N] [--members N[,N..]] [--rounds N] [KIND ..]
+The kinds are those of streams.py, each over each number of members. Numbers are of one run on one machine: only the
+ratios are worth a comparison.
 """
 import argparse
-import os
 import pathlib
 import shutil
 import socket
@@ -45,16 +45,15 @@ class Feed:
 
     def __init__(self, folder):
         self.program = compiled("feed", folder)
-        self.paths = [pathlib.Path(folder) / "first", pathlib.Path(folder) / "second"]
+        self.first, self.second, self.nothing = (pathlib.Path(folder) / name for name in ("first", "second", "nothing"))
+        self.nothing.touch()
 
-    def take(self, streams_fed):
-        for path, data in zip(self.paths, streams_fed):
-            path.write_bytes(data)
+    def take(self, first, second):
+        self.first.write_bytes(first)
+        self.second.write_bytes(second)
 
-    def seconds(self, *to, loads=True):
-        """The seconds of the second stream. What keeps nothing needs no first one."""
-        first, second = self.paths
-        command = [self.program, first if loads else os.devnull, second, *map(str, to)]
+    def seconds(self, *to, first=None):
+        command = [self.program, first or self.first, self.second, *map(str, to)]
         return float(subprocess.run(command, stdout=subprocess.PIPE, check=True).stdout)
 
 
@@ -106,32 +105,39 @@ class Redis:
         self.server.wait()
 
 
-def measure(kind, options, feed, redis, stick):
-    """Times one kind of stream and prints its line."""
-    first, data = streams.stream(kind, options.seed, options.requests, options.members)
-    feed.take((first, data))
+def measure(kind, members, options, feed, redis, stick):
+    """Times one kind of stream over that many members and prints its line."""
+    first, data = streams.stream(kind, options.seed, options.requests, members)
+    requests = streams.length(kind, options.requests, members)
+    feed.take(first, data)
     times = {"zqueue": [], "redis": [], "yardstick": []}
     for _ in range(options.rounds):
         times["zqueue"].append(feed.seconds("program", ROOT / "crates" / "zqueue" / "out" / "zqueue", "pipe"))
         if redis:
             redis.clear()
             times["redis"].append(feed.seconds("port", redis.port))
-        times["yardstick"].append(feed.seconds("program", stick, loads=False))
+        # The yardstick keeps nothing, and answers no PING, by which the loader knows the end of a first stream.
+        times["yardstick"].append(feed.seconds("program", stick, first=feed.nothing))
     medians = {name: statistics.median(all) for name, all in times.items() if all}
-    line = f"{kind}: {options.requests} requests, {len(data)} bytes"
+    line = f"{kind} over {members} members: {requests} requests, {len(data)} bytes"
     for name, seconds in medians.items():
-        line += f"; {name} {seconds:.3f} s, {options.requests / seconds:,.0f} requests/s"
+        line += f"; {name} {seconds:.3f} s, {requests / seconds:,.0f} requests/s"
     for name in ("redis", "yardstick"):
         if name in medians:
             line += f"; zqueue's rate is {medians[name] / medians['zqueue']:.2f} of {name}'s"
     print(line, flush=True)
 
 
+def numbers(text):
+    """The numbers that stand between commas."""
+    return [int(word) for word in text.split(",")]
+
+
 def main():
     parser = argparse.ArgumentParser(description=__doc__.split("\n\n")[0])
     parser.add_argument("--seed", type=int, default=1)
     parser.add_argument("--requests", type=int, default=300000)
-    parser.add_argument("--members", type=int, default=1000)
+    parser.add_argument("--members", type=numbers, default=[1000])
     parser.add_argument("--rounds", type=int, default=5)
     parser.add_argument("kinds", nargs="*", metavar="KIND", help=" ".join(streams.KINDS))
     options = parser.parse_args()
@@ -145,8 +151,9 @@ def main():
         if redis is None:
             print("redis-server is not there (Debian's package redis-server): no ratio to it")
         try:
-            for kind in options.kinds or streams.KINDS:
-                measure(kind, options, feed, redis, stick)
+            for members in options.members:
+                for kind in options.kinds or streams.KINDS:
+                    measure(kind, members, options, feed, redis, stick)
         finally:
             if redis:
                 redis.stop()

@@ -1,5 +1,11 @@
 """Streams of requests, made from a seed: the same seed gives the same bytes on every machine."""
+import dataclasses
+import itertools
 import random
+from typing import Callable
+
+# Of kinds that may read every member, a stream has no more requests than read this many members.
+MOST_READ = 100_000_000
 
 
 def request(*words):
@@ -47,6 +53,47 @@ def looks(draw, members):
     return request(b"ZSCORE", b"board", b"m%d" % draw.randrange(members))
 
 
+def increments(draw, members):
+    """An increment of a member's score, up or down."""
+    return request(b"ZINCRBY", b"board", b"%d" % draw.randrange(-1000, 1001), b"m%d" % draw.randrange(members))
+
+
+def pops(draw, members):
+    """The first member, which goes."""
+    return request(b"ZPOPMIN", b"board")
+
+
+def firsts(draw, members):
+    """The first ten members."""
+    return request(b"ZRANGE", b"board", b"0", b"9")
+
+
+def ranks(draw, members):
+    """The place of a member."""
+    return request(b"ZRANK", b"board", b"m%d" % draw.randrange(members))
+
+
+def counts(draw, members):
+    """How many members have a score between two."""
+    low, high = sorted(draw.randrange(1000000) for _ in range(2))
+    return request(b"ZCOUNT", b"board", b"%d" % low, b"%d" % high)
+
+
+def each(make):
+    """Requests without end, each made by itself."""
+    def made(draw, members):
+        while True:
+            yield make(draw, members)
+    return made
+
+
+def turns(draw, members):
+    """A new member and a pop of the first one, in turn: the number of members stays."""
+    for number in itertools.count(members):
+        yield request(b"ZADD", b"board", b"%d" % draw.randrange(1000000), b"m%d" % number)
+        yield pops(draw, members)
+
+
 def load(draw, members):
     """A score for each member, in no order."""
     order = list(range(members))
@@ -54,15 +101,44 @@ def load(draw, members):
     return b"".join(request(b"ZADD", b"board", b"%d" % draw.randrange(1000000), b"m%d" % member) for member in order)
 
 
-KINDS = {"unknown": unknown, "adds": adds, "scores": scores, "mixed": mixed, "updates": adds, "looks": looks}
+@dataclasses.dataclass(frozen=True)
+class Kind:
+    """What the requests are, whether each member is there before them, whether there are as many as members, and
+    whether one of them may read every member."""
+    made: Callable
+    is_loaded: bool = False
+    is_emptying: bool = False
+    reads_all: bool = False
 
-# Before these each member is there.
-LOADED = {"updates", "looks"}
+
+KINDS = {
+    "unknown": Kind(each(unknown)),
+    "adds": Kind(each(adds)),
+    "scores": Kind(each(scores)),
+    "mixed": Kind(each(mixed)),
+    "updates": Kind(each(adds), is_loaded=True),
+    "looks": Kind(each(looks), is_loaded=True),
+    "increments": Kind(each(increments), is_loaded=True),
+    "turns": Kind(turns, is_loaded=True),
+    "pops": Kind(each(pops), is_loaded=True, is_emptying=True),
+    "firsts": Kind(each(firsts), is_loaded=True, reads_all=True),
+    "ranks": Kind(each(ranks), is_loaded=True, reads_all=True),
+    "counts": Kind(each(counts), is_loaded=True, reads_all=True),
+}
+
+
+def length(kind, requests, members):
+    """How many requests a stream of a kind has over that many members, where that many are asked for."""
+    if KINDS[kind].is_emptying:
+        return members
+    if KINDS[kind].reads_all:
+        return min(requests, max(1, MOST_READ // members))
+    return requests
 
 
 def stream(kind, seed, requests, members):
-    """What goes before the requests of a kind over that many members, and that many requests."""
+    """What goes before the requests of a kind over that many members, and the requests."""
     draw = random.Random(seed)
-    first = load(draw, members) if kind in LOADED else b""
-    make = KINDS[kind]
-    return first, b"".join(make(draw, members) for _ in range(requests))
+    first = load(draw, members) if KINDS[kind].is_loaded else b""
+    made = KINDS[kind].made(draw, members)
+    return first, b"".join(itertools.islice(made, length(kind, requests, members)))

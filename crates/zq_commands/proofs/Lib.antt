@@ -18,3 +18,4 @@ mod SitePlaces
 mod SiteRuns
 mod BookMoves
 mod ScoreBounds
+pub mod Begun

@@ -1,6 +1,6 @@
 -- The pairs of a queue that pass, in order or turned round, over several books.
 
-use Rattle.std.proofs.Common.{Bool, List, Some, [], ap, arith, drop, false, inl, inr, refl, subst, suc, sym, take, true, zero, ℕ, ℤ, ◌<◌, ◌∙◌, ◌∷◌, ◌≡◌, ◌⊎◌, map}
+use Rattle.std.proofs.Common.{Bool, List, [], ap, arith, drop, false, inl, inr, refl, subst, suc, sym, take, true, zero, ℕ, ◌∙◌, ◌∷◌, ◌≡◌, map}
 use Rattle.std.specs.Prelude.{filter}
 use Rattle.zq_commands.proofs.Sections.{take_none}
 use Rattle.zq_commands.proofs.Woven.{filter_order, in_turned_if, turned_if_in, turned_order, woven_first}

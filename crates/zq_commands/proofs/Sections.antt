@@ -1,10 +1,10 @@
 -- The pairs of a queue within two bounds stand one behind the other.
 
-use Rattle.std.proofs.Common.{Bool, Equal, Greater, Less, List, Ordering, [], ap, arith, cond, drop, false, inl, inr, length, min, not, refl, reverse, subst, suc, sym, take, true, true≢false, zero, ℕ, ℤ, ◌&&◌, ◌+◌, ◌-◌, ◌∙◌, ◌∷◌, ◌≡◌, ◌≤◌, ◌≤ℤ◌, ◌<ℤ◌, ◌⊎◌}
+use Rattle.std.proofs.Common.{Bool, Equal, Greater, Less, List, [], ap, arith, cond, drop, false, inl, inr, length, min, not, refl, reverse, suc, sym, take, true, true≢false, zero, ℕ, ℤ, ◌&&◌, ◌+◌, ◌-◌, ◌∙◌, ◌∷◌, ◌≡◌, ◌≤ℤ◌, ◌<ℤ◌}
 use Rattle.std.proofs.lemmas.Bool.{cond-false, cond-true, false_from_ne_true}
 use Rattle.std.proofs.lemmas.Grind.{reverse_onto}
 use Rattle.std.proofs.lemmas.Int.{ints}
-use Rattle.std.proofs.lemmas.List.Sums.{count_by-le-length, sum_by-append, sum_by-cons}
+use Rattle.std.proofs.lemmas.List.Sums.{sum_by-append, sum_by-cons}
 use Rattle.std.proofs.lemmas.List.{length-reverse}
 use Rattle.std.specs.Cmp.{int_ranks}
 use Rattle.std.specs.Cmp.Lexicographic.{slice_cmp}
@@ -13,7 +13,7 @@ use Rattle.std.specs.Prelude.{count_by, filter, slice_range}
 use Rattle.zq_commands.proofs.Woven.{AreInOrder, turned_order}
 use Rattle.zq_commands.specs.Sections.{is_entered}
 use Rattle.zq_commands.specs.Weaving.{goes_before}
-use Rattle.zq_model.specs.Meaning.{IsRising, Scored, scored_cmp}
+use Rattle.zq_model.specs.Meaning.{IsRising, Scored}
 use Rattle.zq_model.specs.Sets.{IsIn}
 use Rattle.zq_moves.specs.Moves.{Queue}
 use Rattle.zq_moves.specs.Readings.{is_before}

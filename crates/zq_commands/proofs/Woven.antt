@@ -1,6 +1,6 @@
 -- Lists of pairs in order, or in the order turned round, put together.
 
-use Rattle.std.proofs.Common.{Bool, Equal, Greater, Less, List, Ordering, [], ap, arith, drop, false, inl, inr, refl, reverse, subst, suc, sym, take, true, true≢false, zero, ℕ, ℤ, ◌++◌, ◌+◌, ◌∙◌, ◌∷◌, ◌≡◌, ◌≤◌, ◌⊎◌, cond}
+use Rattle.std.proofs.Common.{Bool, Equal, Greater, Less, List, [], ap, arith, drop, false, inl, inr, refl, reverse, subst, suc, sym, take, true, true≢false, zero, ℕ, ◌++◌, ◌+◌, ◌∙◌, ◌∷◌, ◌≡◌, ◌≤◌, ◌⊎◌, cond}
 use Rattle.std.proofs.lemmas.Bool.{cond-false, cond-true}
 use Rattle.std.proofs.lemmas.Grind.{reverse_onto}
 use Rattle.std.proofs.lemmas.List.{append-nil, append_assoc, drop_all}
@@ -12,7 +12,7 @@ use Rattle.zq_model.proofs.Membership.{in_left, in_right, in_union}
 use Rattle.zq_model.proofs.Rising.{less_from, not_below_itself, scored_exact, scored_total}
 use Rattle.zq_model.specs.Meaning.{IsRising, Scored, scored_cmp}
 use Rattle.zq_model.specs.Sets.{IsIn}
-use Rattle.zq_moves.proofs.Lists.{in_filter, in_filter_from}
+use Rattle.zq_moves.proofs.Lists.{in_filter_from}
 use Rattle.zq_moves.specs.Moves.{Queue}
 use Rattle.zq_moves.specs.Readings.{is_before}
 use Rattle.zq_plans.specs.Ranges.{turned_if}

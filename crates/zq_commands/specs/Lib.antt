@@ -12,3 +12,4 @@ pub mod Commands
 pub mod VecBooks
 pub mod WorkedBooks
 pub mod SiteBooks
+pub mod Beginning

@@ -1,6 +1,6 @@
 -- Where the pairs within two bounds begin.
 
-use Rattle.std.specs.Prelude.{Bool, false, if◌then◌else◌, true}
+use Rattle.std.specs.Prelude.{Bool, if◌then◌else◌}
 use Rattle.zq_model.specs.Meaning.{Scored}
 use Rattle.zq_plans.specs.Ranges.{is_above, is_below}
 use Rattle.zq_words.specs.declared.bound.Bound.{Bound}

@@ -1,6 +1,6 @@
 -- Two lists of pairs put together in order, or in the order turned round.
 
-use Rattle.std.specs.Prelude.{Bool, List, None, Option, Some, [], false, if◌then◌else◌, suc, true, zero, ℕ, ◌∷◌}
+use Rattle.std.specs.Prelude.{Bool, None, Option, Some, [], false, if◌then◌else◌, suc, true, zero, ℕ, ◌∷◌}
 use Rattle.zq_model.specs.Meaning.{Scored}
 use Rattle.zq_moves.specs.Moves.{Queue}
 use Rattle.zq_moves.specs.Readings.{is_before}

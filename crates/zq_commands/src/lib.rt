@@ -1,6 +1,7 @@
 //! What commands do to the books that are lent to them, and what they answer.
 #![tactic(auto)]
 
+mod beginning;
 mod books;
 mod cleared;
 mod clearing;
@@ -35,7 +36,7 @@ pub use raising::{raise, raise_if};
 pub use ranging::read_range;
 pub use reading::{read_count, read_rank, read_score, read_turned_rank, read_within};
 pub use removing::drop_members;
-pub use replies::message_reply;
+pub use replies::{cut_reply, message_reply};
 pub use running::run;
 pub use site_books::SiteBooks;
 

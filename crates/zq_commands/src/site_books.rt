@@ -27,7 +27,7 @@ use zq_words::Command;
 /// The books of all heaps of a site, 1 to 16, each at the place of its heap's number, and all of one rule.
 #[derive(Drop)]
 pub struct SiteBooks {
-    books: Vec<Book>,
+    pub(crate) books: Vec<Book>,
 }
 
 impl Model for SiteBooks {

@@ -1,11 +1,6 @@
 pub mod KnownBytes
-pub mod Pairs
-pub mod Positions
 pub mod Runs
 pub mod Served
 pub mod Streams
-pub mod InTurn
-pub mod RunPlans
-pub mod Home
-pub mod Limits
-pub mod Refusing
+pub mod OneHeap
+mod OfSets

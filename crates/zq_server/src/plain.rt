@@ -1,84 +1,89 @@
 //! A server with one heap.
 
-ghost use Rattle.std.specs.Prelude.{IsTrue, length, ◌≡◌, ◌≤◌};
+ghost use Rattle.std.specs.Prelude.{IfOk, IsTrue, ◌≡◌};
 ghost use Rattle.zq_resp.specs.Reply.{is_writable, reply_bytes};
-ghost use Rattle.zq_server.specs.Plan.{IsWithinLimits, RunsPlan, no_keys, plan_of};
+ghost use Rattle.zq_server.specs.Plain.{RunsCommand, SITE, no_keys};
 
-use crate::command::{Command, Kind};
-use crate::moves::{drop_members, put_pairs};
-use crate::replies::{count_reply, message_reply, score_reply};
 use crate::serving::Answers;
-use std::alloc::Global;
+use std::alloc::{AllocError, Global};
 use std::marker::Model;
-use zq_dots::SiteNo;
+use zq_commands::{Cut, SiteBooks, cut_reply, message_reply};
+use zq_dots::{Rule, SiteNo};
+use zq_posheap::Seeded;
 use zq_resp::{Reply, Request};
-use zq_shard::Shard;
+use zq_words::{Command, Kind};
 
-/// A server of one site with one heap, which keeps what it is given in memory alone.
+/// A server of one site with one heap, which keeps what it is given in memory alone. A member's score is the greatest
+/// of its additions'.
+///
+/// Every command but PING runs at the stamp after that of the heap's book, and is answered `-ERR worn after 0` where
+/// there is none. Before it a tail of 4,096 records or more is cut to its newest 2,048.
 #[derive(Drop)]
 pub struct Plain {
-    site: SiteNo,
-    shard: Shard,
+    pub(crate) books: SiteBooks,
 }
 
 impl Model for Plain {
-    ghost use Rattle.std.specs.Prelude.{◌≡◌};
-    ghost use Rattle.zq_shard.specs.Shard.{HeapImage, heap_image_code};
+    ghost use Rattle.std.specs.Prelude.{List};
+    ghost use Rattle.zq_commands.specs.SiteBooks.{books_code};
+    ghost use Rattle.zq_history.specs.Books.{Book};
+    ghost use Rattle.zq_server.specs.Plain.{IsOfOneHeap};
 
-    ghost Value = { HeapImage };
+    ghost Value = { List Book };
 
-    ghost coded = { heap_image_code };
+    ghost coded = { books_code };
 
-    ghost view = { λ p. p.shard };
+    ghost view = { λ server. server.books };
 
-    ghost invariant = { λ p. (p.site ≡ 0) × (p.shard.heap ≡ 0) × (p.shard.heaps ≡ 1) };
+    ghost invariant = { λ server. IsOfOneHeap server.books };
 }
 
 impl Plain {
-    /// A server with no keys.
-    pub fn new(alloc: Global) -> Plain
-        ensures { result ≡ no_keys }
+    /// A server with no keys, and `Err` where there was no memory for its book.
+    pub fn new(alloc: Global) -> Result<Plain, AllocError>
+        ensures { IfOk result (λ server. server ≡ no_keys) }
     {
-        match SiteNo::new(0) {
-            Some(site) => Plain {
-                site,
-                shard: Shard::new(alloc, 0, 1),
-            },
-            None => unreachable!(),
-        }
+        let books = SiteBooks::new(alloc, 1, Rule::High, Seeded::new(0))?;
+        Ok(Plain { books })
     }
 
+    /// The reply to a command, and what it changes.
     fn run(&mut self, alloc: Global, command: &Command) -> Reply
-        requires { IsWithinLimits command.now }
-        ensures ran { RunsPlan self.old (plan_of command.now self.old) self.new (reply_bytes result) }
+        ensures ran { RunsCommand self.old command.now self.new (reply_bytes result) }
         ensures writable { IsTrue (is_writable result) }
     {
-        match &command.kind {
+        match command.kind() {
             Kind::Ping(message) => message_reply(alloc, *message),
-            Kind::Zadd(key, pairs) => put_pairs(&mut self.shard, alloc, self.site, key, pairs),
-            Kind::Zrem(key, members) => drop_members(
-                &mut self.shard,
-                alloc,
-                self.site,
-                key,
-                members,
-            ),
-            Kind::Zscore(key, member) => score_reply(alloc, self.shard.score(key, member)),
-            Kind::Zcard(key) => count_reply(self.shard.count(key) as u64),
+            _ => match self.books.next_stamp() {
+                Some(stamp) => {
+                    self.books.begin(stamp);
+                    self.books.run(alloc, site(), stamp, command)
+                }
+                None => cut_reply(Cut::Worn, 0),
+            },
         }
     }
 }
 
 impl Answers for Plain {
-    ghost use Rattle.zq_server.specs.Plan.{AnswersByPlan};
+    ghost use Rattle.zq_server.specs.Plain.{AnswersByPlan};
 
     ghost answers = { AnswersByPlan };
 
     fn answer(&mut self, alloc: Global, request: &Request) -> Reply {
-        let _limits = request.words();
         match Command::read(alloc, request) {
             Ok(command) => self.run(alloc, &command),
             Err(refused) => refused.reply(),
         }
+    }
+}
+
+/// The site of a server with one heap.
+fn site() -> SiteNo
+    ensures { result ≡ SITE }
+{
+    match SiteNo::new(0) {
+        Some(site) => site,
+        None => unreachable!(),
     }
 }

@@ -10,7 +10,7 @@ use std::env::Env;
 use std::io::{ErrorKind, Read, Write};
 use std::process::ExitCode;
 use std::{env, io};
-use zq_server::{Plain, session, status};
+use zq_server::{Plain, SessionFault, session, status};
 
 /// The status where the command line names no command of the program.
 const USAGE: u8 = 3;
@@ -47,7 +47,7 @@ fn asked<R: Env + Alloc<A = Global>>(rt: &R) -> Result<Option<Command>, AllocErr
 }
 
 /// Serves one heap, which begins with no keys, to the reader and the writer, and answers the
-/// session's status.
+/// session's status. Where there is no memory for that heap nothing is read.
 fn pipe<R: Read, W: Write>(alloc: Global, reader: &mut R, writer: &mut W) -> u8
     ensures serves { (text written : List ℕ)
         × Consumes (R.remaining reader.old) (R.remaining reader.new) text
@@ -55,7 +55,9 @@ fn pipe<R: Read, W: Write>(alloc: Global, reader: &mut R, writer: &mut W) -> u8
         × IsPiped text written result }
     ensures read_off { result ≡ 0 → IsAtEnd (R.remaining reader.new) }
 {
-    let mut server = Plain::new(alloc);
+    let Ok(mut server) = Plain::new(alloc) else {
+        return status(&Err(SessionFault::NoMemory));
+    };
     let ended = session(alloc, &mut server, reader, writer);
     status(&ended)
 }

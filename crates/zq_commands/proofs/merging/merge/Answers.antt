@@ -1,4 +1,4 @@
-use Rattle.std.proofs.Common.{[], List, ap, arith, length, map, refl, rules, sym, ◌∙◌, ◌∷◌, ◌≡◌, ℕ}
+use Rattle.std.proofs.Common.{[], List, ap, arith, length, map, refl, rules, sym, ◌∙◌, ◌∷◌, ◌≡◌}
 use Rattle.std.proofs.lemmas.List.{length-map, take_all}
 use Rattle.zq_commands.proofs.Woven.{woven_alone}
 use Rattle.zq_commands.specs.FirstPairs.{lent_pair}

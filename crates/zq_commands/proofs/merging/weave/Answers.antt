@@ -1,4 +1,4 @@
-use Rattle.std.proofs.Common.{[], Bor, List, None, Option, Some, ap, arith, drop, false, get_or, length, map, option_map, refl, rules, slice_get, suc, sym, take, true, zero, ◌++◌, ◌+◌, ◌-◌, ◌<◌, ◌∙◌, ◌∷◌, ◌≡◌, ◌≤◌, ℕ, ℤ}
+use Rattle.std.proofs.Common.{[], Bor, List, None, Option, Some, ap, arith, drop, get_or, length, map, option_map, refl, rules, slice_get, suc, sym, zero, ◌++◌, ◌+◌, ◌-◌, ◌<◌, ◌∙◌, ◌∷◌, ◌≡◌, ◌≤◌, ℕ, ℤ}
 use Rattle.std.proofs.lemmas.List.{length-map, map-append}
 use Rattle.std.proofs.lemmas.Option.{slice_get-get_or, slice_get-map}
 use Rattle.std.specs.Prelude.{IfSome, MatchOption}

@@ -1,13 +1,13 @@
 use Rattle.std.proofs.Common.{[], Bor, List, Some, ap, arith, drop, flat_map, get_or, length, map, pos, refl, slice_get, suc, sym, take, zero, ◌++◌, ◌+◌, ◌-◌, ◌<◌, ◌∙◌, ◌∷◌, ◌≡◌, ◌≤◌, ℕ, ℤ}
 use Rattle.std.proofs.lemmas.Grind.{flat_map-append}
-use Rattle.std.proofs.lemmas.List.{append-nil, length-drop, length-map, map-append, take_all}
+use Rattle.std.proofs.lemmas.List.{append-nil, map-append}
 use Rattle.std.proofs.lemmas.Option.{slice_get-get_or, slice_get-map}
 use Rattle.std.specs.Option.{option_map}
 use Rattle.std.specs.Prelude.{slice_range}
 use Rattle.zq_commands.proofs.InTurn.{take_next}
 use Rattle.zq_commands.specs.FirstPairs.{lent_pair}
 use Rattle.zq_plans.specs.Replies as plan
-use Rattle.zq_resp.specs.Reply.{bulk, reply_bytes}
+use Rattle.zq_resp.specs.Reply.{bulk}
 use Rattle.zq_words.specs.Words.{Word}
 use Rattle.zq_commands.proofs.pairs.copy_parts.Goals as goal
 

@@ -1,10 +1,10 @@
-use Rattle.std.proofs.Common.{ap, drop, map, subst, sym, ◌∙◌, ◌≡◌}
+use Rattle.std.proofs.Common.{ap, drop, map, subst, sym, ◌∙◌}
 use Rattle.std.specs.Prelude.{filter}
 use Rattle.zq_commands.proofs.Sections.{drop_taken, length_turned}
 use Rattle.zq_commands.specs.FirstPairs.{lent_pair}
 use Rattle.zq_commands.specs.Lending.{queues_in}
 use Rattle.zq_commands.specs.Running.{IsRead}
-use Rattle.zq_plans.specs.Ranges.{is_within, ranged, turned_if}
+use Rattle.zq_plans.specs.Ranges.{is_within, turned_if}
 use Rattle.zq_plans.specs.Replies as plan
 use Rattle.zq_resp.specs.Reply.{reply_bytes}
 use Rattle.zq_commands.proofs.ranging.read_range.Goals as goal

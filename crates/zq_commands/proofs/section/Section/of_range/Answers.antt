@@ -1,9 +1,8 @@
-use Rattle.std.proofs.Common.{Bool, List, [], ap, arith, length, pos, refl, sym, true, ◌+ℤ◌, ◌∙◌, ◌∷◌, ◌≡◌, ℤ}
+use Rattle.std.proofs.Common.{Bool, List, [], ap, arith, pos, refl, sym, true, ◌+ℤ◌, ◌∙◌, ◌∷◌, ◌≡◌}
 use Rattle.std.proofs.lemmas.Int.{to_z-of_z}
 use Rattle.std.proofs.lemmas.List.Sums.{count_by-le-length, length-filter}
 use Rattle.std.specs.Prelude.{filter, if◌then◌else◌, slice_range}
 use Rattle.zq_plans.specs.Ranges as ranges
-use Rattle.zq_words.specs.declared.range.Range.{Range}
 use Rattle.zq_commands.proofs.section.Section.of_range.Goals as goal
 
 kept : {X : Type 0} (p : X → Bool) (q : List X) → ((x : X) → p x ≡ true) → filter p q ≡ q

@@ -1,37 +1,33 @@
-use Rattle.std.proofs.Common.{ap, inl, inr, map, refl, subst, sym, ◌∙◌}
+use Rattle.std.proofs.Common.{List, ap, false, refl, rules, subst, sym, ◌∙◌, ◌≡◌}
+use Rattle.zq_history.specs.Books.{Book}
 use Rattle.zq_resp.specs.Reply.{reply_bytes}
-use Rattle.zq_server.specs.Plan.{RunsPlan, in_turn, plan_of, refused, whole, zadd_part, zrem_part}
-use Rattle.zq_server.specs.Plan as plan
-use Rattle.zq_server.specs.Shown.{pair_shown, shown, views}
+use Rattle.zq_server.proofs.OneHeap.{begun_heap, ran_heap, run_command, worn_command}
+use Rattle.zq_server.specs.Plain.{RunsCommand, is_ping, pings}
+use Rattle.zq_words.specs.Command.{Command}
+use Rattle.zq_words.specs.Shown.{shown}
 use Rattle.zq_server.proofs.plain.Plain.run.Goals as goal
 
 pub returns-in-Ping-clause-ran : goal.returns-in-Ping-clause-ran
-returns-in-Ping-clause-ran c =
-    let s = c.args.self.now in
-    let bytes = reply_bytes c.message_reply.result in
-    subst (λ d. RunsPlan s (plan_of d s) s bytes) (ap shown (sym c.in-Ping.is) ∙ c.command.view_is)
-    (elim c.message_reply.ensures.bytes [ inl e ↦ whole refl e | inr e ↦ refused 0 (inl refl) refl e ])
+returns-in-Ping-clause-ran c = pings _ (sym c.kind.ensures.kind ∙ ap shown c.in-Ping.is) refl c.message_reply.ensures.read
 
-pub returns-in-Zadd-clause-ran : goal.returns-in-Zadd-clause-ran
-returns-in-Zadd-clause-ran c =
-    let t = c.put_pairs.new.shard in
-    let bytes = reply_bytes c.put_pairs.result in
-    let key = c.in-Zadd.key.now in
-    subst (λ d. RunsPlan c.args.self.now (plan_of d c.args.self.now) t bytes) (ap shown (sym c.in-Zadd.is) ∙ c.command.view_is)
-    (subst (λ s. RunsPlan s (in_turn (zadd_part key) (map pair_shown c.in-Zadd.pairs.items) s) t bytes) c.self.view_is
-    (subst (λ pairs. RunsPlan c.self.inside.shard (in_turn (zadd_part key) (map pair_shown pairs) c.self.inside.shard) t bytes) c.deref.ensures.value c.put_pairs.ensures.ran))
+pub returns-in-Some-clause-ran : goal.returns-in-Some-clause-ran
+returns-in-Some-clause-ran c =
+    let plain : is_ping (shown c.kind.result.now) ≡ false = search rules in
+    let apart = subst (λ (command : Command). is_ping command ≡ false) c.kind.ensures.kind plain in
+    let bytes = reply_bytes c.run.result in
+    subst (λ (old : List Book). RunsCommand old c.args.command.now c.run.new.self bytes) c.self.view_is
+    (run_command c.self.inside.books c.self.invariant c.args.command.now apart c.in-Some.stamp c.site.result c.in-Some.ensures.next c.site.ensures c.begin.new.self c.run.new.self bytes
+    c.begin.ensures.begun c.run.ensures.ran)
 
-pub returns-in-Zrem-clause-ran : goal.returns-in-Zrem-clause-ran
-returns-in-Zrem-clause-ran c =
-    let t = c.drop_members.new.shard in
-    let bytes = reply_bytes c.drop_members.result in
-    subst (λ d. RunsPlan c.args.self.now (plan_of d c.args.self.now) t bytes) (ap shown (sym c.in-Zrem.is) ∙ c.command.view_is)
-    (subst (λ s. RunsPlan s (in_turn (zrem_part c.in-Zrem.key.now) (views c.in-Zrem.members.now) s) t bytes) c.self.view_is c.drop_members.ensures.ran)
+pub returns-in-None-clause-ran : goal.returns-in-None-clause-ran
+returns-in-None-clause-ran c =
+    let plain : is_ping (shown c.kind.result.now) ≡ false = search rules in
+    let apart = subst (λ (command : Command). is_ping command ≡ false) c.kind.ensures.kind plain in
+    let bytes = reply_bytes c.cut_reply.result in
+    subst (λ (old : List Book). RunsCommand old c.args.command.now old bytes) c.self.view_is
+    (worn_command c.self.inside.books c.self.invariant c.args.command.now apart (c.in-None.ensures.worn refl) bytes c.cut_reply.ensures.bytes)
 
-pub returns-in-Zscore-clause-ran : goal.returns-in-Zscore-clause-ran
-returns-in-Zscore-clause-ran c =
-    let s = c.args.self.now in
-    let bytes = reply_bytes c.score_reply.result in
-    let read = c.score.ensures.image ∙ ap (λ t. plan.score_in t c.in-Zscore.key.now c.in-Zscore.member.now) c.self.view_is in
-    subst (λ d. RunsPlan s (plan_of d s) s bytes) (ap shown (sym c.in-Zscore.is) ∙ c.command.view_is)
-    (elim c.score_reply.ensures.bytes [ inl e ↦ whole refl (e ∙ ap plan.score_reply read) | inr e ↦ refused 0 (inl refl) refl e ])
+pub invariant_of-self : goal.invariant_of-self
+invariant_of-self c =
+    let mid = c.begin.new.self in
+    ran_heap mid c.run.new.self (begun_heap c.in-Some.stamp c.self.inside.books mid c.self.invariant c.begin.ensures.begun) c.run.ensures.rule c.run.ensures.worked

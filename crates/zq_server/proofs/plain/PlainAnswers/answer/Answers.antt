@@ -1,13 +1,9 @@
 use Rattle.std.proofs.Common.{subst, sym}
 use Rattle.zq_resp.specs.Reply.{reply_bytes}
-use Rattle.zq_server.proofs.Limits.{within_limits}
-use Rattle.zq_server.proofs.Refusing.{refusal_runs}
-use Rattle.zq_server.specs.Command.{command_of}
-use Rattle.zq_server.specs.Plan.{RunsReading}
+use Rattle.zq_server.proofs.OneHeap.{refusal_runs}
+use Rattle.zq_server.specs.Plain.{RunsReading}
+use Rattle.zq_words.specs.Command.{command_of}
 use Rattle.zq_server.proofs.plain.PlainAnswers.answer.Goals as goal
-
-pub run-requires : goal.run-requires
-run-requires c = within_limits c.args.request.now c.in-Ok.command c.words-limits.ensures.limits.limits.each c.words-limits.ensures.limits.limits.count c.in-Ok.ensures
 
 pub returns-in-Ok-clause-related : goal.returns-in-Ok-clause-related
 returns-in-Ok-clause-related c = subst (λ r. RunsReading c.args.self.now r c.run.new.self (reply_bytes c.run.result)) (sym c.in-Ok.ensures) c.run.ensures.ran

@@ -1,0 +1,67 @@
+//! How a call begins with the books of a site.
+
+ghost use Rattle.std.specs.Prelude.{IfSome, None, Some, map, slice_get, ◌≡◌, ◌≤◌, ℕ};
+ghost use Rattle.zq_commands.specs.Beginning.{HasStamp, IsNextStamp, begun};
+ghost use Rattle.zq_commands.specs.Lending.{IsDated};
+ghost use Rattle.zq_commands.specs.VecBooks.{lending_of};
+ghost use Rattle.zq_history.specs.Books.{Book as Books};
+ghost use Rattle.zq_journal.specs.Books.{LAST_STAMP};
+
+use crate::site_books::SiteBooks;
+use zq_journal::Book;
+
+/// The last stamp.
+const LAST: u64 = 4_611_686_018_427_387_904;
+
+/// From this length on a tail is cut.
+const LONG: usize = 4096;
+
+/// How many records a cut leaves.
+const KEPT: usize = 2048;
+
+impl SiteBooks {
+    /// The stamp of the next call: the one after the greatest of the books', and `None` where that is the last.
+    #[tactic(auto, unfolding(zq_journal::specs::Books::LAST_STAMP))]
+    pub fn next_stamp(&self) -> Option<u64>
+        ensures next { IfSome result (IsNextStamp self.now) }
+        ensures worn { result ≡ None → HasStamp LAST_STAMP self.now }
+    {
+        let stamp = self.stamp();
+        if stamp < LAST { Some(stamp + 1) } else { None }
+    }
+
+    /// Begins a call of this stamp, which is no less than the books': cuts each tail of 4,096 records or more to its
+    /// newest 2,048, and raises each book's stamp to the call's. It takes no memory.
+    pub fn begin(&mut self, stamp: u64)
+        requires dated { IsDated stamp (lending_of self.old) }
+        ensures begun { self.new ≡ map (begun stamp) self.old }
+        ensures dated { IsDated stamp (lending_of self.new) }
+    {
+        begin_all(&mut self.books, stamp);
+    }
+}
+
+/// Begins a call in each of these books.
+fn begin_all(books: &mut [Book], stamp: u64)
+    requires below { (place : ℕ) (book : Books) → slice_get books.old place ≡ Some book → book.stamp ≤ stamp }
+    requires bounded { stamp ≤ LAST_STAMP }
+    ensures { books.new ≡ map (begun stamp) books.old }
+{
+    for book in books.iter_mut() {
+        begin_in(book, stamp);
+    }
+}
+
+/// Begins a call in a book.
+#[tactic(auto, unfolding(zq_history::specs::Reach::LONG, zq_history::specs::Reach::KEPT))]
+fn begin_in(book: &mut Book, stamp: u64)
+    requires stamp { book.old.stamp ≤ stamp }
+    requires bounded { stamp ≤ LAST_STAMP }
+    ensures { book.new ≡ begun stamp book.old }
+{
+    let length = book.tail_len();
+    if length >= LONG {
+        let _ = book.advance(length - KEPT);
+    }
+    book.touch(stamp);
+}

@@ -1,0 +1,18 @@
+use Rattle.zq_resp.specs.Reply.{reply_bytes}
+use Rattle.zq_server.proofs.OfSets.{goes_on, opens, queues_begun, queues_meant, reads_set}
+use Rattle.zq_server.proofs.meanings.meaning.Goals as goal
+
+pub returns-clause-opens : goal.returns-clause-opens
+returns-clause-opens c = opens
+
+pub returns-clause-queues : goal.returns-clause-queues
+returns-clause-queues c S books of key = queues_meant S books of key
+
+pub returns-clause-begins : goal.returns-clause-begins
+returns-clause-begins c books = queues_begun books
+
+pub returns-clause-reads : goal.returns-clause-reads
+returns-clause-reads c S old new words reply of question answered = reads_set S old new (reply_bytes reply) of words question answered
+
+pub returns-clause-goes_on : goal.returns-clause-goes_on
+returns-clause-goes_on c S old new words reply of is answered unworn = goes_on S old new (reply_bytes reply) of unworn words is answered
