@@ -1,0 +1,43 @@
+-- What a text of settings is read as.
+use Rattle.std.specs.Prelude.{◌≡◌, ◌==◌, ◌+◌, ◌⊎◌, ℕ, List, take, Vec, Some, None, Result, Ok, Err}
+use Rattle.std.specs.List.{count_by}
+use Rattle.std.specs.declared.alloc.Global.{Global}
+use Rattle.toml.specs.Data.{Members}
+use Rattle.toml.specs.Errors.{IsWithin, span_start}
+use Rattle.toml.specs.Parse.{parse_document}
+use Rattle.zq_settings.specs.Settings.{settings_of}
+use Rattle.zq_settings.specs.declared.fault.SettingsFault.{SettingsFault}
+use Rattle.zq_settings.specs.declared.fault.SettingsFault.TheVariants.{Refused, NoMemory}
+use Rattle.zq_settings.specs.declared.values.Settings.{Settings}
+use Rattle.zq_settings.specs.declared.why.Why.{Why}
+use Rattle.zq_settings.specs.declared.why.Why.TheVariants.{Text}
+
+-- a call gave what the reading gives, or found no memory
+abbrev pub Reads : {A : Type 0} → Result A SettingsFault → Result A Why → Type 0
+Reads (Ok a) reading = reading ≡ Ok a
+Reads (Err (Refused why)) reading = reading ≡ Err why
+Reads (Err NoMemory) reading = Unit {0}
+
+-- the same of a vector and a list
+abbrev pub ReadsAll : {A : Type 0} → Result (Vec A Global) SettingsFault → Result (List A) Why → Type 0
+ReadsAll (Ok items) reading = reading ≡ Ok items.items
+ReadsAll (Err (Refused why)) reading = reading ≡ Err why
+ReadsAll (Err NoMemory) reading = Unit {0}
+
+-- the line, from 1, of a place in a text
+abbrev pub line_of : List ℕ → ℕ → ℕ
+line_of text place = count_by (λ byte. byte == 10) (take place text) + 1
+
+-- the text writes a table of these settings
+abbrev pub HasSettings : List ℕ → Settings → Type 0
+HasSettings text settings = (table : Members) × (parse_document text ≡ Some table) × (settings_of table ≡ Ok settings)
+
+-- the text is no TOML, with the line of its fault
+abbrev pub IsNoToml : List ℕ → Why → Type 0
+IsNoToml text (Text line error) = (parse_document text ≡ None) × IsWithin text error × (line ≡ line_of text (span_start error))
+IsNoToml text _ = ⊥
+
+-- the text is no TOML, or it writes a table that breaks this rule first; want of memory says nothing of the text
+abbrev pub IsRefusal : List ℕ → SettingsFault → Type 0
+IsRefusal text (Refused why) = IsNoToml text why ⊎ ((table : Members) × (parse_document text ≡ Some table) × (settings_of table ≡ Err why))
+IsRefusal text NoMemory = Unit {0}

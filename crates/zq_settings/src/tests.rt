@@ -1,0 +1,4 @@
+//! Texts with settings, and texts that are refused.
+
+mod given;
+mod refused;
