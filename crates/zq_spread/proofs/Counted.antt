@@ -1,13 +1,14 @@
 -- A heap after a call, once the call's steps are counted.
 
 use Rattle.std.proofs.Common.{ap, arith, subst, sym, ◌∙◌}
-use Rattle.std.specs.Prelude.{IfSome, None, Option, Some, ◌+◌, ◌≡◌}
+use Rattle.std.specs.Prelude.{IfSome, IsSome, None, Option, Some, ◌+◌, ◌≡◌}
 use Rattle.zq_history.proofs.Reached.{worked_reaches}
 use Rattle.zq_history.specs.Reach.{IsWorked}
 use Rattle.zq_spread.specs.Kept.{Follows}
 use Rattle.zq_spread.specs.Rooms.{IsCounted, IsOf, IsWorkedOn}
 use Rattle.zq_spread.specs.declared.kept.Kept.{Kept}
 use Rattle.zq_spread.specs.declared.room.Room.{Room}
+use Rattle.zq_ticketlock.specs.Steps.{FollowsSeen}
 use Rattle.zq_tally.specs.Words.{kept_of, total_of, total_table}
 
 -- what holds of a value that is there, and gives something else of it
@@ -35,3 +36,19 @@ counted_of room now old found counted is =
       parts = counted.parts ∙ ap kept_of is.total ∙ is.of.parts;
       count = ap (λ b. b.count) counted.book ∙ sym counted.count;
     }
+
+-- a value that follows one of this heap is of this heap
+of_followed : (room : Room) (x y : Kept) → Follows x y → IsOf room y → IsOf room x
+of_followed room x y follows is = record {
+  heap = follows.0.1.heap ∙ is.heap;
+  heaps = follows.0.1.heaps ∙ is.heaps;
+  rule = follows.0.1.rule ∙ is.rule;
+  table = follows.1.0 ∙ is.table;
+  parts = follows.1.1 ∙ is.parts;
+  count = let grown = follows.1.2 in let before = is.count in omega (arith, grown, before);
+}
+
+-- and so is one that follows what a seat of this heap has seen
+pub of_seen : (room : Room) (x : Kept) (o : Option Kept) → IsSome o → FollowsSeen Follows x o → IfSome o (IsOf room) → IsOf room x
+of_seen room x (Some y) some follows is = of_followed room x y follows is
+of_seen room x None some follows is = absurd (cc)

@@ -1,3 +1,11 @@
 pub mod Counted
 pub mod Seats
 pub mod OneHeap
+pub mod Twins
+pub mod Commanded
+pub mod Readings
+pub mod Alone
+pub mod ScoreBounds
+pub mod Places
+pub mod Settled
+pub mod Companies

@@ -2,26 +2,34 @@
 
 use Rattle.std.proofs.Common.{ap, arith, inl, subst, sym, ◌∙◌}
 use Rattle.std.proofs.Math.Nat.{le-max_right, max-zero}
-use Rattle.std.specs.Prelude.{Err, IfOk, IsErrOf, List, Ok, OnErr, OnOk, Option, Result, Some, [], max, refl, ℕ, ◌+◌, ◌++◌, ◌≡◌, ◌≤◌, ◌∷◌, ◌↔◌}
+use Rattle.std.specs.Prelude.{Err, IfOk, IfSome, IsErrOf, IsSome, List, Ok, OnErr, OnOk, Option, Result, Some, [], max, refl, slice_get, ℕ, ◌+◌, ◌++◌, ◌<◌, ◌≡◌, ◌≢◌, ◌≤◌, ◌∷◌, ◌↔◌}
 use Rattle.zq_dots.specs.Placed.{Placed}
-use Rattle.zq_history.specs.Books.{Book, Step}
+use Rattle.zq_dots.specs.Rule.{rule_of}
+use Rattle.zq_history.specs.Books.{Book, Merged, Step}
 use Rattle.zq_history.specs.Reach.{IsWorked}
 use Rattle.zq_journal.specs.Books.{LAST_STAMP, state_of, steps_taken, steps_when}
+use Rattle.zq_journal.specs.declared.faults.MergeFault.{MergeFault}
+use Rattle.zq_journal.specs.declared.faults.MergeFault.TheVariants as unmerged
 use Rattle.zq_journal.specs.declared.faults.TakeFault.{TakeFault}
 use Rattle.zq_journal.specs.declared.faults.TakeFault.TheVariants.{NoMemory, WrongHeap, Worn}
 use Rattle.zq_model.specs.Heaps.{heap_of}
 use Rattle.zq_model.specs.Sets as sets
-use Rattle.zq_shard.specs.Shard.{IsOfHeap}
+use Rattle.zq_shard.specs.Shard.{HeapImage, IsOfHeap, IsSameHeap}
 use Rattle.zq_shard.specs.Taken.{answer_of}
 use Rattle.zq_shard.specs.declared.taken.Taken.{Taken}
-use Rattle.zq_spread.specs.Answers.{HasWorked, IsTaken}
-use Rattle.zq_spread.specs.Calls.{IsCall, IsOfSite}
+use Rattle.zq_spread.proofs.Counted.{if_some}
+use Rattle.zq_spread.proofs.Seats.{found_at}
+use Rattle.zq_spread.specs.Answers.{HasWorked, IsMerged, IsTaken}
+use Rattle.zq_spread.specs.Calls.{IsCall, IsLikeSite, IsOfSite, heaps_of}
 use Rattle.zq_spread.specs.Passes.{IsRoomAt, seen_at, steps_at}
 use Rattle.zq_spread.specs.Rooms.{IsBegun, IsOf, IsWorkedOn}
 use Rattle.zq_spread.specs.declared.kept.Kept.{Kept}
 use Rattle.zq_spread.specs.declared.pass.Pass.{Pass}
 use Rattle.zq_spread.specs.declared.room.Room.{Room}
 use Rattle.zq_spread.specs.declared.site.Site.{Site}
+use Rattle.zq_ticketlock.proofs.Told.{seen_some}
+use Rattle.zq_ticketlock.specs.Seats.{given, value_of}
+use Rattle.zq_ticketlock.specs.declared.held.Held.{Held}
 
 -- what a book answers to an operation is what a call answers
 pub taken_by : (old new a : Book) (stamp : ℕ) (p : Placed) (r : Result Taken TakeFault) → IsOfHeap (state_of old) p →
@@ -46,6 +54,27 @@ taken_by old new a stamp p (Err NoMemory) of wrong judged worn short worked stay
     let same : old.state.vector ≡ a.state.vector = ap (λ s. s.vector) begun.state in
     ([], subst (λ b. IsWorked b a stamp []) (sym stays) begun, (ap (λ v. sets.taken_of v p.operation) (sym same) ∙ short refl, refl))
 
+-- what a book answers to another heap is what a call answers
+pub merged_by : (old new a : Book) (stamp : ℕ) (s : HeapImage) (r : Result (Unit {0}) MergeFault) → IsSameHeap (state_of old) s → old.rule ≡ s.rule →
+    IsErrOf r unmerged.Worn ↔ (IsSameHeap (state_of old) s × (old.rule ≡ s.rule) × (old.count ≡ LAST_STAMP)) →
+    IsErrOf r unmerged.WrongHeap ↔ (IsSameHeap (state_of old) s → ⊥) → IsErrOf r unmerged.WrongRule ↔ (IsSameHeap (state_of old) s × (old.rule ≢ s.rule)) →
+    OnOk r ((b : Book) (steps : List Step) → IsWorked old b stamp steps → IsWorked new b stamp (steps ++ Merged stamp s.image ∷ [])) →
+    OnErr r (new ≡ old) → IsWorked old a stamp [] → HasWorked (IsMerged stamp s r) new a stamp
+merged_by old new a stamp s (Ok done) same rule worn heap other worked stays begun =
+    let count : old.count ≡ a.count = let e = begun.count in omega (arith, e) in
+    let not_worn : a.count ≢ LAST_STAMP = λ last. let e = worn.1 (same, rule, count ∙ last) in absurd (cc) in
+    (Merged stamp s.image ∷ [], worked a [] begun, (not_worn, refl))
+merged_by old new a stamp s (Err unmerged.WrongHeap) same rule worn heap other worked stays begun = absurd (heap.0 refl same)
+merged_by old new a stamp s (Err unmerged.WrongRule) same rule worn heap other worked stays begun = absurd ((other.0 refl).1 rule)
+merged_by old new a stamp s (Err unmerged.Worn) same rule worn heap other worked stays begun =
+    let why = worn.0 refl in
+    let count : a.count ≡ LAST_STAMP = let e = begun.count in omega (arith, why.2, e) in
+    ([], subst (λ b. IsWorked b a stamp []) (sym stays) begun, (count, refl))
+merged_by old new a stamp s (Err unmerged.NoMemory) same rule worn heap other worked stays begun =
+    let count : old.count ≡ a.count = let e = begun.count in omega (arith, e) in
+    let not_worn : a.count ≢ LAST_STAMP = λ last. let e = worn.1 (same, rule, count ∙ last) in absurd (cc) in
+    ([], subst (λ b. IsWorked b a stamp []) (sym stays) begun, (not_worn, refl))
+
 -- the heap of an operation of the site, where a call has begun
 pub begun_of_heap : (site : Site) (room : Room) (h floor stamp : ℕ) (p : Placed) (now found : Kept) → IsRoomAt site h room → IsWorked now.book found.book stamp [] → IsOf room found →
     IsOfSite site p → p.operation.heap ≡ h → IsOfHeap (state_of now.book) p
@@ -57,6 +86,16 @@ begun_of_heap site room h floor stamp p now found at worked of is here =
       heaps = sym heaps;
       placed = ap (λ n. heap_of p.operation.key p.operation.member n) heaps ∙ is.placed ∙ here ∙ sym heap;
     }
+
+-- and another heap that is like the site's
+pub begun_same_heap : (site : Site) (room : Room) (h stamp : ℕ) (s : HeapImage) (now found : Kept) → IsRoomAt site h room → IsWorked now.book found.book stamp [] → IsOf room found →
+    IsLikeSite site s → s.heap ≡ h → IsSameHeap (state_of now.book) s
+begun_same_heap site room h stamp s now found at worked of is here =
+    record { heap = worked.heap ∙ of.heap ∙ at.0 ∙ sym here; heaps = worked.heaps ∙ of.heaps ∙ at.1 ∙ sym is.heaps }
+
+pub begun_same_rule : (site : Site) (room : Room) (h stamp : ℕ) (s : HeapImage) (now found : Kept) → IsRoomAt site h room → IsWorked now.book found.book stamp [] → IsOf room found →
+    IsLikeSite site s → now.book.rule ≡ s.rule
+begun_same_rule site room h stamp s now found at worked of is = worked.rule ∙ of.rule ∙ ap rule_of at.2 ∙ sym is.rule
 
 -- a call that has worked in its one heap may end there
 pub may_end : (Does : List Book → List (List Step) → Type 0) (room : Room) (before : Option Kept) (floor stamp : ℕ) (begun now found : Kept) → IsBegun room before floor stamp begun found →
@@ -93,3 +132,38 @@ one_call Does room old mid new h stamp begun now found is done stamped left coun
   others = λ k out. let apart : k ≡ h → ⊥ = λ e. out (inl (sym e)) in ((stay k apart).0 ∙ others k apart, (stay k apart).1 ∙ steps k);
   done = done.2;
 }
+
+-- in each room of this number, the call has begun on the value that was given
+abbrev pub IsBegunIn : Site → Pass → ℕ → ℕ → Held Kept → Type 0
+IsBegunIn site old h stamp held = (room : Room) → slice_get site.rooms.items h ≡ Some room → IfSome (given held) (IsBegun room (seen_at old h) old.stamp stamp (value_of held))
+
+-- what a call has found
+pub begun_on : (site : Site) (old : Pass) (h stamp : ℕ) (held : Held Kept) → h < heaps_of site → IsSome (given held) → IsBegunIn site old h stamp held →
+    (room : Room) × (slice_get site.rooms.items h ≡ Some room) × (found : Kept) × (given held ≡ Some found) × IsBegun room (seen_at old h) old.stamp stamp (value_of held) found
+begun_on site old h stamp held within some begun =
+    let room = found_at site.rooms.items h within in
+    let found = seen_some (IsBegun room.0 (seen_at old h) old.stamp stamp (value_of held)) (given held) some (begun room.0 room.1) in
+    (room.0, room.1, found.0, found.1, found.2)
+
+-- what the work of a call says of the value that it left
+abbrev pub DoesWork : (List Book → List (List Step) → Type 0) → ℕ → Held Kept → Kept → Type 0
+DoesWork Does stamp held now = (a : Book) → IsWorked (value_of held).book a stamp [] → HasWorked Does now.book a stamp
+
+-- a call that began and worked may end
+pub may_end_in : (Does : List Book → List (List Step) → Type 0) (site : Site) (old : Pass) (h stamp : ℕ) (held : Held Kept) (now : Kept) → IsBegunIn site old h stamp held →
+    DoesWork Does stamp held now → now.total ≡ (value_of held).total →
+    (room : Room) → slice_get site.rooms.items h ≡ Some room → IfSome (given held) (IsWorkedOn room now)
+may_end_in Does site old h stamp held now begun works total = λ room at.
+    if_some (given held) (λ found is. may_end Does room (seen_at old h) old.stamp stamp (value_of held) now found is (works found.book is.worked) total) (begun room at)
+
+-- and where it ended, it is a call
+pub called_in : (Does : List Book → List (List Step) → Type 0) (site : Site) (old mid new : Pass) (h stamp : ℕ) (held : Held Kept) (now : Kept) → h < heaps_of site →
+    IsSome (given held) → IsBegunIn site old h stamp held → DoesWork Does stamp held now → new.stamp ≡ stamp →
+    ((left : Kept) × (seen_at new h ≡ Some left) × (left.book ≡ now.book)) → IfSome (given held) (λ found. steps_at new h + found.book.count ≡ steps_at mid h + now.book.count) →
+    ((k : ℕ) → (k ≡ h → ⊥) → seen_at mid k ≡ seen_at old k) → ((k : ℕ) → steps_at mid k ≡ steps_at old k) →
+    ((k : ℕ) → (k ≡ h → ⊥) → (seen_at new k ≡ seen_at mid k) × (steps_at new k ≡ steps_at mid k)) → IsCall Does old new (h ∷ [])
+called_in Does site old mid new h stamp held now within some begun works stamped left counted others steps stay =
+    let is = begun_on site old h stamp held within some begun in
+    let here : steps_at new h + is.2.book.count ≡ steps_at mid h + now.book.count =
+    subst (λ o. IfSome o (λ (x : Kept). steps_at new h + x.book.count ≡ steps_at mid h + now.book.count)) is.3 counted in
+    one_call Does is.0 old mid new h stamp (value_of held) now is.2 is.4 (works is.2.book is.4.worked) stamped left here others steps stay

@@ -7,7 +7,7 @@ use Rattle.std.proofs.lemmas.Option.{slice_get_read}
 use Rattle.std.specs.Prelude.{List, None, Option, Some, [], get_or, length, refl, slice_get, slice_set, suc, zero, ℕ, ◌<◌, ◌≡◌, ◌≤◌, ◌∷◌}
 use Rattle.zq_journal.specs.Books.{LAST_STAMP}
 use Rattle.zq_spread.specs.Kept.{follows_itself}
-use Rattle.zq_spread.specs.Passes.{IsCountOf, IsPassBut, IsPassOf, IsSeatOf, IsSeenLater, IsStopped, seen_at, steps_in}
+use Rattle.zq_spread.specs.Passes.{IsCountOf, IsPassBut, IsPassOf, IsSeatOf, IsSeenLater, IsStopped, seen_at, steps_at}
 use Rattle.zq_spread.specs.declared.kept.Kept.{Kept}
 use Rattle.zq_spread.specs.declared.pass.Pass.{Pass}
 use Rattle.zq_spread.specs.declared.room.Room.{Room}
@@ -105,11 +105,11 @@ seen_later (Some x) = follows_itself x
 seen_later None = tt
 
 -- a pass whose seat came back, having seen what follows what it had
-pub stopped : (before after : Pass) (heap : ℕ) → after.counts ≡ before.counts → after.stamp ≡ before.stamp → IsSeenLater (seen_at after heap) (seen_at before heap) →
+pub stopped : (before after : Pass) (heap : ℕ) → ((k : ℕ) → steps_at after k ≡ steps_at before k) → after.stamp ≡ before.stamp → IsSeenLater (seen_at after heap) (seen_at before heap) →
     ((k : ℕ) → (k ≡ heap → ⊥) → seen_at after k ≡ seen_at before k) → IsStopped before after
-stopped before after heap counts stamp later others = record {
+stopped before after heap steps stamp later others = record {
   stamp = stamp;
-  steps = λ h. ap (λ c. steps_in (slice_get c.items h)) counts;
+  steps = steps;
   seen = λ h. elim (cases_eq h heap) [
     | inl same ↦ subst (λ k. IsSeenLater (seen_at after k) (seen_at before k)) (sym same) later
     | inr other ↦ subst (λ o. IsSeenLater o (seen_at before h)) (sym (others h other)) (seen_later (seen_at before h))

@@ -2,10 +2,12 @@
 
 use Rattle.std.specs.Prelude.{List, Some, [], length, map, max, ℕ, ◌+◌, ◌∷◌, ◌≡◌}
 use Rattle.zq_dots.specs.Placed.{Placed}
+use Rattle.zq_dots.specs.Rule.{rule_of}
 use Rattle.zq_history.specs.Books.{Book, Step}
 use Rattle.zq_history.specs.Reach.{IsWorked}
 use Rattle.zq_model.specs.Heaps.{heap_of}
 use Rattle.zq_model.specs.Sets.{IsIn}
+use Rattle.zq_shard.specs.Shard.{HeapImage}
 use Rattle.zq_spread.specs.Kept.{Follows}
 use Rattle.zq_spread.specs.Passes.{seen_at, steps_at}
 use Rattle.zq_spread.specs.declared.kept.Kept.{Kept}
@@ -13,10 +15,19 @@ use Rattle.zq_spread.specs.declared.pass.Pass.{Pass}
 use Rattle.zq_spread.specs.declared.site.Site.{Site}
 use Rattle.zq_ticketlock.specs.Steps.{FollowsSeen}
 
+-- the number of its heaps
+abbrev pub heaps_of : Site → ℕ
+heaps_of site = length site.rooms.items
+
 -- the operation was made among as many heaps as the site's, and lies in its own
 pub record IsOfSite (site : Site) (p : Placed) : Type 0 where
-  pub heaps : p.heaps ≡ length site.rooms.items
+  pub heaps : p.heaps ≡ heaps_of site
   pub placed : heap_of p.operation.key p.operation.member p.heaps ≡ p.operation.heap
+
+-- the heap is one of as many heaps as the site's, and of its rule
+pub record IsLikeSite (site : Site) (s : HeapImage) : Type 0 where
+  pub heaps : s.heaps ≡ heaps_of site
+  pub rule : s.rule ≡ rule_of site.rule
 
 -- a call's part in one heap: what it found there, which follows what the pass had seen, its own steps on that, and what it left, which the pass has then seen
 pub record IsWorkedIn (before after : Pass) (h : ℕ) (found left : Kept) (steps : List Step) : Type 0 where
@@ -45,3 +56,7 @@ pub record IsCall (Does : List Book → List (List Step) → Type 0) (before aft
   pub worked : AreWorkedIn before after heaps found left steps
   pub others : (k : ℕ) → (IsIn k heaps → ⊥) → (seen_at after k ≡ seen_at before k) × (steps_at after k ≡ steps_at before k)
   pub done : Does (map (λ x. x.book) found) steps
+
+-- the pass has seen a book of this heap with this property
+abbrev pub HasSeenBook : Pass → ℕ → (Book → Type 0) → Type 0
+HasSeenBook pass h P = (x : Kept) × (seen_at pass h ≡ Some x) × P x.book

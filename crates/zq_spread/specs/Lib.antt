@@ -3,3 +3,10 @@ pub mod Rooms
 pub mod Passes
 pub mod Answers
 pub mod Calls
+pub mod Holdings
+pub mod Recorded
+pub mod Commanded
+pub mod Companies
+pub mod Makers
+pub mod Grounds
+pub mod Meetings

@@ -3,14 +3,15 @@ ghost use Rattle.std.specs.Prelude.{◌≡◌, ◌≤◌, []};
 ghost use Rattle.zq_history.specs.Books.{Book as Books};
 ghost use Rattle.zq_history.specs.Reach.{IsWorked};
 ghost use Rattle.zq_journal.specs.Books.{LAST_STAMP, state_of};
-ghost use Rattle.zq_shard.specs.Shard.{IsOfHeap};
-ghost use Rattle.zq_spread.specs.Answers.{HasWorked, IsTaken};
+ghost use Rattle.zq_shard.specs.Shard.{IsOfHeap, IsSameHeap};
+ghost use Rattle.zq_spread.specs.Answers.{HasWorked, IsCopyOf, IsMerged, IsSince, IsTaken, read_of};
 
+use crate::faults::ReadFault;
 use std::alloc::Global;
-use zq_dots::Op;
+use zq_dots::{Op, Vector};
 use zq_history::working;
-use zq_journal::{Book, TakeFault};
-use zq_shard::Taken;
+use zq_journal::{Book, MergeFault, Since, TakeFault};
+use zq_shard::{Shard, Taken};
 use zq_tally::Total;
 use zq_ticketlock::Keeps;
 
@@ -69,5 +70,36 @@ impl Kept {
         ensures worked { (a : Books) → IsWorked self.old.book a stamp [] → HasWorked (IsTaken stamp op.now result) self.new.book a stamp }
     {
         self.book.take(alloc, stamp, op)
+    }
+
+    /// Takes all that another heap of its number and its rule has, as its book does.
+    pub(crate) fn merge(
+        &mut self,
+        alloc: Global,
+        stamp: u64,
+        other: &Shard,
+    ) -> Result<(), MergeFault>
+        requires stamp { self.old.book.stamp ≤ stamp }
+        requires bounded { stamp ≤ LAST_STAMP }
+        requires same_heap { IsSameHeap (state_of self.old.book) other.now }
+        requires same_rule { self.old.book.rule ≡ other.now.rule }
+        ensures total { self.new.total ≡ self.old.total }
+        ensures worked { (a : Books) → IsWorked self.old.book a stamp [] → HasWorked (IsMerged stamp other.now result) self.new.book a stamp }
+    {
+        self.book.merge(alloc, stamp, other)
+    }
+
+    /// A copy of the heap.
+    pub(crate) fn copy(&self, alloc: Global) -> Result<Shard, ReadFault>
+        ensures { read_of IsCopyOf result self.now.book }
+    {
+        Ok(self.book.shard().copy(alloc)?)
+    }
+
+    /// What a peer of this vector lacks, as its book says.
+    pub(crate) fn since(&self, alloc: Global, vector: &Vector) -> Result<Since, ReadFault>
+        ensures { read_of (IsSince vector.now) result self.now.book }
+    {
+        Ok(self.book.since(alloc, vector)?)
     }
 }

@@ -1,13 +1,17 @@
 //! What a site shows of a heap.
-ghost use Rattle.std.specs.Prelude.{◌≡◌, ◌<◌, ◌∷◌, [], IfOk, OnErr, length};
-ghost use Rattle.zq_spread.specs.Answers.{IsShown};
-ghost use Rattle.zq_spread.specs.Calls.{IsCall};
+ghost use Rattle.std.specs.Prelude.{◌≡◌, ◌<◌, ◌⊎◌, ◌∷◌, [], IfOk, IsErrOf, OnErr};
+ghost use Rattle.zq_spread.specs.Answers.{IsAsked, IsCopied, IsShown, IsSince};
+ghost use Rattle.zq_spread.specs.Calls.{HasSeenBook, IsCall, heaps_of};
 ghost use Rattle.zq_spread.specs.Passes.{IsPassOf, IsStopped};
 
+use crate::faults::ReadFault;
 use crate::pass::Pass;
 use crate::site::Site;
+use std::alloc::Global;
 use std::sync::Wait;
 use zq_dots::Vector;
+use zq_journal::Since;
+use zq_shard::Shard;
 use zq_ticketlock::Worn;
 
 impl Site {
@@ -15,7 +19,7 @@ impl Site {
     /// then no image, book or stamp has changed.
     pub fn vector<R: Wait>(&self, rt: &R, pass: &mut Pass, heap: u8) -> Result<Vector, Worn>
         requires pass { IsPassOf self.now pass.old }
-        requires heap { heap < length self.now.rooms.items }
+        requires heap { heap < heaps_of self.now }
         ensures pass { IsPassOf self.now pass.new }
         ensures called { IfOk result (λ vector. IsCall (IsShown vector) pass.old pass.new (heap ∷ [])) }
         ensures refused { OnErr result (IsStopped pass.old pass.new) }
@@ -28,5 +32,60 @@ impl Site {
         let vector = *held.value().book.shard().vector();
         self.end_in(pass, heap, held, stamp);
         Ok(vector)
+    }
+
+    /// A copy of a heap, as it is at the call's stamp. `Worn` where the heap's lock or the stamp is at its last value, and
+    /// then no image, book or stamp has changed. Else `NoMemory` where the copy was refused: then the call stands at its
+    /// stamp, and has made no step.
+    pub fn state<R: Wait>(
+        &self,
+        rt: &R,
+        alloc: Global,
+        pass: &mut Pass,
+        heap: u8,
+    ) -> Result<Shard, ReadFault>
+        requires pass { IsPassOf self.now pass.old }
+        requires heap { heap < heaps_of self.now }
+        ensures pass { IsPassOf self.now pass.new }
+        ensures called { IsCall (IsCopied result) pass.old pass.new (heap ∷ []) ⊎ (IsErrOf result ReadFault.Worn × IsStopped pass.old pass.new) }
+    {
+        let heap = usize::from(heap);
+        let Ok((held, stamp)) = self.begin_in(rt, pass, heap) else {
+            return Err(ReadFault::Worn);
+        };
+        held.was_given();
+        let copy = held.value().copy(alloc);
+        self.end_in(pass, heap, held, stamp);
+        copy
+    }
+
+    /// What a peer of this vector lacks of a heap, as its book says: `TooOld` exactly where the vector does not cover that
+    /// of the book's base, else those operations of the records that the vector lacks, oldest first. The book is the one
+    /// that the pass has then seen, after the cut with which a call begins.
+    ///
+    /// `Worn` where the heap's lock or the stamp is at its last value, and then no image, book or stamp has changed. Else
+    /// `NoMemory` where a growth was refused: then the call stands at its stamp, and has made no step.
+    pub fn since<R: Wait>(
+        &self,
+        rt: &R,
+        alloc: Global,
+        pass: &mut Pass,
+        heap: u8,
+        vector: &Vector,
+    ) -> Result<Since, ReadFault>
+        requires pass { IsPassOf self.now pass.old }
+        requires heap { heap < heaps_of self.now }
+        ensures pass { IsPassOf self.now pass.new }
+        ensures called { IsCall (IsAsked result) pass.old pass.new (heap ∷ []) ⊎ (IsErrOf result ReadFault.Worn × IsStopped pass.old pass.new) }
+        ensures answered { IfOk result (λ since. HasSeenBook pass.new heap (IsSince vector.now since)) }
+    {
+        let heap = usize::from(heap);
+        let Ok((held, stamp)) = self.begin_in(rt, pass, heap) else {
+            return Err(ReadFault::Worn);
+        };
+        held.was_given();
+        let since = held.value().since(alloc, vector);
+        self.end_in(pass, heap, held, stamp);
+        since
     }
 }

@@ -12,7 +12,7 @@ use crate::kept::{Kept, LAST};
 use std::sync::Wait;
 use zq_dots::Rule;
 use zq_tally::{Count, Tally};
-use zq_ticketlock::{Held, Seat, TicketLock};
+use zq_ticketlock::{Held, Seat, TicketLock, TryFault};
 
 /// A heap of a site: its lock, the table that counts the steps there, and what stays of it.
 #[derive(Drop)]
@@ -48,6 +48,28 @@ impl Room {
         match self.lock.lock(rt, seat) {
             Ok(held) => self.date(held, floor),
             Err((_, seat)) => Err(seat),
+        }
+    }
+
+    /// The same where nobody holds the heap's lock or waits for it. It never waits.
+    pub(crate) fn try_begin(
+        &self,
+        seat: Seat<Kept>,
+        floor: u64,
+    ) -> Result<(Held<Kept>, u64), (TryFault, Seat<Kept>)>
+        requires lock { lock_of seat ≡ id_of self.now.lock }
+        requires seen { IfSome (seen seat) (IsOf self.now) }
+        ensures lock { IfOk result (λ begun. held_lock begun.0 ≡ id_of self.now.lock) }
+        ensures bounded { IfOk result (λ begun. begun.1 ≤ LAST_STAMP) }
+        ensures begun { IfOk result (λ begun. IfSome (given begun.0) (IsBegun self.now (seen seat) floor begun.1 (value_of begun.0))) }
+        ensures refused { IfErr result (λ e. (lock_of e.1 ≡ id_of self.now.lock) × IfSome (seen e.1) (IsOf self.now) × IfSome (seen e.1) (λ x. FollowsSeen Follows x (seen seat))) }
+    {
+        match self.lock.try_lock(seat) {
+            Ok(held) => match self.date(held, floor) {
+                Ok(begun) => Ok(begun),
+                Err(seat) => Err((TryFault::Worn, seat)),
+            },
+            Err((fault, seat)) => Err((fault, seat)),
         }
     }
 

@@ -11,7 +11,7 @@ use crate::kept::Kept;
 use crate::pass::Pass;
 use crate::site::Site;
 use std::sync::Wait;
-use zq_ticketlock::{Held, Worn};
+use zq_ticketlock::{Held, TryFault, Worn};
 
 impl Site {
     /// Begins a call in one heap, as `Room::begin` does. The pass has no seat there until the call ends.
@@ -40,6 +40,34 @@ impl Site {
             Err(seat) => {
                 pass.seats[heap] = Some(seat);
                 Err(Worn)
+            }
+        }
+    }
+
+    /// The same where nobody holds the heap's lock or waits for it. It never waits. `Busy` and `Worn` leave the pass as a
+    /// refused call does.
+    pub(crate) fn try_begin_in(
+        &self,
+        pass: &mut Pass,
+        heap: usize,
+    ) -> Result<(Held<Kept>, u64), TryFault>
+        requires pass { IsPassOf self.now pass.old }
+        requires heap { heap < length self.now.rooms.items }
+        ensures pass { OnOk result (IsPassBut self.now heap pass.new) }
+        ensures bounded { IfOk result (λ begun. begun.1 ≤ LAST_STAMP) }
+        ensures lock { IfOk result (λ begun. (room : Room) → slice_get self.now.rooms.items heap ≡ Some room → held_lock begun.0 ≡ id_of room.lock) }
+        ensures begun { IfOk result (λ begun. (room : Room) → slice_get self.now.rooms.items heap ≡ Some room →
+            IfSome (given begun.0) (IsBegun room (seen_at pass.old heap) pass.old.stamp begun.1 (value_of begun.0))) }
+        ensures others { OnOk result ((k : ℕ) → (k ≡ heap → ⊥) → seen_at pass.new k ≡ seen_at pass.old k) }
+        ensures steps { OnOk result ((k : ℕ) → steps_at pass.new k ≡ steps_at pass.old k) }
+        ensures refused { OnErr result (IsPassOf self.now pass.new × IsStopped pass.old pass.new) }
+    {
+        let seat = self.take_seat(pass, heap);
+        match self.rooms[heap].try_begin(seat, pass.stamp) {
+            Ok(begun) => Ok(begun),
+            Err((fault, seat)) => {
+                self.put_seat(pass, heap, seat);
+                Err(fault)
             }
         }
     }

@@ -1,5 +1,6 @@
 pub mod Stages
 pub mod Standings
+pub mod Vacancies
 pub mod Looks
 pub mod Tickets
 pub mod Seatings

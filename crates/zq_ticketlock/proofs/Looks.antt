@@ -7,16 +7,16 @@ use lib.ListN.{get_elem?}
 use Rattle.atomic_table.specs.Table.{State, keeps, takes, gives, Allows, step}
 use Rattle.atomic_table.proofs.Lists.{set_else}
 use Rattle.zq_ticketlock.specs.declared.view.View.{View}
-use Rattle.zq_ticketlock.specs.declared.view.View.TheVariants.{Idle, Met, Waiting, Holding, Spent}
+use Rattle.zq_ticketlock.specs.declared.view.View.TheVariants.{Vacant, Idle, Met, Waiting, Holding, Spent}
 use Rattle.zq_ticketlock.specs.Views.{Sat, is_idle, is_waiting}
-use Rattle.zq_ticketlock.specs.Order.{Standing, slot, Knows, Stands, IsKept}
+use Rattle.zq_ticketlock.specs.Order.{Standing, slot, Knows, Stands, IsRuled}
 use Rattle.zq_ticketlock.specs.Steps.{Looked, Arrived, Takes, Released, Settled}
 use Rattle.zq_ticketlock.proofs.Stages.{idle_seat, waiting_seat}
 use Rattle.zq_ticketlock.proofs.Standings.{Moves, at_changed, one_view, kept, allowed, knows_each}
 
 module _ {T : Type 0} (holds : T → Type 0) (follows : T → T → Type 0) where
   abbrev Rule : State (Option T) (View T) → Type 0
-  Rule = IsKept holds follows
+  Rule = IsRuled holds follows
 
   -- a seat that does not hold gets a view of one that does not hold
   pub other_view : (at : Standing T) (views : List (View T)) (seat : ℕ) (v w : View T) → Stands holds follows at views
@@ -41,14 +41,14 @@ module _ {T : Type 0} (holds : T → Type 0) (follows : T → T → Type 0) wher
   looks slots seat me idle =
       let is = idle_seat me idle in
       let v : View T = Idle is.0 is.1 is.2 in
-      allowed holds follows slots seat me (v, []) 0 (λ n. n) (Looked (step slots 0 0 0 maybe.none)) is.3
+      allowed holds follows slots seat me (v, []) 0 (λ n. n) (Looked (step slots 0 0 0 maybe.none)) is.3 (λ m out e. cc)
       (λ at views stands here. let k = stands.knows seat v here in
       notes at views seat 0 at.serving v (Idle at.serving at.serving is.2) stands here (λ e. cc) (omega arith, stands.order, k.2) refl)
 
   pub settles : (slots seat low : ℕ) (x y : T) (me : Sat T) → me ≡ (Met low x y, []) → ((z : T) → follows z z) → Allows Rule slots seat me 0 (λ n. n) (Settled follows (step slots 0 0 0 maybe.none) me)
   settles slots seat low x y me is reflexive =
       let v : View T = Met low x y in
-      allowed holds follows slots seat me (v, []) 0 (λ n. n) (Settled follows (step slots 0 0 0 maybe.none)) is
+      allowed holds follows slots seat me (v, []) 0 (λ n. n) (Settled follows (step slots 0 0 0 maybe.none)) is (λ m out e. cc)
       (λ at views stands here. let k = stands.knows seat v here in
       let m = notes at views seat 0 at.serving v (Idle at.serving at.serving at.value) stands here (λ e. cc) (omega arith, stands.order, reflexive at.value) refl in
       (m.0, m.1, m.2, m.3, (at.value, m.4, (k.1, k.2))))
@@ -78,6 +78,7 @@ module _ {T : Type 0} (holds : T → Type 0) (follows : T → T → Type 0) wher
     where
       stay : at.out ≡ false → (other : ℕ) → other ≢ seat → (u : View T) → Knows holds follows at other u
           → Knows holds follows (record { value = at.value; out = true; owner = owner; serving = at.serving; next = next }) other u
+      stay is_home other apart (Vacant m out) k = absurd k
       stay is_home other apart (Idle low reached x) k = (k.0, (let come = k.1 in omega arith), k.2)
       stay is_home other apart (Met low x y) k = k
       stay is_home other apart (Waiting m x) k = (k.0, (let low = k.1 in omega arith), others m k.1 (λ own. apart (sym k.2 ∙ own)) ∙ k.2, k.3)
@@ -87,7 +88,7 @@ module _ {T : Type 0} (holds : T → Type 0) (follows : T → T → Type 0) wher
   pub arrives : (slots seat n : ℕ) (me : Sat T) → is_waiting n me ≡ true → Allows Rule slots seat me 0 (λ k. k) (Arrived follows holds (step slots 0 0 0 maybe.none) me)
   arrives slots seat n me waiting =
       let is = waiting_seat n me waiting in
-      allowed holds follows slots seat me (Waiting n is.0, []) 0 (λ k. k) (Arrived follows holds (step slots 0 0 0 maybe.none)) is.1
+      allowed holds follows slots seat me (Waiting n is.0, []) 0 (λ k. k) (Arrived follows holds (step slots 0 0 0 maybe.none)) is.1 (λ m out e. cc)
       (λ at views stands here. turn is.0 at views stands here (at.serving == n) (eqb-true at.serving n))
     where
       turn : (x : T) (at : Standing T) (views : List (View T)) → Stands holds follows at views → get_elem? views seat ≡ maybe.some (Waiting n x)
@@ -109,7 +110,7 @@ module _ {T : Type 0} (holds : T → Type 0) (follows : T → T → Type 0) wher
   releases slots seat n x y me is sound follow reflexive transitive =
       let v : View T = Holding n x in
       let w : View T = Idle (n + 1) (n + 1) y in
-      allowed holds follows slots seat me (v, (0, Some y) ∷ []) 0 (λ _. n + 1) (λ m _. Released (step slots 0 (n + 1) 0 maybe.none) m (n + 1)) is
+      allowed holds follows slots seat me (v, (0, Some y) ∷ []) 0 (λ _. n + 1) (λ m _. Released (step slots 0 (n + 1) 0 maybe.none) m (n + 1)) is (λ m out e. cc)
       (λ at views stands here.
       let k = stands.knows seat v here in
       let here_now = k.0 in let below = k.1 in
@@ -133,6 +134,7 @@ module _ {T : Type 0} (holds : T → Type 0) (follows : T → T → Type 0) wher
 
       moved : (at : Standing T) → n ≡ at.serving → at.owner n ≡ seat → ((z : T) → follows at.value z → follows y z)
           → (other : ℕ) → other ≢ seat → (v : View T) → Knows holds follows at other v → Knows holds follows (record { value = y; out = false; owner = at.owner; serving = n + 1; next = at.next }) other v
+      moved at here mine later other apart (Vacant m out) k = absurd k
       moved at here mine later other apart (Idle low reached z) k = ((let m = k.0 in omega arith), k.1, later z k.2)
       moved at here mine later other apart (Met low z u) k = ((let m = k.0 in omega arith), later z k.1, later u k.2)
       moved at here mine later other apart (Waiting m z) k =

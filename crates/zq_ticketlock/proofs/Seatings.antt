@@ -1,39 +1,25 @@
--- The table as it opens, a seat cut in two, and two seats made one.
-use Rattle.std.proofs.Common.{◌≡◌, ℕ, zero, suc, ◌≤◌, true, false, Option, Some, List, [], ◌∷◌, ◌++◌, set, sym, subst, ◌∙◌, ⊎_elim, arith}
+-- A seat cut in two, and two seats made one.
+use Rattle.std.proofs.Common.{◌≡◌, ℕ, ◌++◌, Option, List, [], ◌∷◌, true, set, inl, inr, sym, subst, ◌∙◌, ⊎_elim}
 use mathlib.Core.Option as maybe
-use mathlib.Core.Option.{some-injective, some-ne-none}
 use lib.ListN.{get_elem?}
-use Rattle.atomic_table.specs.Table.{State, Splits, Joins, opening}
+use Rattle.atomic_table.specs.Table.{State, Splits, Joins}
 use Rattle.atomic_table.proofs.Lists.{at_longer, at_snoc, set_again, set_else}
 use Rattle.zq_ticketlock.specs.declared.view.View.{View}
-use Rattle.zq_ticketlock.specs.declared.view.View.TheVariants.{Idle, Met, Holding, Spent}
+use Rattle.zq_ticketlock.specs.declared.view.View.TheVariants.{Vacant, Idle, Met, Holding, Spent}
 use Rattle.zq_ticketlock.specs.Views.{Sat, is_idle}
-use Rattle.zq_ticketlock.specs.Order.{Standing, Knows, Stands, IsKept}
+use Rattle.zq_ticketlock.specs.Order.{Knows, Stands, IsRuled}
 use Rattle.zq_ticketlock.specs.Steps.{met}
 use Rattle.zq_ticketlock.proofs.Stages.{idle_seat}
-use Rattle.zq_ticketlock.proofs.Standings.{kept}
+use Rattle.zq_ticketlock.proofs.Vacancies.{vacant_here}
 use Rattle.zq_ticketlock.proofs.Looks.{other_view}
 
 module _ {T : Type 0} (holds : T → Type 0) (follows : T → T → Type 0) where
   abbrev Rule : State (Option T) (View T) → Type 0
-  Rule = IsKept holds follows
-
-  pub opens : (x : T) (n : ℕ) → holds x → ((z : T) → follows z z) → Rule (opening (n ∷ n ∷ []) (Some x ∷ []) (Idle n n x))
-  opens x n sound reflexive =
-      let at : Standing T = record { value = x; out = false; owner = λ _. 0; serving = n; next = n } in
-      kept holds follows at (Idle n n x ∷ []) (record {
-        order = omega arith;
-        sound = sound;
-        held = λ out. absurd (let p : false ≡ true = out in cc);
-        knows = first at (omega arith) (omega arith) (reflexive x);
-      })
-    where
-      first : (at : Standing T) → n ≤ at.serving → n ≤ at.next → follows at.value x → (seat : ℕ) (v : View T) → get_elem? (Idle n n x ∷ []) seat ≡ maybe.some v → Knows holds follows at seat v
-      first at low come known zero v here = subst (Knows holds follows at 0) (some-injective (Idle n n x) v here) (low, come, known)
-      first at low come known (suc seat) v here = absurd (some-ne-none v (sym here))
+  Rule = IsRuled holds follows
 
   splits_idle : (seat low reached : ℕ) (x : T) → Splits Rule seat (Idle low reached x) (Idle low reached x) (Idle low reached x)
-  splits_idle seat low reached x s k here =
+  splits_idle seat low reached x s (inl k) here = let e : Vacant k.ticket k.out ≡ Idle low reached x = vacant_here s k seat (Idle low reached x) here in absurd (cc)
+  splits_idle seat low reached x s (inr k) here =
       let at = k.at in
       let v : View T = Idle low reached x in
       let views : List (View T) = s.views ++ v ∷ [] in
@@ -47,7 +33,7 @@ module _ {T : Type 0} (holds : T → Type 0) (follows : T → T → Type 0) wher
             (at_snoc s.views v w other there);
       } in
       let same : set s.views seat v ≡ s.views = set_again s.views seat v here in
-      record { at = at; words = k.words; homes = k.homes; stands = subst (λ (l : List (View T)). Stands holds follows at (l ++ v ∷ [])) (sym same) two }
+      inr (record { at = at; words = k.words; homes = k.homes; stands = subst (λ (l : List (View T)). Stands holds follows at (l ++ v ∷ [])) (sym same) two })
 
   pub splits : (seat : ℕ) (me : Sat T) → is_idle me ≡ true → Splits Rule seat me.0 me.0 me.0
   splits seat me idle =
@@ -55,14 +41,16 @@ module _ {T : Type 0} (holds : T → Type 0) (follows : T → T → Type 0) wher
       subst (λ (m : Sat T). Splits Rule seat m.0 m.0 m.0) (sym is.3) (splits_idle seat is.0 is.1 is.2)
 
   joins_idle : (seat other low reached m passed : ℕ) (x y : T) → Joins Rule seat (Idle low reached x) other (Idle m passed y) (Met low x y) Spent
-  joins_idle seat other low reached m passed x y s k here apart there =
+  joins_idle seat other low reached m passed x y s (inl k) here apart there =
+      let e : Vacant k.ticket k.out ≡ Idle low reached x = vacant_here s k seat (Idle low reached x) here in absurd (cc)
+  joins_idle seat other low reached m passed x y s (inr k) here apart there =
       let at = k.at in
       let w : View T = Met low x y in
       let views : List (View T) = set s.views seat w in
       let first = k.stands.knows seat (Idle low reached x) here in
       let second = k.stands.knows other (Idle m passed y) (unmoved s.views there) in
       let one = other_view holds follows at s.views seat (Idle low reached x) w k.stands here (λ e. cc) (first.0, first.2, second.2) in
-      record { at = at; words = k.words; homes = k.homes; stands = other_view holds follows at views other (Idle m passed y) Spent one there (λ e. cc) tt }
+      inr (record { at = at; words = k.words; homes = k.homes; stands = other_view holds follows at views other (Idle m passed y) Spent one there (λ e. cc) tt })
     where
       unmoved : (views : List (View T)) → get_elem? (set views seat (Met low x y)) other ≡ maybe.some (Idle m passed y) → get_elem? views other ≡ maybe.some (Idle m passed y)
       unmoved views e = sym (set_else views seat other (Met low x y) apart) ∙ e

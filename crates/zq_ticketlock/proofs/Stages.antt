@@ -3,8 +3,8 @@ use Rattle.std.proofs.Common.{◌≡◌, ℕ, ◌==◌, ◌&&◌, Bool, true, fa
 use Rattle.std.specs.Prelude.{is_none}
 use Rattle.std.proofs.lemmas.Bool.{eqb-true}
 use Rattle.zq_ticketlock.specs.declared.view.View.{View}
-use Rattle.zq_ticketlock.specs.declared.view.View.TheVariants.{Idle, Met, Waiting, Holding, Spent}
-use Rattle.zq_ticketlock.specs.Views.{Sat, nothing_out, value_out, idle_view, waiting_view, holding_view, is_idle, is_waiting, is_holding}
+use Rattle.zq_ticketlock.specs.declared.view.View.TheVariants.{Vacant, Idle, Met, Waiting, Holding, Spent}
+use Rattle.zq_ticketlock.specs.Views.{Sat, nothing_out, value_out, vacant_view, idle_view, waiting_view, holding_view, is_vacant, is_idle, is_waiting, is_holding}
 
 and_true : (a b : Bool) → (a && b) ≡ true → (a ≡ true) × (b ≡ true)
 and_true true b e = (refl, e)
@@ -28,7 +28,17 @@ module _ {T : Type 0} where
       let empty : slot.1 ≡ None = none_is slot.1 both.1 in
       let rest : slots ≡ [] = nothing_is slots first.1 in λ i. (place i, empty i) ∷ rest i
 
+  vacant_is : (v : View T) → vacant_view v ≡ true → (n : ℕ) × (v ≡ Vacant n false)
+  vacant_is (Vacant n false) e = (n, refl)
+  vacant_is (Vacant n true) e = absurd (cc)
+  vacant_is (Idle low reached x) e = absurd (cc)
+  vacant_is (Met low x y) e = absurd (cc)
+  vacant_is (Waiting n x) e = absurd (cc)
+  vacant_is (Holding n x) e = absurd (cc)
+  vacant_is Spent e = absurd (cc)
+
   idle_is : (v : View T) → idle_view v ≡ true → (low : ℕ) × (reached : ℕ) × (x : T) × (v ≡ Idle low reached x)
+  idle_is (Vacant n out) e = absurd (cc)
   idle_is (Idle low reached x) e = (low, reached, x, refl)
   idle_is (Met low x y) e = absurd (cc)
   idle_is (Waiting n x) e = absurd (cc)
@@ -36,6 +46,7 @@ module _ {T : Type 0} where
   idle_is Spent e = absurd (cc)
 
   waiting_is : (k : ℕ) (v : View T) → waiting_view k v ≡ true → (x : T) × (v ≡ Waiting k x)
+  waiting_is k (Vacant n out) e = absurd (cc)
   waiting_is k (Idle low reached x) e = absurd (cc)
   waiting_is k (Met low x y) e = absurd (cc)
   waiting_is k (Waiting n x) e = (x, ap (λ (m : ℕ). Waiting m x) (eqb-true n k e))
@@ -43,11 +54,18 @@ module _ {T : Type 0} where
   waiting_is k Spent e = absurd (cc)
 
   holding_is : (k : ℕ) (v : View T) → holding_view k v ≡ true → (x : T) × (v ≡ Holding k x)
+  holding_is k (Vacant n out) e = absurd (cc)
   holding_is k (Idle low reached x) e = absurd (cc)
   holding_is k (Met low x y) e = absurd (cc)
   holding_is k (Waiting n x) e = absurd (cc)
   holding_is k (Holding n x) e = (x, ap (λ (m : ℕ). Holding m x) (eqb-true n k e))
   holding_is k Spent e = absurd (cc)
+
+  pub vacant_seat : (me : Sat T) → is_vacant me ≡ true → (n : ℕ) × (me ≡ (Vacant n false, []))
+  vacant_seat me e =
+      let parts = and_true (vacant_view me.0) (nothing_out me.1) e in
+      let view = vacant_is me.0 parts.0 in
+      let slots = nothing_is me.1 parts.1 in (view.0, λ i. (view.1 i, slots i))
 
   pub idle_seat : (me : Sat T) → is_idle me ≡ true → (low : ℕ) × (reached : ℕ) × (x : T) × (me ≡ (Idle low reached x, []))
   idle_seat me e =

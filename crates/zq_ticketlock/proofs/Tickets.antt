@@ -10,7 +10,7 @@ use Rattle.atomic_table.proofs.Lists.{set_else}
 use Rattle.zq_ticketlock.specs.declared.view.View.{View}
 use Rattle.zq_ticketlock.specs.declared.view.View.TheVariants.{Idle, Waiting, Holding}
 use Rattle.zq_ticketlock.specs.Views.{Sat, is_idle, low_of}
-use Rattle.zq_ticketlock.specs.Order.{Standing, Stands, IsKept}
+use Rattle.zq_ticketlock.specs.Order.{Standing, Stands, IsRuled}
 use Rattle.zq_ticketlock.specs.Steps.{Drew, Tried, Takes}
 use Rattle.zq_ticketlock.proofs.Stages.{idle_seat}
 use Rattle.zq_ticketlock.proofs.Standings.{Moves, one_view, kept, allowed, knows_each, still_knows}
@@ -28,12 +28,12 @@ owned-other owner n seat k apart = ap (λ b. cond b seat (owner k)) (ne_eqb k n 
 
 module _ {T : Type 0} (holds : T → Type 0) (follows : T → T → Type 0) where
   abbrev Rule : State (Option T) (View T) → Type 0
-  Rule = IsKept holds follows
+  Rule = IsRuled holds follows
 
   pub draws : (slots seat n : ℕ) (me : Sat T) → is_idle me ≡ true → Allows Rule slots seat me 1 (λ k. either (k == n) (n + 1) k) (Drew (step slots 1 n (n + 1) maybe.none) me)
   draws slots seat n me idle =
       let is = idle_seat me idle in
-      allowed holds follows slots seat me (Idle is.0 is.1 is.2, []) 1 (λ k. either (k == n) (n + 1) k) (Drew (step slots 1 n (n + 1) maybe.none)) is.3
+      allowed holds follows slots seat me (Idle is.0 is.1 is.2, []) 1 (λ k. either (k == n) (n + 1) k) (Drew (step slots 1 n (n + 1) maybe.none)) is.3 (λ m out e. cc)
       (λ at views stands here. draw is.0 is.1 is.2 at views stands here (at.next == n) (eqb-true at.next n))
     where
       draw : (low reached : ℕ) (x : T) (at : Standing T) (views : List (View T)) → Stands holds follows at views → get_elem? views seat ≡ maybe.some (Idle low reached x)
@@ -72,7 +72,7 @@ module _ {T : Type 0} (holds : T → Type 0) (follows : T → T → Type 0) wher
       let is = idle_seat me idle in
       let same : is.0 ≡ n = sym (ap (λ (m : Sat T). low_of m.0) is.3) ∙ low in
       let at_n : me ≡ (Idle n is.1 is.2, []) = is.3 ∙ ap (λ (k : ℕ). let p : Sat T = (Idle k is.1 is.2, []) in p) same in
-      allowed holds follows slots seat me (Idle n is.1 is.2, []) 1 (λ k. either (k == n) (n + 1) k) (Tried follows holds (step slots 1 n (n + 1) maybe.none)) at_n
+      allowed holds follows slots seat me (Idle n is.1 is.2, []) 1 (λ k. either (k == n) (n + 1) k) (Tried follows holds (step slots 1 n (n + 1) maybe.none)) at_n (λ m out e. cc)
       (λ at views stands here. try is.1 is.2 at views stands here (at.next == n) (eqb-true at.next n) (eqb-false at.next n))
     where
       try : (reached : ℕ) (x : T) (at : Standing T) (views : List (View T)) → Stands holds follows at views → get_elem? views seat ≡ maybe.some (Idle n reached x)

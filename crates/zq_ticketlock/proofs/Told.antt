@@ -3,7 +3,7 @@ use Rattle.std.proofs.Common.{◌≡◌, ℕ, ◌<◌, ◌==◌, true, Option, S
 use Rattle.std.specs.Prelude.{IfSome, IsSome, MatchBool}
 use Rattle.std.proofs.lemmas.Bool.Decides.{when_true}
 use Rattle.atomic_table.specs.Table.{Step, rest}
-use Rattle.zq_ticketlock.specs.declared.view.View.TheVariants.{Met, Holding}
+use Rattle.zq_ticketlock.specs.declared.view.View.TheVariants.{Vacant, Met, Holding}
 use Rattle.zq_ticketlock.specs.Views.{Sat, is_idle, is_waiting, is_holding, seen_by, ticket_of}
 use Rattle.zq_ticketlock.specs.Steps.{Arrived, Tried, Takes, FollowsSeen, FollowsBoth, met, reaching}
 use Rattle.zq_ticketlock.proofs.Stages.{idle_seat, waiting_seat, holding_seat}
@@ -15,6 +15,11 @@ seen_some P None some is = absurd (cc)
 
 found_it : (found n : ℕ) (P Q : Type 0) → found ≡ n → MatchBool (found == n) P Q → P
 found_it found n P Q same told = when_true P Q (eq-eqb found n same) told
+
+-- the seat of a vacant lock with a value put into its slot
+pub value_in : {T : Type 0} (n : ℕ) (x : T) (me after : Sat T) → me ≡ (Vacant n true, (0, None) ∷ []) → after ≡ (me.0, (0, Some x) ∷ rest me.1)
+    → after ≡ (Vacant n true, (0, Some x) ∷ [])
+value_in {T} n x me after out is = is ∙ ap (λ (m : Sat T). let p : Sat T = (m.0, (0, Some x) ∷ rest m.1) in p) out
 
 module _ {T : Type 0} (holds : T → Type 0) (follows : T → T → Type 0) where
   -- a slot that is out alone stands first

@@ -1,10 +1,10 @@
 -- The rule of a ticket lock. Word 0 is `serving`, the ticket that is served, and word 1 is `next`, the ticket that is drawn next. Slot 0 is the value's.
-use Rattle.std.specs.Prelude.{◌≡◌, ℕ, ◌<◌, ◌≤◌, Bool, true, false, Option, Some, List, [], ◌∷◌}
+use Rattle.std.specs.Prelude.{◌≡◌, ℕ, ◌<◌, ◌≤◌, ◌⊎◌, Bool, true, false, Option, Some, None, List, [], ◌∷◌}
 use mathlib.Core.Option as maybe
 use lib.ListN.{get_elem?}
 use Rattle.atomic_table.specs.Table.{State}
 use Rattle.zq_ticketlock.specs.declared.view.View.{View}
-use Rattle.zq_ticketlock.specs.declared.view.View.TheVariants.{Idle, Met, Waiting, Holding, Spent}
+use Rattle.zq_ticketlock.specs.declared.view.View.TheVariants.{Vacant, Idle, Met, Waiting, Holding, Spent}
 
 -- Where a lock stands: the value at home, or the one with which the holder began; whether somebody holds it; which seat drew each ticket; the two words
 pub record Standing (T : Type 0) : Type 0 where
@@ -19,9 +19,23 @@ abbrev pub slot : {T : Type 0} → Bool → T → maybe.Option (Option T)
 slot true value = maybe.none
 slot false value = maybe.some (Some value)
 
+-- the slot of a vacant lock: its seat has it out, or it is at home and empty
+abbrev pub hollow : {T : Type 0} → Bool → maybe.Option (Option T)
+hollow true = maybe.none
+hollow false = maybe.some None
+
+-- the lock has no value yet, and one seat
+pub record IsVacant {T : Type 0} (s : State (Option T) (View T)) : Type 0 where
+  pub ticket : ℕ
+  pub out : Bool
+  pub words : s.words ≡ ticket ∷ ticket ∷ []
+  pub homes : s.homes ≡ hollow out ∷ []
+  pub views : s.views ≡ Vacant ticket out ∷ []
+
 module _ {T : Type 0} (holds : T → Type 0) (follows : T → T → Type 0) where
   -- What a seat's view says is so. No two seats have one ticket, since each ticket has one owner
   abbrev pub Knows : Standing T → ℕ → View T → Type 0
+  Knows at seat (Vacant n out) = ⊥
   Knows at seat (Idle low reached x) = (low ≤ at.serving) × (reached ≤ at.next) × follows at.value x
   Knows at seat (Met low x y) = (low ≤ at.serving) × follows at.value x × follows at.value y
   Knows at seat (Waiting n x) = (at.serving ≤ n) × (n < at.next) × (at.owner n ≡ seat) × follows at.value x
@@ -40,3 +54,7 @@ module _ {T : Type 0} (holds : T → Type 0) (follows : T → T → Type 0) wher
     pub words : s.words ≡ at.serving ∷ at.next ∷ []
     pub homes : s.homes ≡ slot at.out at.value ∷ []
     pub stands : Stands at s.views
+
+  -- the rule: the lock is vacant, or it stands
+  abbrev pub IsRuled : State (Option T) (View T) → Type 0
+  IsRuled s = IsVacant s ⊎ IsKept s

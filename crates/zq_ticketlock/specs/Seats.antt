@@ -5,7 +5,8 @@ use Rattle.zq_ticketlock.specs.declared.seat.Seat.{Seat}
 use Rattle.zq_ticketlock.specs.declared.seat.Ticket.{Ticket}
 use Rattle.zq_ticketlock.specs.declared.held.Held.{Held}
 use Rattle.zq_ticketlock.specs.declared.lock.TicketLock.{TicketLock}
-use Rattle.zq_ticketlock.specs.Views.{seen_by, low_of, reached_of}
+use Rattle.zq_ticketlock.specs.declared.vacant.Vacant.{Vacant}
+use Rattle.zq_ticketlock.specs.Views.{first_of, seen_by, low_of, reached_of}
 
 module _ {T : Type 0} where
   -- which lock a seat is of
@@ -49,3 +50,7 @@ module _ {T : Type 0} where
   -- which lock it is
   abbrev pub id_of : TicketLock T → TableId
   id_of lock = lock.table.shared.table_id
+
+  -- the first ticket of a lock that has no value yet
+  abbrev pub opens_at : Vacant T → ℕ
+  opens_at vacant = first_of vacant.place.me.0

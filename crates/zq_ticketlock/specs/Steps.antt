@@ -1,9 +1,9 @@
 -- What each step tells the seat that steps: of the seat before, the number found, and the seat after.
-use Rattle.std.specs.Prelude.{◌≡◌, ℕ, ◌<◌, ◌==◌, Option, Some, IfSome, [], ◌∷◌, MatchBool}
+use Rattle.std.specs.Prelude.{◌≡◌, ℕ, ◌<◌, ◌==◌, true, Option, Some, None, IfSome, [], ◌∷◌, MatchBool}
 use Rattle.atomic_table.specs.Table.{Step}
 use Rattle.zq_ticketlock.specs.declared.view.View.{View}
-use Rattle.zq_ticketlock.specs.declared.view.View.TheVariants.{Idle, Met, Waiting, Holding}
-use Rattle.zq_ticketlock.specs.Views.{Sat, seen_by, ticket_of}
+use Rattle.zq_ticketlock.specs.declared.view.View.TheVariants.{Vacant, Idle, Met, Waiting, Holding}
+use Rattle.zq_ticketlock.specs.Views.{Sat, first_of, seen_by, ticket_of}
 
 module _ {T : Type 0} where
   -- an idle seat has read this number in `serving`: `next` has come as far
@@ -25,6 +25,14 @@ module _ {T : Type 0} where
   abbrev pub met : View T → View T → View T
   met (Idle low reached x) (Idle m passed y) = Met low x y
   met view _ = view
+
+  -- the seat of a vacant lock has its empty slot out
+  abbrev pub Emptied : Step (Option T) → Sat T → ℕ → Sat T → Type 0
+  Emptied step me found after = after ≡ (Vacant (first_of me.0) true, (0, None) ∷ [])
+
+  -- it has put the first value home, which it has then seen
+  abbrev pub Filled : Step (Option T) → Sat T → ℕ → Sat T → Type 0
+  Filled step me found after = (x : T) → me.1 ≡ (0, Some x) ∷ [] → after ≡ (Idle (first_of me.0) (first_of me.0) x, [])
 
   -- a look notes the number found
   abbrev pub Looked : Step (Option T) → Sat T → ℕ → Sat T → Type 0

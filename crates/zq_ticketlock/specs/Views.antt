@@ -1,8 +1,8 @@
 -- Views: what a seat knows of its lock, in stages.
-use Rattle.std.specs.Prelude.{ℕ, ◌==◌, ◌&&◌, Bool, true, false, Option, Some, None, is_none, List, [], ◌∷◌}
+use Rattle.std.specs.Prelude.{ℕ, ◌==◌, ◌&&◌, Bool, true, false, not, Option, Some, None, is_none, List, [], ◌∷◌}
 use Rattle.atomic_table.specs.Table.{Me}
 use Rattle.zq_ticketlock.specs.declared.view.View.{View}
-use Rattle.zq_ticketlock.specs.declared.view.View.TheVariants.{Idle, Waiting, Holding}
+use Rattle.zq_ticketlock.specs.declared.view.View.TheVariants.{Vacant, Idle, Waiting, Holding}
 
 -- a seat's view, and the slots that it has out
 abbrev pub Sat : Type 0 → Type 0
@@ -26,6 +26,11 @@ module _ {T : Type 0} where
   reached_of (Idle low reached x) = reached
   reached_of _ = 0
 
+  -- the ticket with which a vacant lock opens
+  abbrev pub first_of : View T → ℕ
+  first_of (Vacant n out) = n
+  first_of _ = 0
+
   -- the ticket of a seat that waits
   abbrev pub ticket_of : View T → ℕ
   ticket_of (Waiting n x) = n
@@ -40,6 +45,10 @@ module _ {T : Type 0} where
   value_out [] = false
   value_out (slot ∷ slots) = (slot.0 == 0) && is_none slot.1 && nothing_out slots
 
+  abbrev pub vacant_view : View T → Bool
+  vacant_view (Vacant n out) = not out
+  vacant_view _ = false
+
   abbrev pub idle_view : View T → Bool
   idle_view (Idle low reached x) = true
   idle_view _ = false
@@ -51,6 +60,10 @@ module _ {T : Type 0} where
   abbrev pub holding_view : ℕ → View T → Bool
   holding_view k (Holding n x) = n == k
   holding_view k _ = false
+
+  -- the seat is that of a vacant lock, whose slot is at home
+  abbrev pub is_vacant : Sat T → Bool
+  is_vacant me = vacant_view me.0 && nothing_out me.1
 
   -- the seat neither waits nor holds
   abbrev pub is_idle : Sat T → Bool

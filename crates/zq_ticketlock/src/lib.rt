@@ -13,6 +13,8 @@
 //! - a *release* is a store to `serving`, by which a holder puts the value home;
 //! - a *split* makes two seats of one, and a *join* one of two.
 //!
+//! A lock opens with all its memory and no value. Its only seat puts the first value in by two loads of `serving`.
+//!
 //! A thread with a ticket looks a few hundred times, and then sleeps until a release wakes it. Where two tickets are out,
 //! a thread that comes sleeps at a *door* before it draws its own, until it is called in. So the lock serves threads in
 //! the order of their tickets, and not in the order in which they called: at the door there is none, though whoever waits
@@ -30,6 +32,7 @@ mod lock;
 mod order;
 mod seat;
 mod steps;
+mod vacant;
 mod view;
 mod waiting;
 
@@ -38,6 +41,7 @@ pub use held::Held;
 pub use keeps::Keeps;
 pub use lock::{LAST_TICKET, TicketLock};
 pub use seat::Seat;
+pub use vacant::Vacant;
 
 #[cfg(test)]
 mod tests;

@@ -1,14 +1,14 @@
-ghost use Rattle.std.specs.Prelude.{◌≡◌, Some, [], ◌∷◌};
+ghost use Rattle.std.specs.Prelude.{◌≡◌};
 
 use crate::door::Door;
 use crate::errors::NoMemory;
 use crate::keeps::Keeps;
-use crate::order::{Opening, TicketOrder};
+use crate::order::TicketOrder;
 use crate::seat::Seat;
+use crate::vacant::Vacant;
 use crate::view::View;
-use atomic_table::{Refused, Table};
+use atomic_table::Table;
 use std::alloc::Global;
-use std::snapshot::Snapshot;
 use std::sync::atomic::AtomicU64;
 
 /// The last value of both words, at which no ticket is drawn: there the lock is worn.
@@ -24,7 +24,7 @@ pub(crate) const NEXT: usize = 1;
 /// at the door, where no order is kept.
 #[derive(Drop)]
 pub struct TicketLock<T: Keeps> {
-    pub(crate) table: Table<Option<T>, View<T>, Opening<T>, TicketOrder, Global>,
+    pub(crate) table: Table<Option<T>, View<T>, u64, TicketOrder, Global>,
     // How many threads with a ticket may be asleep. It saves a lock that nobody waits for the call that wakes.
     pub(crate) sleepers: AtomicU64,
     // Where threads wait that have no ticket yet.
@@ -60,31 +60,9 @@ impl<T: Keeps> TicketLock<T> {
         ensures served { IfOk result (λ made. served made.1 ≡ ticket) }
         ensures refused { IfErr result (λ e. e.1 ≡ value) }
     {
-        let Ok(mut slots) = Vec::with_capacity(alloc, 1) else {
-            return Err((NoMemory, value));
-        };
-        let opening = (Snapshot::of(&value), ticket);
-        slots.push_reserved(Some(value));
-        match Table::new(alloc, &[ticket, ticket], slots, &opening) {
-            Ok((table, place)) => {
-                let lock = TicketLock {
-                    table,
-                    sleepers: AtomicU64::new(0),
-                    door: Door::new(),
-                };
-                Ok((lock, Seat { place }))
-            }
-            Err(Refused { slots }) => Err((NoMemory, only(slots))),
+        match Vacant::new(alloc, ticket) {
+            Ok(vacant) => Ok(vacant.fill(value)),
+            Err(_) => Err((NoMemory, value)),
         }
     }
-}
-
-/// The one value of a table that was not made.
-fn only<T>(mut slots: Vec<Option<T>>) -> T
-    requires { (x : T) × (slots.items ≡ Some x ∷ []) }
-    ensures { slots.items ≡ Some result ∷ [] }
-{
-    let value = slots.pop().unwrap().unwrap();
-    slots.destroy_empty();
-    value
 }

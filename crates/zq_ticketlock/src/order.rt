@@ -1,23 +1,34 @@
 // The rule of the lock's words, its slot and all seats, and what each step tells the seat that steps.
-ghost use Rattle.zq_ticketlock.specs.Order.{IsKept};
-ghost use Rattle.zq_ticketlock.specs.Steps.{Looked, Drew, Arrived, Tried, Released, Settled, met};
-ghost use Rattle.zq_ticketlock.specs.declared.view.View.TheVariants.{Idle, Spent};
+ghost use Rattle.std.specs.Prelude.{false};
+ghost use Rattle.zq_ticketlock.specs.Order.{IsRuled};
+ghost use Rattle.zq_ticketlock.specs.Steps.{Emptied, Filled, Looked, Drew, Arrived, Tried, Released, Settled, met};
+ghost use Rattle.zq_ticketlock.specs.declared.view.View.TheVariants.{Vacant, Spent};
 
 use crate::keeps::Keeps;
 use crate::view::View;
 use atomic_table::{Join, Play, Split, TableRule};
-use std::snapshot::Snapshot;
 
-/// With what a lock opens: the value, and the first ticket.
-pub(crate) type Opening<T> = (Snapshot<T>, u64);
-
-/// The rule.
+/// The rule. A lock opens at a ticket.
 pub struct TicketOrder;
 
-impl<T: Keeps> TableRule<Option<T>, View<T>, Opening<T>> for TicketOrder {
-    ghost holds = { λ _. IsKept T.holds T.follows };
+impl<T: Keeps> TableRule<Option<T>, View<T>, u64> for TicketOrder {
+    ghost holds = { λ _. IsRuled T.holds T.follows };
 
-    ghost first = { λ opening. Idle opening.1 opening.1 opening.0.value };
+    ghost first = { λ ticket. Vacant ticket false };
+}
+
+/// A load of `serving` by which the seat of a vacant lock takes the empty slot out.
+pub struct Empty;
+
+impl<T> Play<Option<T>, View<T>> for Empty {
+    ghost then = { Emptied };
+}
+
+/// A load of `serving` by which that seat puts the first value home.
+pub struct Fill;
+
+impl<T> Play<Option<T>, View<T>> for Fill {
+    ghost then = { Filled };
 }
 
 /// A load of `serving` by a seat that waits for nothing.

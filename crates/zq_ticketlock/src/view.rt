@@ -1,5 +1,7 @@
 /// What a seat knows of its lock. Proofs alone speak of it: no value of it is ever made.
 pub enum View<T> {
+    /// The lock has no value yet, and this is its only seat. It has the empty slot out, or not yet.
+    Vacant { ticket: u64, out: bool },
     /// The seat neither waits nor holds. It has read `low` in `serving`, knows that `next` has come to `reached`, and has
     /// seen this value.
     Idle { low: u64, reached: u64, seen: T },

@@ -71,4 +71,4 @@ returns-in-Err-clause-refused g c =
     subst (λ o. IsSeenLater o (seen_at old heap)) (sym (ap seen_in now)) (subst (λ o. IsSeenLater (seen_in (Some (Some c.in-Err.seat))) o) (sym (ap seen_in there)) c.in-Err.ensures.refused.2) in
     let others : (k : ℕ) → (k ≡ heap → ⊥) → seen_at new k ≡ seen_at old k =
     λ k other. ap seen_in (set_other mid.seats.items heap k (Some c.in-Err.seat) other ∙ set_other old.seats.items heap k c.take.new.self other) in
-    (seat_back site mid new heap c.index.result.now c.in-Err.seat c.requires.heap here refl refl refl fits but, stopped old new heap refl refl later others)
+    (seat_back site mid new heap c.index.result.now c.in-Err.seat c.requires.heap here refl refl refl fits but, stopped old new heap (λ k. refl) refl later others)

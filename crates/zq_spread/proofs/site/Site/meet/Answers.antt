@@ -1,0 +1,40 @@
+use Rattle.std.proofs.Common.{subst, ◌∙◌}
+use Rattle.std.specs.Prelude.{ℕ}
+use Rattle.zq_spread.proofs.site.Site.meet.Goals as goal
+use Rattle.zq_spread.specs.Kept.{Follows}
+use Rattle.zq_spread.specs.Meetings.{HaveMet, HaveParted}
+use Rattle.zq_spread.specs.Passes.{seen_at}
+use Rattle.zq_ticketlock.specs.Steps.{FollowsSeen}
+
+pub returns-in-Ok-clause-met : goal.returns-in-Ok-clause-met
+returns-in-Ok-clause-met g c =
+    let h : ℕ = c.from-heap.result in
+    let met = c.in-Ok.ensures.met in
+    let one = c.take_seat-one.ensures.seen in
+    let other = c.take_seat-other.ensures.seen in
+    let there : HaveMet (seen_at c.args.first.now h) (seen_at c.args.second.now h) (seen_at c.put_seat.new.pass h) (seen_at c.put_seat-in-Ok.new.pass h) = (
+      met.0,
+      met.1,
+      c.put_seat.ensures.seen ∙ met.2,
+      c.put_seat-in-Ok.ensures.seen ∙ met.3,
+      subst (λ o. FollowsSeen Follows met.0 o) one met.4,
+      subst (λ o. FollowsSeen Follows met.0 o) other met.5,
+      subst (λ o. FollowsSeen Follows met.1 o) other met.6,
+      met.7,
+    ) in
+    subst (λ k. HaveMet (seen_at c.args.first.now k) (seen_at c.args.second.now k) (seen_at c.put_seat.new.pass k) (seen_at c.put_seat-in-Ok.new.pass k)) c.from-heap.ensures there
+
+pub returns-in-Err-clause-worn : goal.returns-in-Err-clause-worn
+returns-in-Err-clause-worn g c =
+    let h : ℕ = c.from-heap.result in
+    let worn = c.in-Err.ensures.worn in
+    let one = c.take_seat-one.ensures.seen in
+    let other = c.take_seat-other.ensures.seen in
+    let there : HaveParted (seen_at c.args.first.now h) (seen_at c.args.second.now h) (seen_at c.put_seat-in-Err.new.pass h) (seen_at c.put_seat-in-Err-2.new.pass h) = (
+      worn.0,
+      c.put_seat-in-Err.ensures.seen ∙ worn.1,
+      c.put_seat-in-Err-2.ensures.seen ∙ worn.2,
+      subst (λ o. FollowsSeen Follows worn.0 o) one worn.3,
+      subst (λ o. FollowsSeen Follows worn.0 o) other worn.4,
+    ) in
+    subst (λ k. HaveParted (seen_at c.args.first.now k) (seen_at c.args.second.now k) (seen_at c.put_seat-in-Err.new.pass k) (seen_at c.put_seat-in-Err-2.new.pass k)) c.from-heap.ensures there

@@ -1,0 +1,31 @@
+use Rattle.std.proofs.Common.{ap, arith, length, subst, ◌∙◌}
+use Rattle.std.proofs.lemmas.Option.{slice_get_read, slice_get_within}
+use Rattle.std.specs.Prelude.{Some, refl, slice_get, ℕ, ◌<◌, ◌≡◌, ◌≤◌}
+use Rattle.zq_dots.specs.Rule.{rule_of}
+use Rattle.zq_history.specs.Books.{Book}
+use Rattle.zq_shard.specs.Shard.{HeapImage}
+use Rattle.zq_spread.proofs.Settled.{made}
+use Rattle.zq_spread.proofs.site.Site.of_books.Goals as goal
+use Rattle.zq_spread.specs.Grounds.{AreSettled}
+use Rattle.zq_spread.specs.Makers.{IsInBounds}
+use Rattle.zq_spread.specs.declared.site.Site.{Site}
+
+pub returns-clause-made : goal.returns-clause-made
+returns-clause-made c =
+    let books = c.args.books.items in
+    let rooms = c.settle-rooms.result.0 in
+    let passes = c.settle-rooms.result.1.items in
+    let site : Site = record { number = c.args.number; rule = c.rule-rule.result; rooms = rooms } in
+    let ground = c.in-Ok.ensures in
+    let settled : AreSettled (length books) c.args.passes c.rule-rule.result books rooms.items passes =
+    subst (λ r. AreSettled (length books) c.args.passes r books rooms.items passes) ground.rule_is
+    (subst (λ n. AreSettled (length books) n c.in-Ok.ground.rule books rooms.items passes) ground.settled.passes_are c.settle-rooms.ensures) in
+    let bounds : IsInBounds c.len.result c.args.passes = c.are_in_bounds.ensures.0 c.if-not-are_in_bounds.false in
+    let some : 1 ≤ c.args.passes = bounds.2 in
+    let ruled : (h : ℕ) (book : Book) → slice_get books h ≡ Some book → rule_of c.rule-rule.result ≡ book.rule =
+    λ h book at.
+    let low = slice_get_within books h book at in
+    let within : 0 < length books = omega (arith, low) in
+    let first : slice_get books 0 ≡ Some c.index.result.now = slice_get_read books (length books) 0 c.index.result.now refl within c.index.ensures in
+    c.rule-rule.ensures ∙ ap (λ (s : HeapImage). s.rule) c.shard.ensures.same ∙ c.requires.books.rule 0 h c.index.result.now book first at in
+    made c.args.number c.args.passes books site passes refl some ruled settled

@@ -1,0 +1,48 @@
+use Rattle.std.proofs.Common.{ap, refl, subst, sym, ◌∙◌}
+use Rattle.std.proofs.lemmas.Option.{slice_get_read}
+use Rattle.std.specs.Prelude.{IfSome, Some, length, slice_get, ℕ, ◌≡◌}
+use Rattle.zq_spread.proofs.Seats.{same_some, stopped}
+use Rattle.zq_spread.proofs.site.Site.try_begin_in.Goals as goal
+use Rattle.zq_spread.specs.Passes.{IsSeenLater, seen_at}
+use Rattle.zq_spread.specs.Rooms.{IsBegun, IsOf}
+use Rattle.zq_spread.specs.declared.pass.Pass.{Pass}
+use Rattle.zq_spread.specs.declared.room.Room.{Room}
+use Rattle.zq_ticketlock.specs.Seats.{given, id_of, seen, value_of}
+
+pub try_begin-requires-clause-lock : goal.try_begin-requires-clause-lock
+try_begin-requires-clause-lock c =
+    (c.take_seat-seat.ensures.seat c.index.result.now (slice_get_read c.args.self.now.rooms.items (length c.args.self.now.rooms.items) c.args.heap c.index.result.now refl c.requires.heap c.index.ensures)).0
+
+pub try_begin-requires-clause-seen : goal.try_begin-requires-clause-seen
+try_begin-requires-clause-seen c =
+    (c.take_seat-seat.ensures.seat c.index.result.now (slice_get_read c.args.self.now.rooms.items (length c.args.self.now.rooms.items) c.args.heap c.index.result.now refl c.requires.heap c.index.ensures)).1
+
+pub returns-in-Ok-clause-lock : goal.returns-in-Ok-clause-lock
+returns-in-Ok-clause-lock c = λ room at.
+    let here : slice_get c.args.self.now.rooms.items c.args.heap ≡ Some c.index.result.now = slice_get_read c.args.self.now.rooms.items (length c.args.self.now.rooms.items) c.args.heap c.index.result.now refl c.requires.heap c.index.ensures in
+    let one : c.index.result.now ≡ room = same_some c.index.result.now room (sym here ∙ at) in
+    c.in-Ok.ensures.lock ∙ ap (λ (r : Room). id_of r.lock) one
+
+pub returns-in-Ok-clause-begun : goal.returns-in-Ok-clause-begun
+returns-in-Ok-clause-begun c = λ room at.
+    let here : slice_get c.args.self.now.rooms.items c.args.heap ≡ Some c.index.result.now = slice_get_read c.args.self.now.rooms.items (length c.args.self.now.rooms.items) c.args.heap c.index.result.now refl c.requires.heap c.index.ensures in
+    let one : c.index.result.now ≡ room = same_some c.index.result.now room (sym here ∙ at) in
+    let old : Pass = c.args.pass.now in
+    subst (λ r. IfSome (given c.in-Ok.begun.0) (IsBegun r (seen_at old c.args.heap) old.stamp c.in-Ok.begun.1 (value_of c.in-Ok.begun.0))) one
+    (subst (λ o. IfSome (given c.in-Ok.begun.0) (IsBegun c.index.result.now o old.stamp c.in-Ok.begun.1 (value_of c.in-Ok.begun.0))) c.take_seat-seat.ensures.seen
+    (subst (λ n. IfSome (given c.in-Ok.begun.0) (IsBegun c.index.result.now (seen c.take_seat-seat.result) n c.in-Ok.begun.1 (value_of c.in-Ok.begun.0))) c.take_seat-seat.ensures.stays.stamp c.in-Ok.ensures.begun))
+
+pub put_seat-requires-clause-seat : goal.put_seat-requires-clause-seat
+put_seat-requires-clause-seat c = λ room at.
+    let here : slice_get c.args.self.now.rooms.items c.args.heap ≡ Some c.index.result.now = slice_get_read c.args.self.now.rooms.items (length c.args.self.now.rooms.items) c.args.heap c.index.result.now refl c.requires.heap c.index.ensures in
+    let one : c.index.result.now ≡ room = same_some c.index.result.now room (sym here ∙ at) in
+    (c.in-Err.ensures.refused.0 ∙ ap (λ (r : Room). id_of r.lock) one, subst (λ (r : Room). IfSome (seen c.in-Err.seat) (IsOf r)) one c.in-Err.ensures.refused.1)
+
+pub returns-in-Err-clause-refused : goal.returns-in-Err-clause-refused
+returns-in-Err-clause-refused c =
+    let old : Pass = c.args.pass.now in
+    let new : Pass = c.put_seat.new.pass in
+    let later : IsSeenLater (seen_at new c.args.heap) (seen_at old c.args.heap) =
+    subst (λ o. IsSeenLater o (seen_at old c.args.heap)) (sym c.put_seat.ensures.seen) (subst (λ o. IsSeenLater (seen c.in-Err.seat) o) c.take_seat-seat.ensures.seen c.in-Err.ensures.refused.2) in
+    let others : (k : ℕ) → (k ≡ c.args.heap → ⊥) → seen_at new k ≡ seen_at old k = λ k other. c.put_seat.ensures.stays.others k other ∙ c.take_seat-seat.ensures.stays.others k other in
+    (c.put_seat.ensures.pass, stopped old new c.args.heap (λ k. c.put_seat.ensures.stays.steps k ∙ c.take_seat-seat.ensures.stays.steps k) (c.put_seat.ensures.stays.stamp ∙ c.take_seat-seat.ensures.stays.stamp) later others)

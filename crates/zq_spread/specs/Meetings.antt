@@ -1,0 +1,16 @@
+-- What two passes have seen of a heap after they met.
+
+use Rattle.std.specs.Prelude.{Option, Some, ◌≡◌}
+use Rattle.zq_spread.specs.Kept.{Follows}
+use Rattle.zq_spread.specs.declared.kept.Kept.{Kept}
+use Rattle.zq_ticketlock.specs.Steps.{FollowsSeen}
+
+-- the first has seen what follows all that either had; the second has seen what follows what it had, and what the first has seen follows it
+abbrev pub HaveMet : Option Kept → Option Kept → Option Kept → Option Kept → Type 0
+HaveMet first second first_now second_now =
+    (x : Kept) × (y : Kept) × (first_now ≡ Some x) × (second_now ≡ Some y) × FollowsSeen Follows x first × FollowsSeen Follows x second × FollowsSeen Follows y second × Follows x y
+
+-- both have seen one value, which follows all that either had
+abbrev pub HaveParted : Option Kept → Option Kept → Option Kept → Option Kept → Type 0
+HaveParted first second first_now second_now =
+    (x : Kept) × (first_now ≡ Some x) × (second_now ≡ Some x) × FollowsSeen Follows x first × FollowsSeen Follows x second
