@@ -1,6 +1,6 @@
 -- The books of some heaps of one site, each at its place in a list: how they are lent, and what work leaves of them.
 
-use Rattle.std.specs.Prelude.{List, Some, [], length, slice_get, ℕ, ◌++◌, ◌∷◌, ◌≡◌, ◌≤◌}
+use Rattle.std.specs.Prelude.{List, None, Some, [], length, slice_get, ℕ, ◌++◌, ◌∷◌, ◌≡◌, ◌≤◌}
 use Rattle.zq_commands.specs.Lending.{Lending}
 use Rattle.zq_history.specs.Books.{Book, Step}
 use Rattle.zq_history.specs.Reach.{IsWorked}
@@ -16,8 +16,9 @@ abbrev pub heaps_in : List Book → ℕ
 heaps_in [] = 1
 heaps_in (book ∷ books) = book.heaps
 
+-- no list is kept of what is made in them
 abbrev pub lending_of : List Book → Lending
-lending_of books = record { rule = rule_in books; heaps = heaps_in books; books = books }
+lending_of books = record { rule = rule_in books; heaps = heaps_in books; books = books; told = None }
 
 -- a site's own work led from the old book to the new one: there are steps with which the work of a call of the new book's
 -- stamp goes on from the one to the other, wherever it began; a call raises a book's stamp to its own before it works

@@ -14,6 +14,7 @@ mod pairs;
 mod popping;
 mod putting;
 mod raising;
+mod ran;
 mod ranging;
 mod reading;
 mod removing;
@@ -32,11 +33,12 @@ pub use cut::Cut;
 pub use popping::pop;
 pub use putting::put_pairs;
 pub use raising::{raise, raise_if};
+pub use ran::Ran;
 pub use ranging::read_range;
 pub use reading::{read_count, read_rank, read_score, read_turned_rank, read_within};
 pub use removing::drop_members;
 pub use replies::message_reply;
-pub use running::run;
+pub use running::{read_told, run, run_told};
 pub use site_books::SiteBooks;
 
 #[cfg(test)]

@@ -1,0 +1,16 @@
+mod Homes
+mod Lendings
+mod Prefixes
+mod Standing
+mod Handed
+mod Handing
+mod Merged
+mod Mergings
+mod Keepings
+mod WorldBooks
+mod SeenBooks
+mod Nearest
+mod SitesOf
+mod ToldRuns
+mod Dones
+mod Readings
