@@ -1,114 +1,130 @@
 -- What stands once the last place is gone, and its member's entry, in whose place the map's last entry came.
-use Rattle.std.specs.Prelude.{List, Some, [], length, get_or, slice_get, slice_set, take, ℕ, ℤ, ◌+◌, ◌<◌, ◌≡◌, ◌≢◌}
-use Rattle.std.proofs.Common.{ap, arith, inl, inr, sym, ◌∙◌}
+use Rattle.std.specs.Prelude.{List, Some, [], length, get_or, slice_get, slice_set, take, ℕ, ℤ, ◌+◌, ◌<◌, ◌≡◌, ◌≢◌, ◌⊎◌}
+use Rattle.std.proofs.Common.{ap, arith, inl, inr, subst, sym, ◌∙◌}
+use Rattle.std.proofs.Math.Seq.{take-set-lt}
 use Rattle.std.proofs.lemmas.Bool.{cases_eq}
-use Rattle.std.proofs.lemmas.List.{length-set, length-take-le}
-use Rattle.std.proofs.lemmas.Option.{slice_get-get_or, slice_get_within}
-use Rattle.zq_posheap.proofs.Linked.{at, one_slot, slot, some_eq}
-use Rattle.zq_posheap.proofs.Lists.{slice_get-set_other, slice_get-set_same, slice_get-take}
+use Rattle.std.proofs.lemmas.List.{length-map, length-set, length-take-le, take-map, take-set-le}
+use Rattle.std.proofs.lemmas.Option.{slice_get_within}
+use Rattle.zq_posheap.proofs.Inverses as inverses
+use Rattle.zq_posheap.proofs.Linked.{index_there, index_within, indices-set, one_slot, position_there, slot, slot_there}
+use Rattle.zq_posheap.proofs.Lists.{slice_get-set_other, slice_get-set_same, slice_get-take, some_eq, there_is}
 use Rattle.zq_posheap.proofs.Scored.{scored_there}
+use Rattle.zq_posheap.specs.Links.{IsLinked, indices}
 use Rattle.zq_posheap.specs.Order.{Scored, scored_slots}
-use Rattle.zq_posheap.specs.Links.{IsLinked, Link}
 use Rattle.zq_posheap.specs.declared.heap.Slot.{Slot}
 
-module _ (slots : List Slot) (links : List Link) (linked : IsLinked slots links) (n i : ℕ) (s : ℤ) (long : n + 1 ≡ length slots)
-    (last : slice_get slots n ≡ Some (slot s i)) where
-  left : length (take n slots) ≡ n
-  left = length-take-le n slots (omega arith)
+-- with the entry at i gone, and that at n come there: x' is the slot x, and of the member at n told of the index i
+pub record Carries (n i : ℕ) (x x' : Slot) : Type 0 where
+  pub score : x'.score ≡ x.score
+  pub index : ((x'.index ≡ x.index) × ((x.index ≢ i) × (x.index < n))) ⊎ ((x'.index ≡ i) × ((x.index ≡ n) × (i < n)))
 
-  kept : (p : ℕ) (x : Slot) → slice_get (take n slots) p ≡ Some x → (p < n) × (slice_get slots p ≡ Some x)
-  kept p x is =
-      let within : p < n = omega (arith, slice_get_within (take n slots) p x is, left) in
-      (within, sym (slice_get-take n slots p within) ∙ is)
+-- what is seen of a member at its slot's index stays
+seen_alike : {Y : Type 0} (f f' : ℕ → Y) (n i : ℕ) → ((j : ℕ) → j ≢ i → j < n → f' j ≡ f j) → (i < n → f' i ≡ f n) → (x x' : Slot) → Carries n i x x' → f' x'.index ≡ f x.index
+seen_alike f f' n i others here x x' carries = elim carries.index as (λ _. f' x'.index ≡ f x.index) [
+  | inl stays ↦ ap f' stays.0 ∙ others x.index stays.1.0 stays.1.1
+  | inr comes ↦ ap f' comes.0 ∙ here comes.1.1 ∙ ap f (sym comes.1.0)
+]
+
+-- the slots without the last, where the member at n is told of the index i
+pub record IsCut (slots slots' : List Slot) (n i q : ℕ) : Type 0 where
+  pub one_less : length slots' ≡ n
+  pub indices_are : indices slots' ≡ take n (slice_set (indices slots) q i)
+  pub carries : (p : ℕ) → p < n → (x : Slot) → slice_get slots p ≡ Some x → (x' : Slot) × ((slice_get slots' p ≡ Some x') × Carries n i x x')
+
+module _ (slots : List Slot) (positions : List ℕ) (scores : List ℤ) (linked : IsLinked slots positions scores) (n i q : ℕ) (s : ℤ) (long : n + 1 ≡ length slots)
+    (last : slice_get slots n ≡ Some (slot s i)) (moved : slice_get positions n ≡ Some q) where
+  many : length slots ≡ length positions
+  many = sym (length-map slots (λ x. x.index)) ∙ linked.placed.one_length
+
+  cut_long : length (take n slots) ≡ n
+  cut_long = length-take-le n slots (omega arith)
+
+  at_i : slice_get positions i ≡ Some n
+  at_i = position_there slots positions scores linked n (slot s i) last
 
   -- the member of a place that stays is not the one that goes
   stays_apart : (p : ℕ) (x : Slot) → p < n → slice_get slots p ≡ Some x → x.index ≢ i
-  stays_apart p x within here e = let gone : p ≡ n = one_slot slots links linked p n x (slot s i) here last e in omega (arith, gone, within)
+  stays_apart p x within here e = let gone : p ≡ n = one_slot slots positions scores linked p n x (slot s i) here last e in omega (arith, gone, within)
 
   known_within : (p : ℕ) (x : Slot) → slice_get slots p ≡ Some x → x.index < n + 1
-  known_within p x here = omega (arith, slice_get_within links x.index _ (linked.known p x here), linked.one_length, long)
+  known_within p x here = omega (arith, index_within slots positions scores linked p x here, many, long)
 
-  -- the place of a member that stays is not the one that goes
-  place_apart : (j : ℕ) (w : Link) → j ≢ i → slice_get slots w.position ≡ Some (slot w.score j) → w.position < n
-  place_apart j w apart here =
-      let other : w.position ≢ n = λ e. apart (ap (λ x. x.index) (some_eq (sym here ∙ ap (slice_get slots) e ∙ last))) in
-      omega (arith, slice_get_within slots w.position _ here, long, other)
-
-  module _ (links' : List Link) (long' : length links' ≡ n) (others : (j : ℕ) → j ≢ i → j < n → slice_get links' j ≡ slice_get links j) where
-    -- where the last place had the last entry
-    pub end_dropped : n ≡ i → IsLinked (take n slots) links'
-    end_dropped same = record {
-      one_length = left ∙ sym long';
-      known = λ p x is.
-          let k = kept p x is in
-          let apart = stays_apart p x k.0 k.1 in
-          others x.index apart (omega (arith, known_within p x k.1, apart, same)) ∙ linked.known p x k.1;
-      found = λ j w is.
-          let within = slice_get_within links' j w is in
-          let apart : j ≢ i = λ e. omega (arith, e, same, within, long') in
-          let here = linked.found j w (sym (others j apart (omega (arith, within, long'))) ∙ is) in
-          slice_get-take n slots w.position (place_apart j w apart here) ∙ here;
-    }
-
-    module _ (inside : i < n) (t : ℤ) (q : ℕ) (moved : slice_get links n ≡ Some (at t q)) (at_i : slice_get links' i ≡ Some (at t q)) where
-      there : slice_get slots q ≡ Some (slot t n)
-      there = linked.found n (at t q) moved
-
-      pub moved_within : q < n
-      moved_within = place_apart n (at t q) (λ e. omega (arith, e, inside)) there
-
-      slot_q : slice_get (slice_set (take n slots) q (slot t i)) q ≡ Some (slot t i)
-      slot_q = slice_get-set_same (take n slots) q (slot t i) (omega (arith, moved_within, left))
-
-      -- where the last entry came to another index, which its place is told
-      pub dropped : IsLinked (slice_set (take n slots) q (slot t i)) links'
-      dropped = record {
-        one_length = length-set (take n slots) q (slot t i) ∙ left ∙ sym long';
-        known = λ p x is. elim (cases_eq p q) as (λ _. slice_get links' x.index ≡ Some (at x.score p)) [
-          | inl e ↦ let same : x ≡ slot t i = some_eq (sym is ∙ ap (slice_get (slice_set (take n slots) q (slot t i))) e ∙ slot_q) in rw (same, e) at_i
-          | inr apart ↦
-              let k = kept p x (sym (slice_get-set_other (take n slots) q p _ apart) ∙ is) in
-              let other = stays_apart p x k.0 k.1 in
-              let not_last : x.index ≢ n = λ e. apart (one_slot slots links linked p q x (slot t n) k.1 there e) in
-              others x.index other (omega (arith, known_within p x k.1, not_last)) ∙ linked.known p x k.1
-        ];
-        found = λ j w is. elim (cases_eq j i) as (λ _. slice_get (slice_set (take n slots) q (slot t i)) w.position ≡ Some (slot w.score j)) [
-          | inl e ↦ let same : w ≡ at t q = some_eq (sym is ∙ ap (slice_get links') e ∙ at_i) in rw (same, e) slot_q
-          | inr apart ↦
-              let within : j < n = omega (arith, slice_get_within links' j w is, long') in
-              let here = linked.found j w (sym (others j apart within) ∙ is) in
-              slice_get-set_other (take n slots) q w.position _ (λ e. omega (arith, ap (λ x. x.index) (some_eq (sym here ∙ ap (slice_get slots) e ∙ there)), within))
-              ∙ slice_get-take n slots w.position (place_apart j w apart here) ∙ here
-        ];
+  -- where the last place had the last entry
+  pub end_cut : n ≡ i → IsCut slots (take n slots) n i q
+  end_cut same =
+      let at_end : q ≡ n = some_eq (sym moved ∙ ap (slice_get positions) same ∙ at_i) in
+      record {
+        one_less = cut_long;
+        indices_are = sym (take-map (λ (x : Slot). x.index) n slots) ∙ sym (take-set-le n (indices slots) q i (omega (arith, at_end)));
+        carries = λ p within x here.
+            let apart = stays_apart p x within here in (
+              x,
+              (
+                slice_get-take n slots p within ∙ here,
+                record { score = λ k. x.score; index = inl ((λ k. x.index), (apart, omega (arith, known_within p x here, apart, same))) },
+              ),
+            );
       }
 
-  module _ (members members' : List (List ℕ)) (others : (j : ℕ) → j ≢ i → j < n → get_or members' j [] ≡ get_or members j []) where
-    slot_at : (p : ℕ) → p < n → (x : Slot) × (slice_get slots p ≡ Some x)
-    slot_at p within = (get_or slots p (slot s i), slice_get-get_or slots p (slot s i) (omega (arith, within, long)))
+  module _ (inside : i < n) (t : ℤ) (score : slice_get scores n ≡ Some t) where
+    there : slice_get slots q ≡ Some (slot t n)
+    there = slot_there slots positions scores linked n q t moved score
 
-    -- what stands at the other links, where the last had the last entry
-    pub end_dropped_queue : n ≡ i → (m : ℕ) (d : Scored) → m < n → get_or (scored_slots members' (take n slots)) m d ≡ get_or (scored_slots members slots) m d
-    end_dropped_queue same m d within =
-        let x = slot_at m within in
-        let apart = stays_apart m x.0 within x.1 in
-        scored_there members' (take n slots) m x.0 d (slice_get-take n slots m within ∙ x.1)
-        ∙ (λ k. (x.0.score, others x.0.index apart (omega (arith, known_within m x.0 x.1, apart, same)) k))
-        ∙ sym (scored_there members slots m x.0 d x.1)
+    pub moved_within : q < n
+    moved_within =
+        let other : q ≢ n = λ e. omega (arith, ap (λ x. x.index) (some_eq (sym there ∙ ap (slice_get slots) e ∙ last)), inside) in
+        omega (arith, slice_get_within slots q _ there, long, other)
 
-    -- and where the last entry came to another index
-    pub dropped_queue : (t : ℤ) (q : ℕ) → slice_get slots q ≡ Some (slot t n) → get_or members' i [] ≡ get_or members n [] → (m : ℕ) (d : Scored) → m < n →
-        get_or (scored_slots members' (slice_set (take n slots) q (slot t i))) m d ≡ get_or (scored_slots members slots) m d
-    dropped_queue t q there came m d within =
-        let slots' = slice_set (take n slots) q (slot t i) in
-        elim (cases_eq m q) as (λ _. get_or (scored_slots members' slots') m d ≡ get_or (scored_slots members slots) m d) [
-          | inl e ↦
-              scored_there members' slots' m (slot t i) d (ap (slice_get slots') e ∙ slice_get-set_same (take n slots) q _ (omega (arith, e, within, left)))
-              ∙ (λ k. (t, came k)) ∙ sym (scored_there members slots m (slot t n) d (ap (slice_get slots) e ∙ there))
-          | inr apart ↦
-              let x = slot_at m within in
-              let other = stays_apart m x.0 within x.1 in
-              let not_last : x.0.index ≢ n = λ e. apart (one_slot slots links linked m q x.0 (slot t n) x.1 there e) in
-              scored_there members' slots' m x.0 d (slice_get-set_other (take n slots) q m _ apart ∙ slice_get-take n slots m within ∙ x.1)
-              ∙ (λ k. (x.0.score, others x.0.index other (omega (arith, known_within m x.0 x.1, not_last)) k))
-              ∙ sym (scored_there members slots m x.0 d x.1)
-        ]
+    -- where the last entry came to another index, which its place is told
+    pub told_cut : IsCut slots (slice_set (take n slots) q (slot t i)) n i q
+    told_cut = record {
+      one_less = length-set (take n slots) q (slot t i) ∙ cut_long;
+      indices_are = indices-set (take n slots) q (slot t i) ∙ ap (λ xs. slice_set xs q i) (sym (take-map (λ (x : Slot). x.index) n slots))
+          ∙ sym (take-set-lt n (indices slots) q i moved_within);
+      carries = λ p within x here.
+          elim (cases_eq p q) as (λ _. (x' : Slot) × ((slice_get (slice_set (take n slots) q (slot t i)) p ≡ Some x') × Carries n i x x')) [
+            | inl e ↦
+                let same : x ≡ slot t n = some_eq (sym here ∙ ap (slice_get slots) e ∙ there) in (
+                  slot t i,
+                  (
+                    ap (slice_get (slice_set (take n slots) q (slot t i))) e ∙ slice_get-set_same (take n slots) q (slot t i) (omega (arith, moved_within, cut_long)),
+                    record { score = sym (ap (λ y. y.score) same); index = inr ((λ k. i), (ap (λ y. y.index) same, inside)) },
+                  ),
+                )
+            | inr apart ↦
+                let other = stays_apart p x within here in
+                let not_last : x.index ≢ n = λ e. apart (one_slot slots positions scores linked p q x (slot t n) here there e) in (
+                  x,
+                  (
+                    slice_get-set_other (take n slots) q p _ apart ∙ slice_get-take n slots p within ∙ here,
+                    record { score = λ k. x.score; index = inl ((λ k. x.index), (other, omega (arith, known_within p x here, not_last))) },
+                  ),
+                )
+          ];
+    }
+
+  module _ (slots' : List Slot) (cut : IsCut slots slots' n i q) where
+    -- heap and map still know each other
+    pub dropped : (positions' : List ℕ) (scores' : List ℤ) → positions' ≡ take n (slice_set positions i q) → length scores' ≡ n →
+        ((j : ℕ) → j ≢ i → j < n → slice_get scores' j ≡ slice_get scores j) → (i < n → slice_get scores' i ≡ slice_get scores n) → IsLinked slots' positions' scores'
+    dropped positions' scores' told left others here = record {
+      placed = rw (cut.indices_are, told)
+          (inverses.dropped (indices slots) positions linked.placed n i q (long ∙ sym (length-map slots (λ x. x.index))) (index_there slots n (slot s i) last) moved);
+      as_many = ap length told ∙ length-take-le n _ (omega (arith, length-set positions i q, many, long)) ∙ sym left;
+      scored = λ p x' is.
+          let within : p < n = omega (arith, slice_get_within slots' p x' is, cut.one_less) in
+          let x = there_is slots p (omega (arith, within, long)) in
+          let kept = cut.carries p within x.0 x.1 in
+          let same : kept.0 ≡ x' = some_eq (sym kept.1.0 ∙ is) in
+          let carries = subst (Carries n i x.0) same kept.1.1 in
+          seen_alike (slice_get scores) (slice_get scores') n i others here x.0 x' carries ∙ linked.scored p x.0 x.1 ∙ ap (λ y. Some y) (sym carries.score);
+    }
+
+    -- and at each place that stays stands what stood there
+    pub dropped_queue : (members members' : List (List ℕ)) → ((j : ℕ) → j ≢ i → j < n → get_or members' j [] ≡ get_or members j []) →
+        (i < n → get_or members' i [] ≡ get_or members n []) → (m : ℕ) (d : Scored) → m < n → get_or (scored_slots members' slots') m d ≡ get_or (scored_slots members slots) m d
+    dropped_queue members members' others here m d within =
+        let x = there_is slots m (omega (arith, within, long)) in
+        let kept = cut.carries m within x.0 x.1 in
+        let member = seen_alike (λ j. get_or members j []) (λ j. get_or members' j []) n i others here x.0 kept.0 kept.1.1 in
+        scored_there members' slots' m kept.0 d kept.1.0 ∙ (λ k. (kept.1.1.score k, member k)) ∙ sym (scored_there members slots m x.0 d x.1)

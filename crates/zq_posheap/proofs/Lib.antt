@@ -1,5 +1,6 @@
 pub mod ByWords
 pub mod Lists
+pub mod Inverses
 pub mod Linked
 pub mod Ordered
 pub mod Sifting
@@ -9,6 +10,7 @@ pub mod Entries
 pub mod Dropped
 pub mod Removal
 pub mod Told
+pub mod Holes
 pub mod DropLast
 pub mod Results
 pub mod Places

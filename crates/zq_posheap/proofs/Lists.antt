@@ -4,8 +4,11 @@ use Rattle.std.proofs.lemmas.Option.{get_or_from_slice_get, none-some, same_Some
 use Rattle.indexmap.specs.Layout.{set_value_at}
 use Rattle.std.specs.Map.{values_of}
 use Rattle.std.proofs.Common.{ap, ◌∙◌, arith, sym}
-use Rattle.std.proofs.lemmas.List.{map-set}
+use Rattle.std.proofs.lemmas.List.{map-set, set-get_or}
 use Rattle.std.specs.Prelude.{List, None, Option, Some, is_some, unwrap_or, [], length, map, refl, slice_get, slice_set, suc, zero, ℕ, ◌<◌, ◌∷◌, ◌≡◌, ◌≢◌, ◌+◌, ◌-◌, ◌++◌, swap, swap_remove, take, get_or, option_map}
+
+pub some_eq : {X : Type 0} {x y : X} → Some x ≡ Some y → x ≡ y
+some_eq e = cc
 
 pub slice_get-set_same : {X : Type 0} (xs : List X) (i : ℕ) (x : X) → i < length xs → slice_get (slice_set xs i x) i ≡ Some x
 slice_get-set_same [] i x within = absurd (omega arith)
@@ -18,12 +21,6 @@ slice_get-set_other (y ∷ xs) zero zero x apart = absurd (apart refl)
 slice_get-set_other (y ∷ xs) zero (suc j) x apart = refl
 slice_get-set_other (y ∷ xs) (suc i) zero x apart = refl
 slice_get-set_other (y ∷ xs) (suc i) (suc j) x apart = slice_get-set_other xs i j x (λ e. apart (ap suc e))
-
--- what a map of a list sees of a write that it does not see
-pub map-set_unseen : {X Y : Type 0} (f : X → Y) (xs : List X) (i : ℕ) (x y : X) → slice_get xs i ≡ Some x → f y ≡ f x → map f (slice_set xs i y) ≡ map f xs
-map-set_unseen f [] i x y at same = refl
-map-set_unseen f (z ∷ xs) zero x y at same = let e : z ≡ x = cc in λ k. (same ∙ ap f (sym e)) k ∷ map f xs
-map-set_unseen f (z ∷ xs) (suc i) x y at same = ap (λ ys. f z ∷ ys) (map-set_unseen f xs i x y at same)
 
 pub set_value_at-values : {K X : Type 0} (es : List (K × X)) (i : ℕ) (w : X) → values_of (set_value_at es i w) ≡ slice_set (values_of es) i w
 set_value_at-values [] i w = refl
@@ -106,3 +103,23 @@ mapped_at f xs i x at = slice_get-map f xs i ∙ ap (option_map f) at
 -- and what is behind what is seen
 pub behind : {X Y : Type 0} (f : X → Y) (xs : List X) (i : ℕ) (y : Y) → slice_get (map f xs) i ≡ Some y → (x : X) × (slice_get xs i ≡ Some x) × (f x ≡ y)
 behind f xs i y at = option_map_some f (slice_get xs i) y (sym (slice_get-map f xs i) ∙ at)
+
+-- what an index reads, as a look-up
+pub read_at : {X : Type 0} (xs : List X) (i : ℕ) (x : X) → i < length xs → x ≡ get_or xs i x → slice_get xs i ≡ Some x
+read_at xs i x within is = slice_get-get_or xs i x within ∙ ap (λ y. Some y) (sym is)
+
+-- what stands there already, written again
+pub set_again : {X : Type 0} (xs : List X) (i : ℕ) (x : X) → slice_get xs i ≡ Some x → slice_set xs i x ≡ xs
+set_again xs i x at = ap (slice_set xs i) (sym (get_or_from_slice_get xs i x x at)) ∙ set-get_or xs i x
+
+-- writes at two places, in either order
+pub set_either : {X : Type 0} (xs : List X) (i j : ℕ) (x y : X) → i ≢ j → slice_set (slice_set xs i x) j y ≡ slice_set (slice_set xs j y) i x
+set_either [] i j x y apart = refl
+set_either (z ∷ xs) zero zero x y apart = absurd (apart refl)
+set_either (z ∷ xs) zero (suc j) x y apart = refl
+set_either (z ∷ xs) (suc i) zero x y apart = refl
+set_either (z ∷ xs) (suc i) (suc j) x y apart = ap (λ ys. z ∷ ys) (set_either xs i j x y (λ e. apart (ap suc e)))
+
+-- two elements change places alike in either order
+pub swap_either : {X : Type 0} (xs : List X) (i j : ℕ) (x y : X) → i ≢ j → slice_get xs i ≡ Some x → slice_get xs j ≡ Some y → swap xs i j ≡ swap xs j i
+swap_either xs i j x y apart at_i at_j = swap-set xs i j x y at_i at_j ∙ set_either xs i j y x apart ∙ sym (swap-set xs j i y x at_j at_i)

@@ -1,20 +1,18 @@
 -- What stands at a place of the heap.
 
 use Rattle.std.specs.BinaryHeap.{IsHeap, lt_by_cmp}
-use Rattle.std.specs.BinaryHeap.Sift.{IsHeapWithHole}
+use Rattle.std.specs.BinaryHeap.Sift.{ComparesAt, IsHeapWithHole}
 use Rattle.std.proofs.lemmas.List.{get_or_append_left, length-append, length-map, map-append, map-set}
 use Rattle.zq_posheap.proofs.Lists.{map_agree}
 use Rattle.zq_posheap.proofs.Ordered.{turned_total}
 use Rattle.zq_posheap.proofs.Sifting.{hole_at_change, hole_at_end}
-use Rattle.std.specs.Cmp.Lexicographic.{slice_cmp}
-use Rattle.std.specs.declared.cmp.Ordering.TheVariants.{Equal}
-use Rattle.std.specs.Ordering.{int_cmp, is_lt, nat_cmp}
+use Rattle.std.specs.Ordering.{is_lt}
 use Rattle.std.proofs.lemmas.Option.{slice_get-map, get_or_from_slice_get}
 use Rattle.std.specs.Map.{keys_of}
 use Rattle.std.specs.Prelude.{List, Some, [], ◌++◌, ◌∷◌, ◌+◌, ◌<◌, ℤ, get_or, length, slice_set, option_map, slice_get, ℕ, ◌≡◌, Bool}
 use Rattle.zq_posheap.specs.declared.heap.Slot.{Slot}
 use Rattle.std.proofs.Common.{◌∙◌, arith, sym, subst, ap, refl}
-use Rattle.zq_posheap.specs.Order.{Scored, scored_at, scored_slots, turned_cmp}
+use Rattle.zq_posheap.specs.Order.{Scored, scored_at, scored_cmp, scored_slots, turned_cmp}
 
 -- the member of a map's entry, among the members' bytes
 pub text_there : {X : Type 0} (es : List (List ℕ × X)) (i : ℕ) (k : List ℕ) (v : X) → slice_get es i ≡ Some (k, v) → k ≡ get_or (keys_of es) i []
@@ -26,13 +24,10 @@ text_there es i k v at =
 pub scored_there : (members : List (List ℕ)) (slots : List Slot) (p : ℕ) (s : Slot) (d : Scored) → slice_get slots p ≡ Some s → get_or (scored_slots members slots) p d ≡ scored_at members s
 scored_there members slots p s d at = get_or_from_slice_get (scored_slots members slots) p (scored_at members s) d (slice_get-map (scored_at members) slots p ∙ ap (option_map (scored_at members)) at)
 
--- members of one score go by their bytes
-pub tied_by_bytes : (members : List (List ℕ)) (slots : List Slot) (a b : ℕ) (x y : Slot) (r : Bool) (d : Scored) →
-    slice_get slots a ≡ Some x → slice_get slots b ≡ Some y → int_cmp x.score y.score ≡ Equal →
-    r ≡ is_lt (slice_cmp nat_cmp (get_or members x.index []) (get_or members y.index [])) →
-    lt_by_cmp turned_cmp (get_or (scored_slots members slots) b d) (get_or (scored_slots members slots) a d) ≡ r
-tied_by_bytes members slots a b x y r d at_a at_b tied is =
-    rw (scored_there members slots a x d at_a, scored_there members slots b y d at_b, tied, is) refl
+-- how two slots compare is how their places do
+pub compares : (members : List (List ℕ)) (slots : List Slot) (a b : ℕ) (x y : Slot) (r : Bool) → slice_get slots a ≡ Some x → slice_get slots b ≡ Some y →
+    r ≡ is_lt (scored_cmp (scored_at members x) (scored_at members y)) → ComparesAt turned_cmp (scored_slots members slots) b a r
+compares members slots a b x y r at_a at_b is d = rw (scored_there members slots a x d at_a, scored_there members slots b y d at_b, is) refl
 
 module _ (members : List (List ℕ)) (slots : List Slot) (n : ℕ) (long : n ≡ length slots) (ordered : IsHeap turned_cmp (scored_slots members slots)) where
   same_long : n ≡ length (scored_slots members slots)

@@ -82,3 +82,8 @@ module _ {X : Type 0} (R : X → X → Ordering) where
       IsNotBelowChildren (lt_by_cmp R) xs j j n
   unfolding IsGreaterChild
   rests o xs j c n stops best = λ k d from to within. (ranks o).chain _ _ _ (stops d) (best k d from to within)
+
+  -- the child that no other goes before is so where only its parent differs
+  pub same_child : (xs ys : List X) (j c n : ℕ) → j * 2 + 1 ≤ c → ((k : ℕ) (d : X) → k ≢ j → get_or ys k d ≡ get_or xs k d) → IsGreaterChild R xs j c n → IsGreaterChild R ys j c n
+  unfolding IsGreaterChild
+  same_child xs ys j c n from same best = λ k d low high within. by _ _ _ _ (same c d (omega arith)) (same k d (omega arith)) (best k d low high within)

@@ -1,5 +1,5 @@
 -- The first place of a heap has the first of its pairs.
-use Rattle.std.specs.Prelude.{List, Some, false, get_or, map, slice_get, ℤ, ℕ, ◌≡◌, ◌≢◌}
+use Rattle.std.specs.Prelude.{List, Some, false, get_or, slice_get, ℤ, ℕ, ◌≡◌, ◌≢◌}
 use Rattle.std.proofs.Common.{ap, arith, refl, subst, sym, true≢false, ◌∙◌}
 use Rattle.std.proofs.ByRecursion.{All-get_or}
 use Rattle.std.proofs.HeapSift.{greatest}
@@ -12,14 +12,15 @@ use Rattle.std.specs.Map.{keys_of, lookup, values_of}
 use Rattle.std.specs.Ordering.{int_cmp, is_lt, nat_cmp, ordering_reverse, ordering_then}
 use Rattle.std.specs.Cmp.Lexicographic.{same_text, slice_cmp}
 use Rattle.std.specs.declared.cmp.Ordering.TheVariants.{Equal, Greater, Less}
+use Rattle.zq_posheap.proofs.DropLast.{scores}
 use Rattle.zq_posheap.proofs.Entries.{bytes_antisymmetric, get-seen, has_text, seen_in, seen_is}
-use Rattle.zq_posheap.proofs.Linked.{some_eq}
-use Rattle.zq_posheap.proofs.Lists.{mapped_at, option_map_some}
+use Rattle.zq_posheap.proofs.Linked.{slot_there}
+use Rattle.zq_posheap.proofs.Lists.{mapped_at, option_map_some, some_eq, there_is}
 use Rattle.zq_posheap.proofs.Ordered.{scored_total, turned_total}
 use Rattle.zq_posheap.proofs.Scored.{scored_there, text_there}
 use Rattle.zq_posheap.specs.First.{IsFirst}
 use Rattle.zq_posheap.specs.Order.{Scored, scored_at, scored_cmp, scored_slots, turned_cmp}
-use Rattle.zq_posheap.specs.Links.{IsLinked, link_of}
+use Rattle.zq_posheap.specs.Links.{IsLinked}
 use Rattle.zq_posheap.specs.Members.{Scores}
 use Rattle.zq_posheap.specs.declared.heap.Held.{Held}
 use Rattle.zq_posheap.specs.declared.heap.Slot.{Slot}
@@ -46,22 +47,24 @@ before x y after apart =
 pub same_first : (m : Scores) (x y : ℤ) (a b : List ℕ) → x ≡ y → a ≡ b → IsFirst m (x, a) → IsFirst m (y, b)
 same_first m x y a b q r first = subst (λ (t : ℤ × List ℕ). IsFirst m (t.0, t.1)) (λ k. (q k, r k)) first
 
-module _ {V : Type 0} (es : List (List ℕ × Held V)) (slots : List Slot) (linked : IsLinked slots (map link_of (values_of es)))
+module _ {V : Type 0} (es : List (List ℕ × Held V)) (slots : List Slot) (positions : List ℕ) (linked : IsLinked slots positions (scores es))
     (ordered : IsHeap turned_cmp (scored_slots (keys_of es) slots)) where
   -- a pair that the scores have stands at a place
   pub stands : (pair : Scored) → get (seen_in (λ v. v.score) es) pair.1 ≡ Some pair.0 → (p : ℕ) × (x : Slot) × (slice_get slots p ≡ Some x) × (scored_at (keys_of es) x ≡ pair)
   stands pair has =
       let w = option_map_some (λ v. v.score) (lookup (has_text pair.1) es) pair.0 (sym (get-seen (λ v. v.score) es pair.1) ∙ has) in
       let e = place_from_lookup (has_text pair.1) es w.0 w.1 in
-      let here = linked.found e.0 (link_of w.0) (mapped_at link_of (values_of es) e.0 w.0 (mapped_at (λ x. x.1) es e.0 (e.1, w.0) e.2)) in
-      (w.0.position, _, here, λ k. (w.2 k, (sym (text_there es e.0 e.1 w.0 e.2) ∙ sym (same_text pair.1 e.1 (sym e.3))) k))
+      let score = mapped_at (λ v. v.score) (values_of es) e.0 w.0 (mapped_at (λ x. x.1) es e.0 (e.1, w.0) e.2) in
+      let p = there_is positions e.0 (omega (arith, slice_get_within (scores es) e.0 w.0.score score, linked.as_many)) in
+      let here = slot_there slots positions (scores es) linked e.0 p.0 w.0.score p.1 score in
+      (p.0, _, here, λ k. (w.2 k, (sym (text_there es e.0 e.1 w.0 e.2) ∙ sym (same_text pair.1 e.1 (sym e.3))) k))
 
   pub first_is : (first : Slot) (key : List ℕ) (w : Held V) → slice_get slots 0 ≡ Some first → slice_get es first.index ≡ Some (key, w) →
       lookup (has_text key) es ≡ Some w → IsFirst (seen_in (λ v. v.score) es) (first.score, key)
   first_is first key w at_top entry found =
       let queue = scored_slots (keys_of es) slots in
-      let place = sym (mapped_at link_of (values_of es) first.index w (mapped_at (λ x. x.1) es first.index (key, w) entry)) ∙ linked.known 0 first at_top in
-      let score : w.score ≡ first.score = ap (λ v. v.score) (some_eq place) in
+      let score : w.score ≡ first.score =
+      some_eq (sym (mapped_at (λ v. v.score) (values_of es) first.index w (mapped_at (λ x. x.1) es first.index (key, w) entry)) ∙ linked.scored 0 first at_top) in
       let top : Scored = scored_at (keys_of es) first in
       let is : top ≡ (first.score, key) = λ k. (first.score, sym (text_there es first.index key w entry) k) in
       let bound = greatest turned_total queue top (sym (scored_there (keys_of es) slots 0 first top at_top)) ordered in

@@ -1,18 +1,19 @@
 -- How the heap and the map know each other.
-use Rattle.std.specs.Prelude.{List, ℕ, ℤ, Some, ◌≡◌, length, slice_get}
-use Rattle.zq_posheap.specs.declared.heap.Held.{Held}
+use Rattle.std.specs.Prelude.{List, ℕ, ℤ, Some, ◌≡◌, length, map, slice_get}
 use Rattle.zq_posheap.specs.declared.heap.Slot.{Slot}
 
--- what the map keeps of a member for the heap: its score, and its position there
-pub record Link : Type 0 where
-  pub score : ℤ
-  pub position : ℕ
+-- each list tells where the other's elements are: i stands at p in the one just where p stands at i in the other
+pub record AreInverse (xs ys : List ℕ) : Type 0 where
+  pub one_length : length xs ≡ length ys
+  pub there : (p i : ℕ) → slice_get xs p ≡ Some i → slice_get ys i ≡ Some p
+  pub back : (i p : ℕ) → slice_get ys i ≡ Some p → slice_get xs p ≡ Some i
 
-abbrev pub link_of : {V : Type 0} → Held V → Link
-link_of held = record { score = held.score; position = held.position }
+-- the indices of the members, in the order of the heap
+abbrev pub indices : List Slot → List ℕ
+indices slots = map (λ s. s.index) slots
 
--- each position of the heap knows its member, which is there with that score, and each member knows its position
-pub record IsLinked (slots : List Slot) (links : List Link) : Type 0 where
-  pub one_length : length slots ≡ length links
-  pub known : (p : ℕ) (s : Slot) → slice_get slots p ≡ Some s → slice_get links s.index ≡ Some (record { score = s.score; position = p })
-  pub found : (i : ℕ) (w : Link) → slice_get links i ≡ Some w → slice_get slots w.position ≡ Some (record { score = w.score; index = i })
+-- slots, positions and scores are as many, each position tells the place of its member's slot, and each slot has its member's score
+pub record IsLinked (slots : List Slot) (positions : List ℕ) (scores : List ℤ) : Type 0 where
+  pub placed : AreInverse (indices slots) positions
+  pub as_many : length positions ≡ length scores
+  pub scored : (p : ℕ) (s : Slot) → slice_get slots p ≡ Some s → slice_get scores s.index ≡ Some s.score

@@ -1,10 +1,11 @@
 -- What a heap holds, and what moving its places keeps.
-use Rattle.std.specs.Prelude.{List, [], ℕ, ℤ, min, ◌-◌, ◌≡◌, length, map, slice_index_or, vec_capacity}
-use Rattle.indexmap.specs.IndexMap.{keys, spare, values}
-use Rattle.zq_posheap.specs.Links.{IsLinked, Link, link_of}
+use Rattle.std.specs.Prelude.{List, [], Some, ℕ, ℤ, min, ◌-◌, ◌<◌, ◌≡◌, length, map, slice_get, slice_index_or, slice_set, vec_capacity}
+use Rattle.indexmap.specs.IndexMap.{index_map_len, keys, spare, values}
+use Rattle.zq_posheap.specs.Links.{IsLinked}
 use Rattle.zq_posheap.specs.Order.{Scored, scored_slots}
 use Rattle.zq_posheap.specs.declared.heap.Heap.{Heap}
 use Rattle.zq_posheap.specs.declared.heap.Held.{Held}
+use Rattle.zq_posheap.specs.declared.heap.Slot.{Slot}
 
 -- the members with their scores, in the order of the heap
 abbrev pub queue_of : {V : Type 0} → Heap V → List Scored
@@ -18,9 +19,9 @@ shown held = (held.score, held.value)
 abbrev pub shown_of : {V : Type 0} → Heap V → List (ℤ × V)
 shown_of heap = map shown (values heap.members)
 
--- the score and the position of each member, in the map's order
-abbrev pub links_of : {V : Type 0} → Heap V → List Link
-links_of heap = map link_of (values heap.members)
+-- the score of each member, in the map's order
+abbrev pub scores_in : {V : Type 0} → Heap V → List ℤ
+scores_in heap = map (λ w. w.score) (values heap.members)
 
 -- the member at an index of the map
 abbrev pub member_of : {V : Type 0} → Heap V → ℕ → List ℕ
@@ -28,16 +29,33 @@ member_of heap index = slice_index_or (keys heap.members) index []
 
 -- heap and map know each other
 abbrev pub IsLinkedHeap : {V : Type 0} → Heap V → Type 0
-IsLinkedHeap heap = IsLinked heap.slots.items (links_of heap)
+IsLinkedHeap heap = IsLinked heap.slots.items heap.positions.items (scores_in heap)
 
--- how many members more find room in both
+-- each slot's index is in the map
+abbrev pub AreKnown : {V : Type 0} → Heap V → Type 0
+AreKnown heap = (p : ℕ) (s : Slot) → slice_get heap.slots.items p ≡ Some s → s.index < index_map_len heap.members
+
+-- how many members more find room in all three
 abbrev pub room_of : {V : Type 0} → Heap V → ℕ
-room_of heap = min (spare heap.members) (vec_capacity heap.slots - length heap.slots.items)
+room_of heap = min (spare heap.members) (min (vec_capacity heap.slots - length heap.slots.items) (vec_capacity heap.positions - length heap.positions.items))
 
--- new has the members, scores, values and room of old, at other positions perhaps
-pub record OnlyMoves {V : Type 0} (old new : Heap V) : Type 0 where
-  pub linked : IsLinkedHeap new
-  pub members : keys new.members ≡ keys old.members
-  pub shown : shown_of new ≡ shown_of old
+-- new has the members and the room of old, and as many places
+pub record KeepsMembers {V : Type 0} (old new : Heap V) : Type 0 where
+  pub members : new.members ≡ old.members
   pub len : length new.slots.items ≡ length old.slots.items
   pub room : room_of new ≡ room_of old
+
+-- new has the members and the room of old, at other positions perhaps
+pub record OnlyMoves {V : Type 0} (old new : Heap V) : Type 0 where
+  pub linked : IsLinkedHeap new
+  pub kept : KeepsMembers old new
+
+-- the heap's order with a slot put at a place
+abbrev pub queue_with : {V : Type 0} → Heap V → ℕ → Slot → List Scored
+queue_with heap place slot = scored_slots (keys heap.members) (slice_set heap.slots.items place slot)
+
+-- a slot was taken out of the place, and heap and map know each other once it is put there
+pub record HasHole {V : Type 0} (heap : Heap V) (place : ℕ) (slot : Slot) : Type 0 where
+  pub within : place < length heap.slots.items
+  pub known : AreKnown heap
+  pub linked : IsLinked (slice_set heap.slots.items place slot) (slice_set heap.positions.items slot.index place) (scores_in heap)

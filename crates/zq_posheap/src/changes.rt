@@ -1,9 +1,9 @@
 //! What changes the members of a heap, their scores or their values.
-ghost use Rattle.std.specs.Prelude.{None, OnOk, OnErr, Some, length, option_map, slice_get, slice_index_or, ◌+◌, ◌-◌, ◌<◌, ◌≡◌, ◌≢◌, ◌≤◌, ℕ};
+ghost use Rattle.std.specs.Prelude.{IsSome, None, OnOk, OnErr, Some, length, option_map, slice_get, slice_index_or, ◌+◌, ◌-◌, ◌<◌, ◌≡◌, ◌≢◌, ◌≤◌, ℕ};
 ghost use Rattle.std.specs.FinMap.{get, insert, remove};
 ghost use Rattle.indexmap.specs.IndexMap.{IsUnique, index_map_len, keys, values, with_value_at};
 ghost use Rattle.zq_posheap.specs.Members.{AreInRange};
-ghost use Rattle.zq_posheap.specs.Moves.{IsLinkedHeap, OnlyMoves, member_of, queue_of, room_of, shown, shown_of};
+ghost use Rattle.zq_posheap.specs.Moves.{IsLinkedHeap, OnlyMoves, member_of, queue_of, room_of, shown};
 ghost use Rattle.zq_posheap.specs.Order.{Scored, same_key};
 ghost use Rattle.zq_posheap.specs.Whole.{IsWhole, entries_map};
 
@@ -24,7 +24,7 @@ fn exchange<V>(
     requires { index < index_map_len members.old }
     ensures given { (w : Held V) → slice_get (values members.old) index ≡ Some w → result ≡ w.value }
     ensures noted { (w : Held V) → slice_get (values members.old) index ≡ Some w →
-        members.new ≡ with_value_at members.old index (record { score = score; position = w.position; value = value }) }
+        members.new ≡ with_value_at members.old index (record { score = score; value = value }) }
     ensures unique { IsUnique same_key members.old }
 {
     let (_, held) = members.pair_mut(index);
@@ -53,7 +53,7 @@ impl<V: Drop> Heap<V> {
         ensures room { room_of self.new ≡ room_of self.old }
         ensures still_whole { IsWhole self.new }
     {
-        let position = self.at(index).position;
+        let position = self.positions[index];
         let given = exchange(&mut self.members, index, score, value);
         self.slots[position] = Slot { score, index };
         self.settle(position);
@@ -63,11 +63,13 @@ impl<V: Drop> Heap<V> {
     /// Makes room for so many members more.
     pub(crate) fn reserve(&mut self, additional: usize) -> Result<(), AllocError>
         ensures slots { self.new.slots.items ≡ self.old.slots.items }
+        ensures positions { self.new.positions.items ≡ self.old.positions.items }
         ensures members { self.new.members.entries ≡ self.old.members.entries }
         ensures more { room_of self.old ≤ room_of self.new }
         ensures room { OnOk result (additional ≤ room_of self.new) }
     {
         self.slots.reserve(additional)?;
+        self.positions.reserve(additional)?;
         self.members.reserve(additional)
     }
 
@@ -80,18 +82,11 @@ impl<V: Drop> Heap<V> {
         ensures less_room { room_of self.old ≤ room_of self.new + 1 }
         ensures still_whole { IsWhole self.new }
     {
-        let position = self.slots.len();
-        let held = Held {
-            score,
-            position,
-            value,
-        };
-        let _ = self.members.insert(member, held);
-        self.slots.push_reserved(Slot {
-            score,
-            index: position,
-        });
-        self.settle(position);
+        let last = self.slots.len();
+        let _ = self.members.insert(member, Held { score, value });
+        self.positions.push_reserved(last);
+        self.slots.push_reserved(Slot { score, index: last });
+        self.settle(last);
     }
 
     /// Takes the member at an index out, and answers what was held of it.
@@ -103,7 +98,7 @@ impl<V: Drop> Heap<V> {
         ensures more { room_of self.old ≤ room_of self.new }
         ensures still_whole { IsWhole self.new }
     {
-        let position = self.at(index).position;
+        let position = self.positions[index];
         self.move_last(position);
         let given = self.drop_last().unwrap();
         self.settle(position);
@@ -133,16 +128,19 @@ impl<V: Drop> Heap<V> {
         ensures len { length self.new.slots.items + 1 ≡ length self.old.slots.items }
         ensures others { (m : ℕ) → (d : Scored) → m < length self.new.slots.items →
             slice_index_or (queue_of self.new) m d ≡ slice_index_or (queue_of self.old) m d }
+        ensures there { IsSome result }
         ensures given { (s : Slot) → slice_get self.old.slots.items (length self.old.slots.items - 1) ≡ Some s →
-            option_map shown result ≡ slice_get (shown_of self.old) s.index }
+            option_map shown result ≡ get (entries_map self.old) (member_of self.old s.index) }
         ensures held { (s : Slot) → slice_get self.old.slots.items (length self.old.slots.items - 1) ≡ Some s →
             entries_map self.new ≡ remove (entries_map self.old) (member_of self.old s.index) }
         ensures more { room_of self.old ≤ room_of self.new }
     {
+        let last = self.members.len() - 1;
         let Slot { index, .. } = self.slots.pop()?;
         let (_, held) = self.members.swap_remove_index(index)?;
-        if index < self.members.len() {
-            let moved = self.members[index].position;
+        self.positions.swap_remove(index);
+        if index < last {
+            let moved = self.positions[index];
             self.slots[moved].index = index;
         }
         Some(held)

@@ -1,21 +1,21 @@
 //! The heap and the map under a `PosHeap`, which know each other.
-ghost use Rattle.std.specs.Prelude.{IfNone, IfSome, Some, length, slice_get, slice_index_or, [], ◌+◌, ◌*◌, ◌<◌, ◌≤◌, ◌≡◌, ◌≢◌, swap};
-ghost use Rattle.indexmap.specs.IndexMap.{index_map_len, keys, values, with_value_at};
+ghost use Rattle.std.specs.Prelude.{IfNone, IfSome, length, slice_set, ◌+◌, ◌*◌, ◌<◌, ◌≤◌, ◌≡◌, ◌≢◌, swap};
+ghost use Rattle.indexmap.specs.IndexMap.{index_map_len, keys};
 ghost use Rattle.std.specs.BinaryHeap.{IsHeap, lt_by_cmp};
-ghost use Rattle.std.specs.BinaryHeap.Sift.{ComparesAt, IsGreaterChild, IsHeapWithHole};
+ghost use Rattle.std.specs.BinaryHeap.Sift.{IsGreaterChild, IsHeapWithHole};
 ghost use Rattle.std.specs.Slice.Heapsort.{IsNotBelowChildren};
 ghost use Rattle.std.specs.FinMap.{empty};
+ghost use Rattle.std.specs.Ordering.{is_lt};
 ghost use Rattle.zq_posheap.specs.First.{IsFirst};
 ghost use Rattle.zq_posheap.specs.Listing.{lent_pair};
 ghost use Rattle.zq_posheap.specs.Members.{AreInRange, scores_of};
-ghost use Rattle.zq_posheap.specs.Moves.{IsLinkedHeap, OnlyMoves, member_of, queue_of};
-ghost use Rattle.zq_posheap.specs.Order.{turned_cmp};
+ghost use Rattle.zq_posheap.specs.Moves.{AreKnown, HasHole, IsLinkedHeap, KeepsMembers, OnlyMoves, member_of, queue_of, queue_with};
+ghost use Rattle.zq_posheap.specs.Order.{scored_at, scored_cmp, turned_cmp};
 ghost use Rattle.zq_posheap.specs.Whole.{IsWhole, entries_map};
 
 use crate::name::Name;
 use crate::seeded::Seeded;
 use indexmap::IndexMap;
-use std::cmp::Ordering;
 
 /// A position of the heap: a score, and the index in the map of the member that has it.
 #[derive(Clone, Copy, Drop)]
@@ -24,31 +24,35 @@ pub(crate) struct Slot {
     pub(crate) index: usize,
 }
 
-/// What the map keeps of a member: its score, its position in the heap, and its value.
+/// What the map keeps of a member: its score and its value.
 #[derive(Drop)]
 pub(crate) struct Held<V> {
     pub(crate) score: i128,
-    pub(crate) position: usize,
     pub(crate) value: V,
 }
 
-/// The heap beside the map.
+/// The heap beside the map, and the position in the heap of each member, by its index in the map. The positions lie
+/// apart from the map, which a move in the heap does not touch.
 #[derive(Drop)]
 pub(crate) struct Heap<V> {
     pub(crate) slots: Vec<Slot>,
+    pub(crate) positions: Vec<usize>,
     pub(crate) members: IndexMap<Name, Held<V>, Seeded>,
 }
 
-/// Notes where a member now stands in the heap.
-fn set_position<V>(members: &mut IndexMap<Name, Held<V>, Seeded>, index: usize, position: usize)
-    requires { index < index_map_len members.old }
-    ensures { (w : Held V) → slice_get (values members.old) index ≡ Some w →
-        members.new ≡ with_value_at members.old index (record w { position = position }) }
-{
-    members[index].position = position;
-}
-
 impl<V> Heap<V> {
+    /// Puts a slot at a place, and notes that its member now stands there.
+    fn put(&mut self, place: usize, slot: Slot)
+        requires within { place < length self.old.slots.items }
+        requires known { slot.index < length self.old.positions.items }
+        ensures slots { self.new.slots.items ≡ slice_set self.old.slots.items place slot }
+        ensures positions { self.new.positions.items ≡ slice_set self.old.positions.items slot.index place }
+        ensures kept { KeepsMembers self.old self.new }
+    {
+        self.positions[slot.index] = place;
+        self.slots[place] = slot;
+    }
+
     /// Exchanges two places of the heap.
     pub(crate) fn swap(&mut self, a: usize, b: usize)
         requires linked { IsLinkedHeap self.old }
@@ -60,9 +64,8 @@ impl<V> Heap<V> {
         ensures moves { OnlyMoves self.old self.new }
     {
         let (x, y) = (self.slots[a], self.slots[b]);
-        self.slots.swap(a, b);
-        set_position(&mut self.members, x.index, b);
-        set_position(&mut self.members, y.index, a);
+        self.put(a, y);
+        self.put(b, x);
     }
 
     /// The member at an index of the map.
@@ -88,24 +91,21 @@ impl<V> Heap<V> {
         Some((slot.score, member.as_slice()))
     }
 
-    /// Whether the place `a` goes before the place `b`.
-    fn is_before(&self, a: usize, b: usize) -> bool
-        requires linked { IsLinkedHeap self.now }
-        requires a_within { a < length self.now.slots.items }
-        requires b_within { b < length self.now.slots.items }
-        ensures { ComparesAt turned_cmp (queue_of self.now) b a result }
+    /// Whether the member of a slot goes before that of another.
+    fn is_before(&self, x: Slot, y: Slot) -> bool
+        requires x_known { x.index < index_map_len self.now.members }
+        requires y_known { y.index < index_map_len self.now.members }
+        ensures { result ≡ is_lt (scored_cmp (scored_at (keys self.now.members) x) (scored_at (keys self.now.members) y)) }
     {
-        let (x, y) = (self.slots[a], self.slots[b]);
-        match x.score.cmp(&y.score) {
-            Ordering::Less => true,
-            Ordering::Greater => false,
-            Ordering::Equal => self.member(x.index).cmp(self.member(y.index)).is_lt(),
+        if x.score != y.score {
+            return x.score < y.score;
         }
+        self.member(x.index).cmp(self.member(y.index)).is_lt()
     }
 
     /// The child of a place that goes before the other.
     fn first_child(&self, place: usize) -> usize
-        requires linked { IsLinkedHeap self.now }
+        requires known { AreKnown self.now }
         requires has_child { place * 2 + 1 < length self.now.slots.items }
         ensures from { place * 2 + 1 ≤ result }
         ensures to { result ≤ place * 2 + 2 }
@@ -113,51 +113,53 @@ impl<V> Heap<V> {
         ensures first { IsGreaterChild turned_cmp (queue_of self.now) place result (length self.now.slots.items) }
     {
         let left = place * 2 + 1;
-        if left + 1 < self.slots.len() && !self.is_before(left, left + 1) {
+        if left + 1 < self.slots.len() && !self.is_before(self.slots[left], self.slots[left + 1]) {
             left + 1
         } else {
             left
         }
     }
 
-    /// Moves what is at a place down while a child goes before it, and answers where it comes to.
-    fn sink(&mut self, mut place: usize) -> usize
-        requires linked { IsLinkedHeap self.old }
-        requires within { place < length self.old.slots.items }
-        requires hole { IsHeapWithHole (lt_by_cmp turned_cmp) (queue_of self.old) place (length self.old.slots.items) }
-        ensures moves { OnlyMoves self.old self.new }
-        ensures still_within { result < length self.new.slots.items }
-        ensures hole_moved { IsHeapWithHole (lt_by_cmp turned_cmp) (queue_of self.new) result (length self.new.slots.items) }
-        ensures over_children { IsNotBelowChildren (lt_by_cmp turned_cmp) (queue_of self.new) result result (length self.new.slots.items) }
+    /// Moves the hole that a slot left down while a child goes before the slot, and answers where it comes to.
+    fn sink(&mut self, mut place: usize, slot: Slot) -> usize
+        requires out { HasHole self.old place slot }
+        requires hole { IsHeapWithHole (lt_by_cmp turned_cmp) (queue_with self.old place slot) place (length self.old.slots.items) }
+        ensures out { HasHole self.new result slot }
+        ensures kept { KeepsMembers self.old self.new }
+        ensures hole_moved { IsHeapWithHole (lt_by_cmp turned_cmp) (queue_with self.new result slot) result (length self.new.slots.items) }
+        ensures over_children { IsNotBelowChildren (lt_by_cmp turned_cmp) (queue_with self.new result slot) result result (length self.new.slots.items) }
     {
         while place < self.slots.len() / 2 {
             let child = self.first_child(place);
-            if !self.is_before(child, place) {
+            let below = self.slots[child];
+            if !self.is_before(below, slot) {
                 return place;
             }
-            self.swap(place, child);
+            self.put(place, below);
             place = child;
         }
         place
     }
 
-    /// Moves what is at a place up while it goes before its parent.
-    fn rise(&mut self, mut place: usize)
-        requires linked { IsLinkedHeap self.old }
-        requires within { place < length self.old.slots.items }
-        requires hole { IsHeapWithHole (lt_by_cmp turned_cmp) (queue_of self.old) place (length self.old.slots.items) }
-        requires over_children { IsNotBelowChildren (lt_by_cmp turned_cmp) (queue_of self.old) place place (length self.old.slots.items) }
-        ensures moves { OnlyMoves self.old self.new }
-        ensures heap { IsHeap turned_cmp (queue_of self.new) }
+    /// Moves the hole that a slot left up while the slot goes before its parent, and answers where it comes to.
+    fn rise(&mut self, mut place: usize, slot: Slot) -> usize
+        requires out { HasHole self.old place slot }
+        requires hole { IsHeapWithHole (lt_by_cmp turned_cmp) (queue_with self.old place slot) place (length self.old.slots.items) }
+        requires over_children { IsNotBelowChildren (lt_by_cmp turned_cmp) (queue_with self.old place slot) place place (length self.old.slots.items) }
+        ensures out { HasHole self.new result slot }
+        ensures kept { KeepsMembers self.old self.new }
+        ensures heap { IsHeap turned_cmp (queue_with self.new result slot) }
     {
         while place > 0 {
             let parent = (place - 1) / 2;
-            if !self.is_before(place, parent) {
-                return;
+            let above = self.slots[parent];
+            if !self.is_before(slot, above) {
+                return place;
             }
-            self.swap(parent, place);
+            self.put(place, above);
             place = parent;
         }
+        place
     }
 
     /// Moves what is at a place, where all else is in order, to where it belongs. Past the last place there is nothing
@@ -169,8 +171,10 @@ impl<V> Heap<V> {
         ensures heap { IsHeap turned_cmp (queue_of self.new) }
     {
         if place < self.slots.len() {
-            let place = self.sink(place);
-            self.rise(place);
+            let slot = self.slots[place];
+            let place = self.sink(place, slot);
+            let place = self.rise(place, slot);
+            self.put(place, slot);
         }
     }
 }

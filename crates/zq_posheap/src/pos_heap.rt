@@ -55,6 +55,7 @@ impl<V: Drop> PosHeap<V> {
         PosHeap {
             heap: Heap {
                 slots: Vec::new(alloc),
+                positions: Vec::new(alloc),
                 members: IndexMap::with_hasher(alloc, hasher),
             },
         }

@@ -13,49 +13,58 @@ use Rattle.zq_posheap.proofs.Linked.{added}
 use Rattle.zq_posheap.proofs.Moving.{same_entries}
 use Rattle.zq_posheap.proofs.Results.{when_ok}
 use Rattle.zq_posheap.proofs.Scored.{hole_added}
-use Rattle.zq_posheap.proofs.Told.{held, link_within, one_more_seen}
-use Rattle.zq_posheap.specs.Links.{link_of}
-use Rattle.zq_posheap.specs.Moves.{links_of, shown}
+use Rattle.zq_posheap.proofs.Told.{held, known, one_more_seen}
+use Rattle.zq_posheap.specs.Moves.{scores_in, shown}
 use Rattle.zq_posheap.specs.Order.{same_key}
 use Rattle.zq_posheap.specs.Whole.{entries_map}
 use Rattle.zq_posheap.proofs.heap.Heap.add.Goals as goal
 
 pub push_reserved-requires : goal.push_reserved-requires
-push_reserved-requires g c = omega (arith, c.requires.room)
+push_reserved-requires g c = omega (arith, c.requires.room, c.args.self.now.positions.ok.0)
+
+pub push_reserved-requires-2 : goal.push_reserved-requires-2
+push_reserved-requires-2 g c = omega (arith, c.requires.room, c.args.self.now.slots.ok.0)
 
 pub settle-requires-clause-linked : goal.settle-requires-clause-linked
 settle-requires-clause-linked g c =
     let heap = c.args.self.now in
     let score = to_z w128 (of_z w128 c.args.score) in
     let more = when_ok c.insert.result (c.insert.ensures.succeeds (omega (arith, c.requires.room))) c.insert.ensures.entries
-    ∙ insert_entry-new same_key heap.members c.args.member (held score c.len-position.result c.args.value) (no_entry shown heap.members.entries c.args.member c.requires.absent) in
-    let pushed = c.push_reserved.ensures.items in
-    rw (pushed, one_more_seen link_of heap.members.entries c.insert.new.self.entries c.args.member _ more)
-    (added heap.slots.items (links_of heap) c.requires.whole.linked c.len-position.result score (omega (arith, c.len-position.ensures, heap.slots.ok.0)))
+    ∙ insert_entry-new same_key heap.members c.args.member (held score c.args.value) (no_entry shown heap.members.entries c.args.member c.requires.absent) in
+    rw (c.push_reserved-2.ensures.items, c.push_reserved.ensures.items, one_more_seen (λ w. w.score) heap.members.entries c.insert.new.self.entries c.args.member _ more)
+    (added heap.slots.items heap.positions.items (scores_in heap) c.requires.whole.linked c.len-last.result score (omega (arith, c.len-last.ensures, heap.slots.ok.0)))
 
 pub settle-requires-clause-hole : goal.settle-requires-clause-hole
 settle-requires-clause-hole g c =
     let heap = c.args.self.now in
     let score = to_z w128 (of_z w128 c.args.score) in
     let more = when_ok c.insert.result (c.insert.ensures.succeeds (omega (arith, c.requires.room))) c.insert.ensures.entries
-    ∙ insert_entry-new same_key heap.members c.args.member (held score c.len-position.result c.args.value) (no_entry shown heap.members.entries c.args.member c.requires.absent) in
+    ∙ insert_entry-new same_key heap.members c.args.member (held score c.args.value) (no_entry shown heap.members.entries c.args.member c.requires.absent) in
     let texts = ap (λ es. (keys_of es)) more
-    ∙ map-append (λ e. e.0) heap.members.entries ((c.args.member, held score c.len-position.result c.args.value) ∷ []) in
-    hole_added (keys heap.members) heap.slots.items c.len-position.result (omega (arith, c.len-position.ensures, heap.slots.ok.0)) c.requires.whole.ordered
-    (keys c.insert.new.self) c.push_reserved.new.self.items c.args.member score texts c.push_reserved.ensures.items
-    (λ p x here. omega (
-      arith,
-      link_within heap.members heap.members x.index _ (c.requires.whole.linked.known p x here),
-      length-map heap.members.entries (λ e. e.0),
-    ))
+    ∙ map-append (λ e. e.0) heap.members.entries ((c.args.member, held score c.args.value) ∷ []) in
+    hole_added (keys heap.members) heap.slots.items c.len-last.result (omega (arith, c.len-last.ensures, heap.slots.ok.0)) c.requires.whole.ordered
+    (keys c.insert.new.self) c.push_reserved-2.new.self.items c.args.member score texts c.push_reserved-2.ensures.items
+    (λ p x here. omega (arith, known heap c.requires.whole.linked p x here, length-map heap.members.entries (λ e. e.0)))
 
 pub returns-clause-held : goal.returns-clause-held
 returns-clause-held g c =
     let heap = c.args.self.now in
     let updates = when_ok c.insert.result (c.insert.ensures.succeeds (omega (arith, c.requires.room))) c.insert.ensures.updates in
-    same_entries _ c.settle.new.self c.settle.ensures.moves
-    ∙ inserted shown heap.members c.insert.new.self c.args.member (held (to_z w128 (of_z w128 c.args.score)) c.len-position.result c.args.value) updates
+    same_entries _ c.settle.new.self c.settle.ensures.moves.kept
+    ∙ inserted shown heap.members c.insert.new.self c.args.member (held (to_z w128 (of_z w128 c.args.score)) c.args.value) updates
     ∙ (λ k. insert (entries_map heap) c.args.member (to_z-of_z w128 c.args.score c.ranges.score k, c.args.value))
 
 pub returns-clause-less_room : goal.returns-clause-less_room
-returns-clause-less_room g c = omega (arith, c.settle.ensures.moves.room, c.insert.ensures.spare, c.push_reserved.ensures.capacity, c.push_reserved.ensures.len, c.push_reserved.new.self.ok.0, c.args.self.now.slots.ok.0)
+returns-clause-less_room g c = omega (
+  arith,
+  c.settle.ensures.moves.kept.room,
+  c.insert.ensures.spare,
+  c.push_reserved.ensures.capacity,
+  c.push_reserved.ensures.len,
+  c.push_reserved.new.self.ok.0,
+  c.push_reserved-2.ensures.capacity,
+  c.push_reserved-2.ensures.len,
+  c.push_reserved-2.new.self.ok.0,
+  c.args.self.now.slots.ok.0,
+  c.args.self.now.positions.ok.0,
+)

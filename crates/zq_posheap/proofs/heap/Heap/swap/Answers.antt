@@ -1,77 +1,65 @@
-use Rattle.std.proofs.Common.{ap, ◌∙◌}
-use Rattle.std.proofs.lemmas.List.Edits.{length-swap}
-use Rattle.std.specs.Prelude.{length, map, min, slice_set, ◌-◌, ◌≢◌}
-use Rattle.zq_posheap.specs.Moves.{links_of}
-use Rattle.zq_posheap.specs.Order.{scored_at}
-use Rattle.zq_posheap.proofs.Lists.{map-swap, swap-set}
+use Rattle.std.proofs.Common.{ap, arith, sym, ◌∙◌}
+use Rattle.std.proofs.lemmas.List.{length-set}
+use Rattle.std.specs.Prelude.{length, map, slice_set, ◌≢◌}
 use Rattle.indexmap.specs.IndexMap.{keys}
-use Rattle.zq_posheap.proofs.Linked.{at, one_slot, other_there, read_at, swapped}
-use Rattle.zq_posheap.proofs.Told.{link_within, told_keys, told_links, told_shown, told_spare}
+use Rattle.zq_posheap.proofs.Holes.{linked_as}
+use Rattle.zq_posheap.proofs.Linked.{index_within, one_slot, swapped}
+use Rattle.zq_posheap.proofs.Lists.{map-swap, read_at, set_either, swap-set}
+use Rattle.zq_posheap.proofs.Moving.{goes_on}
+use Rattle.zq_posheap.specs.Moves.{scores_in}
+use Rattle.zq_posheap.specs.Order.{scored_at}
 use Rattle.zq_posheap.proofs.heap.Heap.swap.Goals as goal
 
-pub set_position-requires : goal.set_position-requires
-set_position-requires g c =
+pub put-requires-clause-known : goal.put-requires-clause-known
+put-requires-clause-known g c =
+    let heap = c.args.self.now in
+    let y = read_at heap.slots.items c.args.b c.index-2.result.now c.requires.b_within c.index-2.ensures in
+    index_within heap.slots.items heap.positions.items (scores_in heap) c.requires.linked c.args.b _ y
+
+pub put-requires-2-clause-known : goal.put-requires-2-clause-known
+put-requires-2-clause-known g c =
     let heap = c.args.self.now in
     let x = read_at heap.slots.items c.args.a c.index.result.now c.requires.a_within c.index.ensures in
-    link_within heap.members heap.members _ _ (c.requires.linked.known c.args.a _ x)
+    omega (
+      arith,
+      index_within heap.slots.items heap.positions.items (scores_in heap) c.requires.linked c.args.a _ x,
+      ap length c.put.ensures.positions,
+      length-set heap.positions.items c.index-2.result.now.index c.args.a,
+    )
 
-pub set_position-requires-2 : goal.set_position-requires-2
-set_position-requires-2 g c =
-    let heap = c.args.self.now in
-    let links = links_of heap in
-    let left = c.index.result.now in
-    let right = c.index-2.result.now in
-    let linked = c.requires.linked in
-    let x = read_at heap.slots.items c.args.a left c.requires.a_within c.index.ensures in
-    let y = read_at heap.slots.items c.args.b right c.requires.b_within c.index-2.ensures in
-    let apart : left.index ≢ right.index = λ e. c.requires.apart (one_slot heap.slots.items links linked c.args.a c.args.b left right x y e) in
-    let told = told_links heap.members c.set_position.new.members left.index c.args.a c.args.b left.score c.set_position.ensures (linked.known c.args.a left x) in
-    link_within c.set_position.new.members c.set_position.new.members _ _
-    (other_there links (links_of (record heap { members = c.set_position.new.members })) left.index right.index _ _ apart told (linked.known c.args.b right y))
+pub returns-clause-slots : goal.returns-clause-slots
+returns-clause-slots g c =
+    let slots = c.args.self.now.slots.items in
+    let x = read_at slots c.args.a c.index.result.now c.requires.a_within c.index.ensures in
+    let y = read_at slots c.args.b c.index-2.result.now c.requires.b_within c.index-2.ensures in
+    c.put-2.ensures.slots ∙ ap (λ xs. slice_set xs c.args.b c.index.result.now) c.put.ensures.slots ∙ sym (swap-set slots c.args.a c.args.b _ _ x y)
 
 pub returns-clause-queue : goal.returns-clause-queue
 returns-clause-queue g c =
     let heap = c.args.self.now in
     let slots = heap.slots.items in
-    let left = c.index.result.now in
-    let right = c.index-2.result.now in
-    let linked = c.requires.linked in
-    let x = read_at slots c.args.a left c.requires.a_within c.index.ensures in
-    let y = read_at slots c.args.b right c.requires.b_within c.index-2.ensures in
-    let apart : left.index ≢ right.index = λ e. c.requires.apart (one_slot slots (links_of heap) linked c.args.a c.args.b left right x y e) in
-    let told = told_links heap.members c.set_position.new.members left.index c.args.a c.args.b left.score c.set_position.ensures (linked.known c.args.a left x) in
-    let there = other_there (links_of heap) (links_of (record heap { members = c.set_position.new.members })) left.index right.index _ _ apart told (linked.known c.args.b right y) in
-    let members = told_keys c.set_position.new.members c.set_position-2.new.members right.index c.args.b c.args.a right.score c.set_position-2.ensures there
-    ∙ told_keys heap.members c.set_position.new.members left.index c.args.a c.args.b left.score c.set_position.ensures (linked.known c.args.a left x) in
-    (λ k. map (scored_at (members k)) (c.swap.ensures.items k)) ∙ map-swap (scored_at (keys heap.members)) slots c.args.a c.args.b _ _ x y
+    let x = read_at slots c.args.a c.index.result.now c.requires.a_within c.index.ensures in
+    let y = read_at slots c.args.b c.index-2.result.now c.requires.b_within c.index-2.ensures in
+    let members = c.put-2.ensures.kept.members ∙ c.put.ensures.kept.members in
+    let turned = c.put-2.ensures.slots ∙ ap (λ xs. slice_set xs c.args.b c.index.result.now) c.put.ensures.slots ∙ sym (swap-set slots c.args.a c.args.b _ _ x y) in
+    (λ k. map (scored_at (keys (members k))) (turned k)) ∙ map-swap (scored_at (keys heap.members)) slots c.args.a c.args.b _ _ x y
 
 pub returns-clause-moves : goal.returns-clause-moves
 returns-clause-moves g c =
     let heap = c.args.self.now in
     let slots = heap.slots.items in
-    let links = links_of heap in
+    let positions = heap.positions.items in
+    let a = c.args.a in
+    let b = c.args.b in
     let left = c.index.result.now in
     let right = c.index-2.result.now in
-    let linked = c.requires.linked in
-    let first = c.set_position.new.members in
-    let second = c.set_position-2.new.members in
-    let x = read_at slots c.args.a left c.requires.a_within c.index.ensures in
-    let y = read_at slots c.args.b right c.requires.b_within c.index-2.ensures in
-    let at_x = linked.known c.args.a left x in
-    let apart : left.index ≢ right.index = λ e. c.requires.apart (one_slot slots links linked c.args.a c.args.b left right x y e) in
-    let told = told_links heap.members first left.index c.args.a c.args.b left.score c.set_position.ensures at_x in
-    let at_y = other_there links (links_of (record heap { members = first })) left.index right.index _ _ apart told (linked.known c.args.b right y) in
-    let told_both = told_links first second right.index c.args.b c.args.a right.score c.set_position-2.ensures at_y ∙ ap (λ ws. slice_set ws right.index (at right.score c.args.a)) told in
-    let turned = c.swap.ensures.items ∙ swap-set slots c.args.a c.args.b left right x y in
-    let spare = told_spare first second right.index c.args.b c.args.a right.score c.set_position-2.ensures at_y
-    ∙ told_spare heap.members first left.index c.args.a c.args.b left.score c.set_position.ensures at_x in
-    let len = ap length c.swap.ensures.items ∙ length-swap slots c.args.a c.args.b in
+    let x = read_at slots a left c.requires.a_within c.index.ensures in
+    let y = read_at slots b right c.requires.b_within c.index-2.ensures in
+    let others : left.index ≢ right.index = λ e. c.requires.apart (one_slot slots positions (scores_in heap) c.requires.linked a b left right x y e) in
+    let kept = goes_on heap c.put.new.self c.put-2.new.self c.put.ensures.kept c.put-2.ensures.kept in
     record {
-      linked = rw (turned, told_both) (swapped slots links linked c.args.a c.args.b left right x y c.requires.apart);
-      members = told_keys first second right.index c.args.b c.args.a right.score c.set_position-2.ensures at_y
-          ∙ told_keys heap.members first left.index c.args.a c.args.b left.score c.set_position.ensures at_x;
-      shown = told_shown first second right.index c.args.b c.args.a right.score c.set_position-2.ensures at_y
-          ∙ told_shown heap.members first left.index c.args.a c.args.b left.score c.set_position.ensures at_x;
-      len = len;
-      room = λ k. min (spare k) (c.swap.ensures.capacity k - len k);
+      linked = linked_as heap c.put-2.new.self _ _ kept (c.put-2.ensures.slots ∙ ap (λ xs. slice_set xs b left) c.put.ensures.slots)
+          (c.put-2.ensures.positions ∙ ap (λ ys. slice_set ys left.index b) c.put.ensures.positions ∙ sym (set_either positions left.index right.index b a others))
+          (swapped slots positions (scores_in heap) c.requires.linked a b left right x y c.requires.apart);
+      kept = kept;
     }

@@ -8,7 +8,7 @@ use Rattle.zq_posheap.proofs.pos_heap.PosHeap.with_hasher.Goals as goal
 pub invariant_of-result : goal.invariant_of-result
 invariant_of-result g c = (
   record {
-    linked = rw (c.new.ensures.items, c.with_hasher.ensures.empty) nothing_linked;
+    linked = rw (c.new.ensures.items, c.new-2.ensures.items, c.with_hasher.ensures.empty) nothing_linked;
     ordered = rw c.new.ensures.items (empty turned_total _ refl);
   },
   rw c.with_hasher.ensures.empty range-empty,
