@@ -3,6 +3,7 @@ ghost use Rattle.std.specs.Prelude.{pos, ◌≡◌};
 ghost use Rattle.rand_core.specs.Stream.{next_u32};
 
 use rand_core::Rng;
+use std::alloc::{AllocError, Global};
 
 /// The length of a member.
 pub const LENGTH: usize = 15;
@@ -13,6 +14,15 @@ pub fn draw_score<R: Rng>(draws: &mut R) -> i128
     ensures rest { R.stream draws.new ≡ (next_u32 (R.stream draws.old)).1 }
 {
     i128::from(draws.next_u32())
+}
+
+/// So many scores.
+pub fn drawn<R: Rng>(alloc: Global, draws: &mut R, count: u32) -> Result<Vec<i128>, AllocError> {
+    let mut scores = Vec::new(alloc);
+    for _ in 0..count {
+        scores.push(draw_score(draws))?;
+    }
+    Ok(scores)
 }
 
 /// A number below another, or zero below zero, by one word.

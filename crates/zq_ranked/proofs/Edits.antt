@@ -1,5 +1,5 @@
 -- Edits of three lists one after another.
-use Rattle.std.proofs.Common.{◌≡◌, ℕ, ◌-◌, ◌<◌, ◌≤◌, List, ◌++◌, length, refl, ap, ◌∙◌, append_assoc}
+use Rattle.std.proofs.Common.{◌≡◌, ℕ, ◌-◌, ◌<◌, ◌≤◌, List, ◌++◌, length, refl, ap, ◌∙◌}
 use Rattle.std.specs.List.{insert, remove}
 use Rattle.std.proofs.lemmas.List.Edits.{insert-append_left, insert-append_right, remove-append_left, remove-append_right}
 
@@ -11,11 +11,3 @@ module _ {X : Type 0} where
   -- a place in the second list
   pub remove_second : (l b r : List X) (n : ℕ) → length l ≤ n → n - length l < length b → remove (l ++ (b ++ r)) n ≡ l ++ (remove b (n - length l) ++ r)
   remove_second l b r n h k = remove-append_right l (b ++ r) (length l) n refl h ∙ ap (λ p. l ++ p) (remove-append_left b r (n - length l) k)
-
-  -- a place in the first of two lists, before a third
-  pub insert_lower : (l u r : List X) (n : ℕ) (x : X) → n ≤ length l → insert (l ++ u) n x ++ r ≡ insert l n x ++ (u ++ r)
-  insert_lower l u r n x h = ap (λ p. p ++ r) (insert-append_left l u n x h) ∙ append_assoc (insert l n x) u r
-
-  -- a place in the second of two lists, before a third
-  pub insert_upper : (l u r : List X) (n : ℕ) (x : X) → length l ≤ n → insert (l ++ u) n x ++ r ≡ l ++ (insert u (n - length l) x ++ r)
-  insert_upper l u r n x h = ap (λ p. p ++ r) (insert-append_right l u (length l) n x refl h) ∙ append_assoc l (insert u (n - length l) x) r

@@ -1,8 +1,12 @@
+pub mod All
 pub mod Parts
-pub mod AtFork
 pub mod Edits
 pub mod Ranks
 pub mod Sorted
 pub mod Around
 pub mod Puts
 pub mod Below
+pub mod Joined
+pub mod Children
+pub mod AtBranch
+pub mod Paths

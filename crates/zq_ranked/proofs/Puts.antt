@@ -1,12 +1,11 @@
 -- A pair put among others, or taken from them.
-use Rattle.std.proofs.Common.{FitsSigned, IsTrue, ◌↔◌, inl, inr, Bool, ◌≡◌, ℕ, ◌+◌, ◌-◌, ◌<◌, ◌≤◌, true, false, cond, if◌then◌else◌, List, [], ◌++◌, length, get_or, refl, sym, ap, subst, ◌∙◌, arith, append_assoc, length-append, true≢false}
+use Rattle.std.proofs.Common.{FitsSigned, IsTrue, ◌↔◌, inl, inr, Bool, ◌≡◌, ℕ, ◌+◌, ◌-◌, ◌<◌, ◌≤◌, true, false, cond, if◌then◌else◌, List, ◌++◌, length, get_or, refl, sym, ap, subst, ◌∙◌, arith, true≢false}
 use Rattle.std.specs.Prelude.{Err, Ok, OnErr, Result}
 use Rattle.std.specs.List.{Contains, insert, remove}
 use Rattle.std.specs.List.Sorted.{IsStrictlySortedBy}
 use Rattle.std.specs.Ordering.{is_eq, is_lt}
 use Rattle.std.specs.declared.cmp.Ordering.TheVariants.{Equal, Less}
 use Rattle.std.proofs.lemmas.Cmp.{tied_itself}
-use Rattle.std.proofs.lemmas.List.{append-nil}
 use Rattle.std.proofs.lemmas.List.Edits.{length-insert, length-remove}
 use Rattle.std.specs.Int.{w128}
 use Rattle.std.proofs.lemmas.List.Elements.{Contains-append_cases, Contains-append_left, Contains-append_right}
@@ -85,51 +84,6 @@ module _ (t : Scored) where
       by true e c = ap (λ z. p ++ (z ++ q)) e ∙ sym (placed (c refl))
       by false e c = ap (λ z. p ++ (z ++ q)) e
 
-none : (t : Scored) → AreBefore t []
-none t = record { each = λ k d h. absurd (omega arith) }
-
-none_then : (t : Scored) → AreAfter t []
-none_then t = record { each = λ k d h. absurd (omega arith) }
-
--- three lists whose last ends in no more
-three : {X : Type 0} (l b r : List X) → (l ++ b) ++ (r ++ []) ≡ l ++ (b ++ r)
-three l b r = ap (λ z. (l ++ b) ++ z) (append-nil r) ∙ append_assoc l b r
-
-module _ (t : Scored) (l b r n : List Scored) where
-  -- what is put into the first of three lists
-  pub put_first : (a : Bool) → AreAfter t (b ++ r) → IsPut t l n a → IsPut t (l ++ (b ++ r)) (n ++ (b ++ r)) a
-  put_first a g h = put_around t [] l n (b ++ r) (none t) g a h
-
-  -- into the last
-  pub put_last : (a : Bool) → AreBefore t (l ++ b) → IsPut t r n a → IsPut t (l ++ (b ++ r)) (l ++ (b ++ n)) a
-  put_last a f h = rw (← three l b r, ← three l b n) (put_around t (l ++ b) r n [] f (none_then t) a h)
-
-  -- what is taken from the first of three lists
-  pub taken_first : (a : Bool) → IsStrictlySortedBy scored_cmp l → AreAfter t (b ++ r) → IsTaken t l n a → IsTaken t (l ++ (b ++ r)) (n ++ (b ++ r)) a
-  taken_first a s g h = taken_around t [] l n (b ++ r) (none t) g a s h
-
-  -- from the last
-  pub taken_last : (a : Bool) → IsStrictlySortedBy scored_cmp r → AreBefore t (l ++ b) → IsTaken t r n a → IsTaken t (l ++ (b ++ r)) (l ++ (b ++ n)) a
-  taken_last a s f h = rw (← three l b r, ← three l b n) (taken_around t (l ++ b) r n [] f (none_then t) a s h)
-
-  -- the rank in the first of three lists
-  pub rank_first : AreAfter t (b ++ r) → rank_of t (l ++ (b ++ r)) ≡ rank_of t l
-  rank_first g =
-      let e : rank_of t (l ++ (b ++ r)) ≡ 0 + rank_of t l = rank_around t [] l (b ++ r) (none t) g in
-      omega (arith, e)
-
-  -- in the last
-  pub rank_last : AreBefore t (l ++ b) → rank_of t (l ++ (b ++ r)) ≡ length l + length b + rank_of t r
-  rank_last f = rw (← three l b r) (omega (arith, rank_around t (l ++ b) r [] f (none_then t), length-append l b))
-
-  -- it is among all where it is in the first
-  pub there_first : AreAfter t (b ++ r) → (Contains (l ++ (b ++ r)) t ↔ Contains l t)
-  there_first g = there_around t [] l (b ++ r) (none t) g
-
-  -- where it is in the last
-  pub there_last : AreBefore t (l ++ b) → (Contains (l ++ (b ++ r)) t ↔ Contains r t)
-  there_last f = rw (← three l b r) (there_around t (l ++ b) r [] f (none_then t))
-
 -- a pair stands at its rank exactly where it is there
 pub there_at : (xs : List Scored) (n : ℕ) (t x : Scored) → IsStrictlySortedBy scored_cmp xs → n ≡ rank_of t xs → n < length xs → x ≡ get_or xs n x → (IsTrue (is_eq (scored_cmp x t)) ↔ Contains xs t)
 there_at xs n t x s p h f = (
@@ -141,34 +95,9 @@ there_at xs n t x s p h f = (
 )
 
 module _ (t : Scored) (p m q : List Scored) (f : AreBefore t p) (g : AreAfter t q) where
-  -- what is there already is not put in
-  pub known_put : Contains m t → IsPut t (p ++ (m ++ q)) (p ++ (m ++ q)) false
-  known_put c = put_around t p m m q f g false (record { put = refl; absent = (λ y. absurd (true≢false (sym y)), λ h. absurd (h c)) })
-
-  -- what is not there is put in
-  pub fresh_put : (w : List Scored) (i : ℕ) → (Contains m t → ⊥) → i ≡ rank_of t m → w ≡ insert m i t ++ q → IsPut t (p ++ (m ++ q)) (p ++ w) true
-  fresh_put w i c e h = rw (h, e) (put_around t p m (insert m (rank_of t m) t) q f g true (record { put = refl; absent = (λ y. c, λ y. refl) }))
-
   -- what is not between is not among all
   pub absent_around : (Contains m t → ⊥) → Contains (p ++ (m ++ q)) t → ⊥
   absent_around c h = c ((there_around t p m q f g).0 h)
-
-  -- what is not there is not taken
-  pub unknown_taken : IsStrictlySortedBy scored_cmp m → (Contains m t → ⊥) → IsTaken t (p ++ (m ++ q)) (p ++ (m ++ q)) false
-  unknown_taken s c = taken_around t p m m q f g false s (record { left = refl; present = (λ y. absurd (true≢false (sym y)), λ h. absurd (c h)) })
-
-  -- what is there is taken
-  pub known_taken : (w : List Scored) (i : ℕ) → IsStrictlySortedBy scored_cmp m → Contains m t → i ≡ rank_of t m → w ≡ remove m i ++ q → IsTaken t (p ++ (m ++ q)) (p ++ w) true
-  known_taken w i s c e h = rw (h, e) (taken_around t p m (remove m (rank_of t m)) q f g true s (record { left = refl; present = (λ y. c, λ y. refl) }))
-
-module _ (t : Scored) (l b r : List Scored) where
-  -- what is not in the first of three lists is not among all
-  pub absent_first : AreAfter t (b ++ r) → (Contains l t → ⊥) → Contains (l ++ (b ++ r)) t → ⊥
-  absent_first g c h = c ((there_first t l b r [] g).0 h)
-
-  -- what is not in the last
-  pub absent_last : AreBefore t (l ++ b) → (Contains r t → ⊥) → Contains (l ++ (b ++ r)) t → ⊥
-  absent_last f c h = c ((there_last t l b r [] f).0 h)
 
 module _ (t : Scored) (xs ys : List Scored) where
   -- one pair more where it was put

@@ -15,6 +15,7 @@ use Rattle.std.proofs.lemmas.Cmp.{int_cmp_total, nat_list_cmp_total, on_total, t
 use Rattle.std.proofs.lemmas.List.{get_or-drop, get_or_append_left}
 use Rattle.std.proofs.lemmas.List.Sums.{sum_by-cons}
 use Rattle.std.proofs.lemmas.Map.Keys.{Less-from_sorted}
+use Rattle.zq_ranked.proofs.All.{all_insert, all_remove}
 use Rattle.zq_ranked.proofs.Ranks.{count_at, none_after}
 use Rattle.zq_ranked.specs.Order.{IsRanking, Scored, goes_before, rank_of, scored_cmp}
 
@@ -75,21 +76,6 @@ module _ (xs : List Scored) (s : IsStrictlySortedBy scored_cmp xs) (t : Scored) 
   rank_there k h e = count_at (goes_before t) xs k (omega arith)
       (λ i d a. ap is_lt (rw (same_default xs k d t h ∙ e) at (Less-from_sorted scored_cmp xs i k d s a h)))
       (λ i d a b. by_order k i (λ c. not_back t _ (rw (same_default xs k d t h ∙ e) at (Less-from_sorted scored_cmp xs k i d s c b))) (λ c. subst (λ n. goes_before t (get_or xs n d) ≡ false) c (rw (same_default xs k d t h ∙ e) (ap is_lt (tied_itself scored_total t)))) a)
-
-module _ {X : Type 0} (P : X → Type 0) where
-  -- what holds of all items and of one more holds with it among them
-  pub all_insert : (xs : List X) (i : ℕ) (x : X) → AllByRecursion P xs → P x → AllByRecursion P (insert xs i x)
-  all_insert [] zero x h p = (p, tt)
-  all_insert [] (suc i) x h p = (p, tt)
-  all_insert (y ∷ ys) zero x h p = (p, h)
-  all_insert (y ∷ ys) (suc i) x h p = (h.0, all_insert ys i x h.1 p)
-
-  -- what holds of all items holds without one
-  pub all_remove : (xs : List X) (i : ℕ) → AllByRecursion P xs → AllByRecursion P (remove xs i)
-  all_remove [] zero h = tt
-  all_remove [] (suc i) h = tt
-  all_remove (y ∷ ys) zero h = h.1
-  all_remove (y ∷ ys) (suc i) h = (h.0, all_remove ys i h.1)
 
 -- what follows from P holds of all items where P does
 all_map : {X : Type 0} (P Q : X → Type 0) → ((x : X) → P x → Q x) → (xs : List X) → AllByRecursion P xs → AllByRecursion Q xs

@@ -3,3 +3,4 @@ pub mod Edits
 pub mod Shape
 pub mod Falls
 pub mod Key
+pub mod Paths

@@ -1,16 +1,16 @@
 //! Blocks of pairs.
-ghost use Rattle.std.specs.Prelude.{Contains, IfErr, IfOk, OnErr, OnOk, [], length, vec_capacity, ◌+◌, ◌++◌, ◌<◌, ◌≡◌, ◌≤◌};
+ghost use Rattle.std.specs.Prelude.{Contains, IfErr, IfOk, OnErr, OnOk, length, ◌<◌, ◌≡◌};
 ghost use Rattle.std.specs.List.Sorted.{IsStrictlySortedBy};
+ghost use Rattle.zq_ranked.specs.Edits.{IsPut, IsTaken};
 ghost use Rattle.zq_ranked.specs.Key.{pair_of_key};
 ghost use Rattle.zq_ranked.specs.Order.{rank_of, scored_cmp};
-ghost use Rattle.zq_ranked.specs.Shape.{IsBare};
 
-use crate::fork::Fork;
 use crate::pair::{Key, Pair};
 use std::alloc::{AllocError, Global};
 
-/// How many pairs a block has at most: enough that blocks are few, and few enough that moving half of them is cheap.
-pub(crate) const FULL: usize = 32;
+/// How many pairs a block has when it is split: enough that blocks are few, and few enough that moving half of them is
+/// cheap.
+pub(crate) const FULL: usize = 16;
 
 /// How many pairs of a block go before another.
 pub(crate) fn rank_in(block: &[Pair], key: &Key<'_>) -> usize
@@ -36,36 +36,33 @@ pub(crate) fn find(block: &[Pair], key: &Key<'_>) -> Result<usize, usize>
     Err(place)
 }
 
-/// Moves the upper half of a block into a block of its own. Where memory is refused the block stays.
-pub(crate) fn upper_half(alloc: Global, block: &mut Vec<Pair>) -> Result<Box<Fork>, AllocError>
-    requires { FULL ≤ length block.old.items }
-    ensures bare { IfOk result (λ upper. IsBare upper.value) }
-    ensures pairs { IfOk result (λ upper. block.old.items ≡ block.new.items ++ upper.value.block.items) }
-    ensures filled { IfOk result (λ upper. 0 < length upper.value.block.items) }
-    ensures lower { OnOk result (0 < length block.new.items) }
+/// Puts a pair into a block at its place, and answers whether it was not there before. Where memory is refused the
+/// pairs stay.
+pub(crate) fn put_into(
+    alloc: Global,
+    block: &mut Vec<Pair>,
+    key: &Key<'_>,
+) -> Result<bool, AllocError>
+    requires { IsStrictlySortedBy scored_cmp block.old.items }
+    ensures put { IfOk result (λ added. IsPut (pair_of_key key.now) block.old.items block.new.items added) }
     ensures refused { OnErr result (block.new.items ≡ block.old.items) }
+    ensures refused_absent { OnErr result (Contains block.old.items (pair_of_key key.now) → ⊥) }
 {
-    let pairs = Vec::with_capacity(alloc, FULL)?;
-    let mut upper = Fork::bare(alloc, pairs)?;
-    move_last(block, FULL / 2, &mut upper.block);
-    Ok(upper)
+    let Err(place) = find(block.as_slice(), key) else {
+        return Ok(false);
+    };
+    block.insert(place, Pair::new(alloc, key)?)?;
+    Ok(true)
 }
 
-/// Moves so many of the last pairs of a block to another, which has none and has room for them.
-fn move_last(from: &mut Vec<Pair>, count: usize, to: &mut Vec<Pair>)
-    requires there { count ≤ length from.old.items }
-    requires room { count ≤ vec_capacity to.old }
-    requires none { to.old.items ≡ [] }
-    ensures pairs { from.old.items ≡ from.new.items ++ to.new.items }
-    ensures moved { length to.new.items ≡ count }
+/// Takes a pair out of a block, and answers whether it was there.
+pub(crate) fn take_from(block: &mut Vec<Pair>, key: &Key<'_>) -> bool
+    requires { IsStrictlySortedBy scored_cmp block.old.items }
+    ensures taken { IsTaken (pair_of_key key.now) block.old.items block.new.items result }
 {
-    for _ in 0..count {
-        let Some(pair) = from.pop() else {
-            unreachable!()
-        };
-        let Ok(()) = to.push(pair) else {
-            unreachable!()
-        };
-    }
-    to.reverse();
+    let Ok(place) = find(block.as_slice(), key) else {
+        return false;
+    };
+    let _ = block.remove(place);
+    true
 }

@@ -1,39 +1,37 @@
 //! The pairs of a `Ranked`, one after another.
-ghost use Rattle.std.specs.Prelude.{drop, length, reverse, take, ◌<◌, ◌≡◌, ◌≤◌, ◌^◌};
+ghost use Rattle.std.specs.Prelude.{drop, length, reverse, take, ◌≡◌, ◌≤◌};
 ghost use Rattle.std.specs.Iterator.{YieldsFirstBy, item_count};
 ghost use Rattle.zq_ranked.specs.Key.{lent_pair};
 
-use crate::pair::Pair;
-use crate::tree::Tree;
+use crate::node::{LEVELS, Node};
+use crate::path::Path;
 use std::marker::Model;
 
 /// The pairs from a place onward.
 #[derive(Drop)]
 pub struct Forward<'a> {
-    tree: &'a Tree,
-    block: &'a [Pair],
-    next: usize,
+    path: Path<'a>,
 }
 
 impl<'a> Model for Forward<'a> {
-    ghost use Rattle.std.specs.Prelude.{List, drop, length, ℕ, ℤ, ◌++◌, ◌<◌, ◌≤◌, ◌^◌};
+    ghost use Rattle.std.specs.Prelude.{List, ℕ, ℤ, ◌++◌};
+    ghost use Rattle.zq_ranked.specs.Paths.{IsPath, onward};
 
     ghost Value = { List (ℤ × List ℕ) };
 
-    ghost view = { λ a. a.block.now ++ drop a.next a.tree.now.0 };
+    ghost view = { λ a. a.path.block.now ++ onward a.path.levels };
 
-    ghost invariant = { λ a. (a.next ≤ length a.tree.now.0) × (length a.tree.now.0 < 2 ^ 64) };
+    ghost invariant = { λ a. IsPath a.path.levels };
 }
 
 impl<'a> Forward<'a> {
-    pub(crate) fn new(tree: &'a Tree, place: usize) -> Self
-        requires place { place ≤ length tree.now.0 }
-        requires fits { length tree.now.0 < 2 ^ 64 }
-        ensures { result ≡ drop place tree.now.0 }
+    pub(crate) fn new(root: &'a Node, place: usize) -> Self
+        requires { root.now.1 ≤ LEVELS }
+        ensures { result ≡ drop place root.now.0 }
     {
-        let block = tree.block_from(place);
-        let next = place + block.len();
-        Forward { tree, block, next }
+        let mut path = Path::new();
+        path.enter(root, place);
+        Forward { path }
     }
 }
 
@@ -45,12 +43,11 @@ impl<'a> Iterator for Forward<'a> {
     ghost remaining = { item_count (λ pairs. pairs) };
 
     fn next(&mut self) -> Option<(i128, &'a [u8])> {
-        if self.block.is_empty() {
-            self.block = self.tree.block_from(self.next);
-            self.next += self.block.len();
+        if self.path.block.is_empty() {
+            self.path.climb();
         }
-        let (first, others) = self.block.split_first()?;
-        self.block = others;
+        let (first, others) = self.path.block.split_first()?;
+        self.path.block = others;
         Some(first.lent())
     }
 }
@@ -58,29 +55,31 @@ impl<'a> Iterator for Forward<'a> {
 /// The pairs before a place, the last of them first.
 #[derive(Drop)]
 pub struct Backward<'a> {
-    tree: &'a Tree,
-    block: &'a [Pair],
-    next: usize,
+    path: Path<'a>,
 }
 
 impl<'a> Model for Backward<'a> {
-    ghost use Rattle.std.specs.Prelude.{List, length, reverse, take, ℕ, ℤ, ◌++◌, ◌<◌, ◌≤◌, ◌^◌};
+    ghost use Rattle.std.specs.Prelude.{List, reverse, ℕ, ℤ, ◌++◌};
+    ghost use Rattle.zq_ranked.specs.Paths.{IsPath, backward};
 
     ghost Value = { List (ℤ × List ℕ) };
 
-    ghost view = { λ a. reverse (take a.next a.tree.now.0 ++ a.block.now) };
+    ghost view = { λ a. reverse (backward a.path.levels ++ a.path.block.now) };
 
-    ghost invariant = { λ a. a.next ≤ length a.tree.now.0 };
+    ghost invariant = { λ a. IsPath a.path.levels };
 }
 
 impl<'a> Backward<'a> {
-    pub(crate) fn new(tree: &'a Tree, place: usize) -> Self
-        requires place { place ≤ length tree.now.0 }
-        ensures { result ≡ reverse (take place tree.now.0) }
+    pub(crate) fn new(root: &'a Node, place: usize) -> Self
+        requires low { root.now.1 ≤ LEVELS }
+        requires place { place ≤ length root.now.0 }
+        ensures { result ≡ reverse (take place root.now.0) }
     {
-        let block = tree.block_to(place);
-        let next = place - block.len();
-        Backward { tree, block, next }
+        let mut path = Path::new();
+        if place > 0 {
+            path.enter_back(root, place);
+        }
+        Backward { path }
     }
 }
 
@@ -92,12 +91,11 @@ impl<'a> Iterator for Backward<'a> {
     ghost remaining = { item_count (λ pairs. pairs) };
 
     fn next(&mut self) -> Option<(i128, &'a [u8])> {
-        if self.block.is_empty() {
-            self.block = self.tree.block_to(self.next);
-            self.next -= self.block.len();
+        if self.path.block.is_empty() {
+            self.path.climb_back();
         }
-        let (last, others) = self.block.split_last()?;
-        self.block = others;
+        let (last, others) = self.path.block.split_last()?;
+        self.path.block = others;
         Some(last.lent())
     }
 }

@@ -3,17 +3,17 @@ ghost use Rattle.std.specs.Prelude.{Contains, IfOk, IsTrue, List, OnErr, [], cou
 ghost use Rattle.zq_ranked.specs.Key.{lent_pair, pair_of_key};
 ghost use Rattle.zq_ranked.specs.Order.{IsRanking, is_below, rank_of};
 
+use crate::node::Node;
 use crate::pair::{Key, Pair};
 use crate::pairs::{Backward, Forward};
-use crate::tree::Tree;
 use std::alloc::{AllocError, Global};
 use std::marker::Model;
 
-/// Distinct pairs of a score and a member, by score and then by the member's bytes: a list whose calls take
-/// logarithmic time.
+/// Distinct pairs of a score and a member, by score and then by the member's bytes: a list whose calls take time in the
+/// logarithm of the pairs that were ever put in.
 #[derive(Drop)]
 pub struct Ranked {
-    tree: Tree,
+    root: Node,
     len: usize,
     alloc: Global,
 }
@@ -21,12 +21,13 @@ pub struct Ranked {
 impl Model for Ranked {
     ghost use Rattle.std.specs.Prelude.{List, length, ℕ, ℤ, ◌≡◌};
     ghost use Rattle.zq_ranked.specs.Order.{IsRanking};
+    ghost use Rattle.zq_ranked.specs.Shape.{IsRoot};
 
     ghost Value = { List (ℤ × List ℕ) };
 
-    ghost view = { λ a. a.tree.0 };
+    ghost view = { λ a. a.root.0 };
 
-    ghost invariant = { λ a. IsRanking a.tree.0 × (a.len ≡ length a.tree.0) };
+    ghost invariant = { λ a. IsRanking a.root.0 × (a.len ≡ length a.root.0) × IsRoot a.root };
 }
 
 impl Ranked {
@@ -35,7 +36,7 @@ impl Ranked {
         ensures { result ≡ [] }
     {
         Ranked {
-            tree: Tree::new(),
+            root: Node::leaf(Vec::new(alloc)),
             len: 0,
             alloc,
         }
@@ -53,7 +54,7 @@ impl Ranked {
     pub fn at(&self, place: usize) -> Option<(i128, &[u8])>
         ensures { option_map lent_pair result ≡ slice_get self.now place }
     {
-        match self.tree.block_from(place).first() {
+        match self.root.block_from(place).first() {
             Some(pair) => Some(pair.lent()),
             None => None,
         }
@@ -95,7 +96,7 @@ impl Ranked {
 
     /// Puts a pair in at its place, and answers whether it was not there before. It takes memory where a block of pairs
     /// grows or is split, and for a member of more than 16 bytes. Where memory is refused, which is only for a pair that
-    /// was not there, nothing changes.
+    /// was not there, nothing changes; a split that is refused waits for a later pair, and this one is put in.
     #[tactic(auto, using(crate::proofs::Puts::ranking_put, crate::proofs::Puts::length_put))]
     pub fn insert(&mut self, score: i128, member: &[u8]) -> Result<bool, AllocError>
         ensures put { IfOk result (λ added. self.new ≡
@@ -108,9 +109,10 @@ impl Ranked {
         if self.len == usize::MAX {
             return self.refuse(&key);
         }
-        let added = self.tree.insert(self.alloc, &key)?;
+        let added = self.root.insert(self.alloc, &key)?;
         if added {
             self.len += 1;
+            self.root.raise(self.alloc);
         }
         Ok(added)
     }
@@ -122,26 +124,28 @@ impl Ranked {
             (if result then remove self.old (rank_of (score, member.now) self.old) else self.old) }
         ensures present { IsTrue result ↔ Contains self.old (score, member.now) }
     {
-        let taken = self.tree.remove(&Key { score, member });
+        let taken = self.root.remove(&Key { score, member });
         if taken {
             self.len -= 1;
+            self.root.lower(self.alloc);
         }
         taken
     }
 
-    /// The pairs from a place onward. A step takes constant time, but where a block of pairs ends the next is looked up
-    /// from the root.
+    /// The pairs from a place onward. A step inside a block of pairs takes constant time, and one to the next block walks
+    /// at most 12 levels up and down, whatever the length. It takes no memory.
     pub fn iter_from(&self, place: usize) -> Forward<'_>
         ensures { result ≡ drop place self.now }
     {
-        Forward::new(&self.tree, place.min(self.len))
+        Forward::new(&self.root, place.min(self.len))
     }
 
-    /// The pairs before a place, the last of them first, by steps as those of `iter_from`.
+    /// The pairs before a place, the last of them first, by steps as those of `iter_from`. A step to the block before
+    /// also counts through each fork that it enters, of up to 64 nodes.
     pub fn iter_back_from(&self, place: usize) -> Backward<'_>
         ensures { result ≡ reverse (take place self.now) }
     {
-        Backward::new(&self.tree, place.min(self.len))
+        Backward::new(&self.root, place.min(self.len))
     }
 
     /// Answers for a list that has no number for one more pair.
@@ -162,7 +166,7 @@ impl Ranked {
         if self.len == 0 {
             return 0;
         }
-        self.tree.rank(key)
+        self.root.rank(key)
     }
 
     /// Whether a pair stands at the place where it belongs.
@@ -171,7 +175,7 @@ impl Ranked {
         ensures present { IsTrue result ↔ Contains self.now (pair_of_key key.now) }
         ensures within { IsTrue result → place < length self.now }
     {
-        match self.tree.block_from(place).first() {
+        match self.root.block_from(place).first() {
             Some(pair) => pair.order(key).is_eq(),
             None => false,
         }

@@ -10,12 +10,12 @@ returns-in-Some-clause-present c =
     let t = pair_of_key c.args.key.now in
     let p = subst (λ l. c.args.place ≡ rank_of t l) (sym c.self.view_is) c.requires in
     let item = c.in-Some.ensures.item in
-    let there = stands_there c.self.inside.tree.0 c.args.place t c.self.invariant.0.sorted p c.block_from.result.now _ c.in-Some.pair.now c.block_from.ensures.part item.3.0 (item.3.1 t) in
+    let there = stands_there c.self.inside.root.0 c.args.place t c.self.invariant.0.sorted p c.block_from.result.now _ c.in-Some.pair.now c.block_from.ensures.part item.3.0 (item.3.1 t) in
     rw (c.is_eq.ensures, c.order.ensures, ← c.self.view_is) there
 
 pub returns-in-None-clause-present : goal.returns-in-None-clause-present
 returns-in-None-clause-present c =
     let t = pair_of_key c.args.key.now in
     let p = subst (λ l. c.args.place ≡ rank_of t l) (sym c.self.view_is) c.requires in
-    let absent = stands_nowhere c.self.inside.tree.0 c.args.place t c.self.invariant.0.sorted p (grind (arith, c.block_from.ensures.some, c.in-None.ensures.item)) in
+    let absent = stands_nowhere c.self.inside.root.0 c.args.place t c.self.invariant.0.sorted p (grind (arith, c.block_from.ensures.some, c.in-None.ensures.item)) in
     (λ h. absurd (true≢false (sym h)), λ k. absurd (absent (subst (λ l. Contains l t) (sym c.self.view_is) k)))
