@@ -3,7 +3,7 @@ use Rattle.std.specs.Prelude.{◌++◌, List, ℕ, Option, None, Some, [], ◌�
 use Rattle.std.specs.Fmt.{signed_decimal}
 use Rattle.std.specs.List.{list_all, list_any}
 use Rattle.zq_resp.specs.declared.reply.Reply.{Reply}
-use Rattle.zq_resp.specs.declared.reply.Reply.TheOpen.{Reply-F, Simple, Error, Integer, Bulk, NullBulk, Array}
+use Rattle.zq_resp.specs.declared.reply.Reply.TheOpen.{Reply-F, Simple, Error, Integer, Bulk, Number, NullBulk, Array}
 use Rattle.zq_resp.specs.declared.reply.Reply.TheFolds.{fold-Reply}
 
 -- a text and the end of its line
@@ -28,6 +28,7 @@ bytes_from_parts (Simple text) = 43 ∷ line text.now
 bytes_from_parts (Error text after) = 45 ∷ line (text.now ++ after_text after)
 bytes_from_parts (Integer number) = 58 ∷ line (signed_decimal number)
 bytes_from_parts (Bulk bytes) = bulk bytes.items
+bytes_from_parts (Number number) = bulk (signed_decimal number)
 bytes_from_parts NullBulk = codes "$-1\r\n"
 bytes_from_parts (Array parts) = 42 ∷ line (decimal (length parts.items)) ++ joined parts.items
 

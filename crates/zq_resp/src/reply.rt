@@ -23,6 +23,8 @@ pub enum Reply {
     },
     Integer(i64),
     Bulk(Vec<u8>),
+    /// The number's digits as a bulk string. It takes no memory of its own.
+    Number(i128),
     NullBulk,
     Array(Vec<Reply>),
 }
@@ -55,6 +57,7 @@ fn append_reply(out: &mut Vec<u8>, reply: &Reply) -> Result<(), AllocError>
         Reply::Error { text, after } => append_error(out, text.as_bytes(), *after),
         Reply::Integer(number) => append_line(out, b':', Buffer::new().format(*number).as_bytes()),
         Reply::Bulk(bytes) => append_bulk(out, bytes),
+        Reply::Number(number) => append_bulk(out, Buffer::new().format(*number).as_bytes()),
         Reply::NullBulk => append_line(out, b'$', b"-1"),
         Reply::Array(parts) => {
             append_line(out, b'*', Buffer::new().format(parts.len()).as_bytes())?;
@@ -127,7 +130,7 @@ mod tests {
     }
 
     #[test]
-    fn each_kind_has_the_bytes_of_resp2(rt: HostRuntime) -> Result<(), Fail> {
+    fn lines_have_the_bytes_of_resp2(rt: HostRuntime) -> Result<(), Fail> {
         let pong = bytes_of(&rt, &Reply::Simple("PONG"))?;
         assert_eq!(rt; pong.as_slice(), b"+PONG\r\n".as_slice());
         let worn = Reply::Error {
@@ -154,10 +157,23 @@ mod tests {
             bytes_of(&rt, &Reply::Integer(0))?.as_slice(),
             b":0\r\n".as_slice()
         );
+        Ok(())
+    }
+
+    #[test]
+    fn bulk_strings_have_the_bytes_of_resp2(rt: HostRuntime) -> Result<(), Fail> {
         let bulk = Reply::Bulk(Vec::from_slice(rt.alloc(), b"a\r\nb")?);
         assert_eq!(rt;
             bytes_of(&rt, &bulk)?.as_slice(),
             b"$4\r\na\r\nb\r\n".as_slice()
+        );
+        assert_eq!(rt;
+            bytes_of(&rt, &Reply::Number(-7))?.as_slice(),
+            b"$2\r\n-7\r\n".as_slice()
+        );
+        assert_eq!(rt;
+            bytes_of(&rt, &Reply::Number(18_446_744_073_709_551_616))?.as_slice(),
+            b"$20\r\n18446744073709551616\r\n".as_slice()
         );
         assert_eq!(rt;
             bytes_of(&rt, &Reply::NullBulk)?.as_slice(),
