@@ -102,3 +102,9 @@ placed-none s (Some a) r e h = absurd (let same : Some (s, a) ≡ None = sym e �
 pub through : {X : Type 0} {Y : Type 0} (f : X → Y) (o : Option (Bor X)) → option_map (λ a. f a.now) o ≡ option_map f (option_copied o)
 through f None = refl
 through f (Some a) = refl
+
+-- what is made of the only one is what is made of all
+pub mapped-only : (f : OfSite → OfSite) (items : List OfSite) (p q : OfSite) → length items ≡ 1 → ((d : OfSite) → p ≡ get_or items 0 d) → q ≡ f p → q ∷ [] ≡ map f items
+mapped-only f [] p q one is made = absurd (omega (arith, one))
+mapped-only f (x ∷ []) p q one is made = ap (λ y. y ∷ []) (made ∙ ap f (is p))
+mapped-only f (x ∷ y ∷ items) p q one is made = absurd (omega (arith, one))

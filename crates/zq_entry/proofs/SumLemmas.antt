@@ -17,6 +17,8 @@ use Rattle.zq_model.specs.Operation.{IsWithin, MOST}
 use Rattle.zq_model.specs.Score.{total}
 use Rattle.zq_model.specs.Sets.{LAST, SITES}
 use Rattle.zq_model.specs.Sparse.{AreBySite, found}
+use Rattle.zq_entry.specs.KeptSums.{kept_sums}
+use Rattle.zq_entry.specs.declared.sums.Kept.{Kept}
 use Rattle.zq_entry.specs.Sums.{AreSums, IsSum, MOST_SUM, dense_sums, nonzero_from, nonzero_sums, sum_found, sum_joined, sums_bumped}
 use Rattle.zq_entry.proofs.MergeLemmas.{found-merged, merged}
 use Rattle.zq_entry.proofs.ReplaceLemmas.{found-replaced_other, found-replaced_same, replaced}
@@ -65,6 +67,10 @@ nonzero-spread (suc n) a high items e r h =
 -- the sums that are not 0 are those that are kept
 pub nonzero-dense : (items : List (ℕ × ℤ)) → AreSums items → nonzero_sums (dense_sums items) ≡ items
 nonzero-dense items h = nonzero-spread SITES 0 SITES items (omega arith) h.rising h.each
+
+-- so the sums that are kept are those of the model that are not 0
+pub kept-nonzero : (kept : Kept) (sums : List ℤ) → AreSums (kept_sums kept) → dense_sums (kept_sums kept) ≡ sums → kept_sums kept ≡ nonzero_sums sums
+kept-nonzero kept sums are view = sym (nonzero-dense (kept_sums kept) are) ∙ ap nonzero_sums view
 
 pub sums-length : (items : List (ℕ × ℤ)) → AreSums items → length items ≤ SITES
 sums-length items h = omega (arith, rising-length 0 SITES items (omega arith) h.rising)

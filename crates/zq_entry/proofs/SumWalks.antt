@@ -1,17 +1,19 @@
 -- The steps by which sums are joined and bumped.
 
-use Rattle.std.proofs.Common.{inl, inr, ap, append-nil, append_assoc, arith, cond, drop, sym, take, ◌∙◌, ◌≡◌}
+use Rattle.std.proofs.Common.{inl, inr, ap, append_assoc, arith, cond, drop, false, subst, sym, take, true, ◌∙◌, ◌≡◌}
 use Rattle.std.proofs.lemmas.Bool.{cases_Bool}
+use Rattle.std.proofs.lemmas.Bool.Decides.{Decides-int_eq}
 use Rattle.std.proofs.lemmas.Int.{to_z-of_z}
 use Rattle.std.specs.Int.{w128, w64}
 use Rattle.std.specs.List.{AllByRecursion}
+use Rattle.std.specs.Ordering.{int_eq}
 use Rattle.std.specs.Prelude.{List, None, Option, Some, [], nat_lt, pos, slice_index, slice_index_or, ℕ, ℤ, ◌*◌, ◌++◌, ◌+ℤ◌, ◌-◌, ◌<◌, ◌≤◌, ◌∷◌, ◌≢◌}
 use mir.Val.{SFits, of_z, to_z}
 use Rattle.zq_model.specs.Operation.{IsWithin, MOST}
 use Rattle.zq_model.specs.Sets.{LAST, SITES}
 use Rattle.zq_entry.specs.Sparse.{first_at, head_of, lower, place_in, rest_at}
 use Rattle.zq_model.specs.Sparse.{AreBySite}
-use Rattle.zq_entry.specs.Sums.{AreSums, IsSum, MOST_SUM, dense_sums, sum_found, sum_joined, sums_bumped}
+use Rattle.zq_entry.specs.Sums.{AreSums, IsSum, MOST_SUM, dense_sums, sum_found, sum_joined, sum_kept, sums_bumped}
 use Rattle.zq_entry.proofs.MergeLemmas.{merged, merged-push, option_at, rising-rests}
 use Rattle.zq_entry.proofs.ReplaceLemmas.{each-first, each-replaced, each-rest, first-at_place, replaced, rising-replaced}
 use Rattle.zq_model.proofs.Sites.{by_site-at}
@@ -74,10 +76,9 @@ sum-bits x f v i a b c e h =
     ap (λ y. y +ℤ to_z w128 (of_z w128 f)) (to_z-of_z w128 x a) ∙ ap (λ y. x +ℤ y) (to_z-of_z w128 f c ∙ (e ∙ (to_z-of_z w64 v b ∙ h)))
 
 -- the list that is built is the one with the site's sum replaced
-pub built : (s k : ℕ) (o : Option ℤ) (sums rest before after made all : List (ℕ × ℤ)) → k ≡ place_in s sums → before ≡ take k sums → rest ≡ drop k sums → after ≡ rest_at s rest → made ≡ before ++ option_at s o → all ≡ made ++ after → all ≡ replaced s o sums
-built s k o sums rest before after made all e b r a m h =
-    h ∙ (ap (λ zs. zs ++ after) m ∙ (append_assoc before (option_at s o) after
-    ∙ (ap (λ zs. zs ++ (option_at s o ++ after)) (b ∙ ap (λ i. take i sums) e) ∙ ap (λ zs. take (place_in s sums) sums ++ (option_at s o ++ zs)) (a ∙ ap (rest_at s) (r ∙ ap (λ i. drop i sums) e)))))
+built : (s k : ℕ) (o : Option ℤ) (sums rest before after : List (ℕ × ℤ)) → k ≡ place_in s sums → before ≡ take k sums → rest ≡ drop k sums → after ≡ rest_at s rest → before ++ (option_at s o ++ after) ≡ replaced s o sums
+built s k o sums rest before after e b r a =
+    ap (λ zs. zs ++ (option_at s o ++ after)) (b ∙ ap (λ i. take i sums) e) ∙ ap (λ zs. take (place_in s sums) sums ++ (option_at s o ++ zs)) (a ∙ ap (rest_at s) (r ∙ ap (λ i. drop i sums) e))
 
 -- sums with one of them replaced are sums
 replaced-sums : (s : ℕ) (o : Option ℤ) (sums : List (ℕ × ℤ)) → s < SITES → AreSums sums → ((x : ℤ) → o ≡ Some x → IsSum (s, x)) → AreSums (replaced s o sums)
@@ -88,20 +89,32 @@ pub record IsBumped (s : ℕ) (i : ℤ) (sums all : List (ℕ × ℤ)) : Type 0 
   pub are_sums : AreSums all
   pub view : dense_sums all ≡ sums_bumped s i (dense_sums sums)
 
-bumped-option : (s k : ℕ) (i : ℤ) (o : Option ℤ) (sums rest before after made all : List (ℕ × ℤ)) → s < SITES → AreSums sums → k ≡ place_in s sums → before ≡ take k sums → rest ≡ drop k sums → after ≡ rest_at s rest
-    → made ≡ before ++ option_at s o → all ≡ made ++ after → or_zero o ≡ sum_found s sums +ℤ i → ((x : ℤ) → o ≡ Some x → IsSum (s, x)) → IsBumped s i sums all
-bumped-option s k i o sums rest before after made all l h e b r a m w x y =
-    let is = built s k o sums rest before after made all e b r a m w in
+bumped-option : (s k : ℕ) (i : ℤ) (o : Option ℤ) (sums rest before after : List (ℕ × ℤ)) → s < SITES → AreSums sums → k ≡ place_in s sums → before ≡ take k sums → rest ≡ drop k sums → after ≡ rest_at s rest
+    → or_zero o ≡ sum_found s sums +ℤ i → ((x : ℤ) → o ≡ Some x → IsSum (s, x)) → IsBumped s i sums (before ++ (option_at s o ++ after))
+bumped-option s k i o sums rest before after l h e b r a x y =
+    let is = built s k o sums rest before after e b r a in
     record { are_sums = rw is (replaced-sums s o sums l h y); view = ap dense_sums is ∙ bumped-dense s i o sums h.rising x }
 
--- where the sum is kept
-pub bumped-some : (s k : ℕ) (i sum : ℤ) (sums rest before after made all : List (ℕ × ℤ)) → s < SITES → AreSums sums → k ≡ place_in s sums → before ≡ take k sums → rest ≡ drop k sums → after ≡ rest_at s rest
-    → made ≡ before ++ (s, sum) ∷ [] → all ≡ made ++ after → sum ≡ sum_found s sums +ℤ i → sum ≢ pos 0 → IsWithin MOST_SUM sum → IsBumped s i sums all
-bumped-some s k i sum sums rest before after made all l h e b r a m w x y z =
-    bumped-option s k i (Some sum) sums rest before after made all l h e b r a m w x (λ t is. let same : sum ≡ t = cc in rw (← same) (y, z))
+-- with the site's new sum in its place, or none where it has come to 0
+bumped-kept : (s k : ℕ) (i sum : ℤ) (sums rest before after : List (ℕ × ℤ)) → s < SITES → AreSums sums → k ≡ place_in s sums → before ≡ take k sums → rest ≡ drop k sums → after ≡ rest_at s rest
+    → sum ≡ sum_found s sums +ℤ i → IsWithin MOST_SUM sum → IsBumped s i sums (before ++ (sum_kept s sum ++ after))
+bumped-kept s k i sum sums rest before after l h e b r a x z =
+    elim (cases_Bool (int_eq sum (pos 0))) [
+      | inl zero' ↦
+          let kept : sum_kept s sum ≡ [] = ap (λ b. cond b [] ((s, sum) ∷ [])) zero' in
+          let none : sum ≡ pos 0 = (Decides-int_eq sum (pos 0)).0 zero' in
+          subst (λ l. IsBumped s i sums (before ++ (l ++ after))) (sym kept) (bumped-option s k i None sums rest before after l h e b r a (sym none ∙ x) (λ t is. absurd (cc)))
+      | inr other ↦
+          let kept : sum_kept s sum ≡ (s, sum) ∷ [] = ap (λ b. cond b [] ((s, sum) ∷ [])) other in
+          let some : sum ≢ pos 0 = λ is. absurd (let no : true ≡ false = sym ((Decides-int_eq sum (pos 0)).1 is) ∙ other in cc) in
+          subst (λ l. IsBumped s i sums (before ++ (l ++ after))) (sym kept) (bumped-option s k i (Some sum) sums rest before after l h e b r a x (λ t is. let same : sum ≡ t = cc in rw (← same) (some, z)))
+    ]
 
--- where it has come to 0
-pub bumped-none : (s k : ℕ) (i sum : ℤ) (sums rest before after made all : List (ℕ × ℤ)) → s < SITES → AreSums sums → k ≡ place_in s sums → before ≡ take k sums → rest ≡ drop k sums → after ≡ rest_at s rest
-    → made ≡ before → all ≡ made ++ after → sum ≡ sum_found s sums +ℤ i → sum ≡ pos 0 → IsBumped s i sums all
-bumped-none s k i sum sums rest before after made all l h e b r a m w x y =
-    bumped-option s k i None sums rest before after made all l h e b r a (m ∙ sym (append-nil before)) w (sym y ∙ x) (λ t is. absurd (cc))
+-- where a Bump with the counter n finds o of its site
+pub bumped : (s n k : ℕ) (i sum : ℤ) (o : Option ℤ) (sums rest before after : List (ℕ × ℤ)) → s < SITES → (1 ≤ n) × (n ≤ LAST) → AreSums sums → IsWithin (MOST * (n - 1)) (slice_index_or (dense_sums sums) s (pos 0)) → IsWithin MOST i
+    → k ≡ place_in s sums → before ≡ take k sums → rest ≡ drop k sums → o ≡ first_at s rest → after ≡ rest_at s rest → sum ≡ or_zero o +ℤ i → SFits w128 sum → IsBumped s i sums (before ++ sum_kept s (to_z w128 (of_z w128 sum)) ++ after)
+bumped s n k i sum o sums rest before after below counter are room amount e b r f a x fits =
+    let old = old-sum s k sums rest o are.rising e r f in
+    let in_range = new-sum s n sums (or_zero o) i below counter.0 counter.1 old room amount in
+    let made = bumped-kept s k i sum sums rest before after below are e b r a (x ∙ ap (λ y. y +ℤ i) old) (rw x in_range) in
+    rw (to_z-of_z w128 sum fits) (subst (IsBumped s i sums) (sym (append_assoc before (sum_kept s sum) after)) made)

@@ -5,3 +5,4 @@ pub mod Held
 pub mod Lent
 pub mod Within
 pub mod Changes
+pub mod KeptSums

@@ -1,7 +1,7 @@
 -- Lists of values by rising site, and the lists with a place for each site that they stand for.
 
 use Rattle.std.specs.List.{position_or_len}
-use Rattle.std.specs.Prelude.{List, None, Option, Some, [], if◌then◌else◌, ℕ, ◌+◌, ◌<◌, ◌==◌, nat_le, nat_lt, ◌≤◌, ◌∷◌}
+use Rattle.std.specs.Prelude.{List, None, Option, Some, [], if◌then◌else◌, ℕ, ◌+◌, ◌==◌, nat_le, nat_lt, ◌∷◌}
 
 -- x is the value of the site s, in its place
 abbrev pub placed : {X : Type 0} → ℕ → X → List (ℕ × X) → List (ℕ × X)

@@ -41,6 +41,10 @@ nonzero_from s (x ∷ sums) = if int_eq x (pos 0) then nonzero_from (s + 1) sums
 abbrev pub nonzero_sums : List ℤ → List (ℕ × ℤ)
 nonzero_sums sums = nonzero_from 0 sums
 
+-- a site's sum, which is not kept where it is 0
+abbrev pub sum_kept : ℕ → ℤ → List (ℕ × ℤ)
+sum_kept s x = if int_eq x (pos 0) then [] else (s, x) ∷ []
+
 -- of two sums of a site, that of the side whose vector has more of the site, and the first where they have the same
 abbrev pub sum_joined : List ℕ → List ℕ → ℕ → Option ℤ → Option ℤ → Option ℤ
 sum_joined u v s a b = if nat_lt (slice_index u s) (slice_index v s) then b else a

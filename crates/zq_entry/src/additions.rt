@@ -1,9 +1,12 @@
-ghost use Rattle.std.specs.Prelude.{◌≡◌, ◌<◌, ◌^◌, ◌++◌, ◌∷◌, [], IfSome, OnErr, OnOk, OnSome, drop, length, option_map, slice_index_or};
+ghost use Rattle.std.specs.Prelude.{◌≡◌, ◌≤◌, ◌<◌, ◌*◌, ◌-◌, ◌^◌, ◌++◌, ◌∷◌, [], IfSome, OnErr, OnOk, OnSome, drop, length, map, option_map, slice_index_or};
 ghost use Rattle.std.specs.List.{filter, list_all};
-ghost use Rattle.zq_entry.specs.Changes.{goes, is_unseen, stays};
+ghost use Rattle.zq_entry.specs.Changes.{bumped_placed, goes, is_unseen, stays};
 ghost use Rattle.zq_entry.specs.Lent.{lent};
 ghost use Rattle.zq_entry.specs.Placed.{addition_of_put};
+ghost use Rattle.zq_model.specs.Entry.{sum_at};
+ghost use Rattle.zq_model.specs.Operation.{IsWithin, MOST};
 ghost use Rattle.zq_model.specs.Rows.{OfSite};
+ghost use Rattle.zq_model.specs.Sets as sets;
 ghost use Rattle.zq_entry.specs.Sparse.{first_at, head_of, placed};
 ghost use Rattle.zq_entry.specs.Sums.{AreSums};
 
@@ -116,6 +119,24 @@ impl Additions {
         }
         self.held.widen(alloc)?;
         self.held.push(addition)
+    }
+
+    /// Takes a Bump where there is one alone.
+    pub fn bump_only(
+        &mut self,
+        alloc: Global,
+        dot: Dot,
+        increment: Score,
+        seen: &Vector,
+    ) -> Result<(), AllocError>
+        requires only { length self.old ≡ 1 }
+        requires counter { (1 ≤ dot.n) × (dot.n ≤ sets.LAST) }
+        requires sums { (d : OfSite) → IsWithin (MOST * (dot.n - 1)) (sum_at (slice_index_or self.old 0 d).1 dot.site) }
+        ensures bumped { OnOk result (self.new ≡ map (bumped_placed seen.now dot.site increment) self.old) }
+        ensures refused { OnErr result (self.new ≡ self.old) }
+    {
+        let addition = self.at(0).bumped(alloc, dot, increment, seen)?;
+        self.held.set_only(alloc, addition)
     }
 
     /// Whether a Put with this dot that has seen this vector takes all of them away.

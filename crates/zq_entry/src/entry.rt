@@ -97,6 +97,9 @@ impl Entry {
         ensures bumped { OnOk result (self.new ≡ model.entry_after (Bump increment) dot.site dot.n seen.now self.old) }
         ensures refused { OnErr result (self.new ≡ self.old) }
     {
+        if self.additions.len() == 1 {
+            return self.additions.bump_only(alloc, dot, increment, seen);
+        }
         let mut bumped = Additions::new();
         for place in 0..self.additions.len() {
             let addition = self.additions.at(place);

@@ -1,4 +1,4 @@
-ghost use Rattle.std.specs.Prelude.{◌≡◌, ◌++◌, ◌∷◌, [], OnErr, OnOk};
+ghost use Rattle.std.specs.Prelude.{◌≡◌, ◌++◌, ◌∷◌, [], OnErr, OnOk, length};
 ghost use Rattle.std.specs.List.{filter, list_all};
 ghost use Rattle.zq_entry.specs.Changes.{goes, is_unseen, stays};
 ghost use Rattle.zq_entry.specs.Held.{IsMany, listed};
@@ -27,7 +27,7 @@ impl Held {
         ensures listed { listed self.new ≡ listed self.old }
     {
         let list = match self {
-            Held::Nothing => Vec::new(alloc),
+            Held::Nothing => Vec::with_capacity(alloc, 1)?,
             Held::One(dot, score) => {
                 let mut list = Vec::with_capacity(alloc, 2)?;
                 list.push(Addition::of(*dot, *score, Vec::new(alloc)))?;
@@ -49,6 +49,27 @@ impl Held {
             Held::Many(list) => Ok(list.push(addition)?),
             _ => unreachable!(),
         }
+    }
+
+    /// Puts this in the place of the only one. It takes memory where that took none and this has sums.
+    pub fn set_only(&mut self, alloc: Global, addition: Addition) -> Result<(), AllocError>
+        requires { length (listed self.old) ≡ 1 }
+        ensures set { OnOk result (listed self.new ≡ addition ∷ []) }
+        ensures refused { OnErr result (listed self.new ≡ listed self.old) }
+    {
+        if let Some((dot, score)) = addition.bare() {
+            *self = Held::One(dot, score);
+            return Ok(());
+        }
+        match self {
+            Held::Many(list) => list[0] = addition,
+            _ => {
+                let mut list = Vec::with_capacity(alloc, 1)?;
+                list.push_reserved(addition);
+                *self = Held::Many(list);
+            }
+        }
+        Ok(())
     }
 
     /// Makes this the addition of its site.

@@ -1,52 +1,81 @@
-ghost use Rattle.std.specs.Prelude.{◌≡◌, ◌*◌, ◌-◌, ◌≤◌, ◌+ℤ◌, IfOk, pos, slice_index_or, unwrap_or};
+ghost use Rattle.std.specs.Prelude.{◌≡◌, ◌++◌, ◌*◌, ◌-◌, ◌≤◌, ◌+ℤ◌, IfOk, pos, slice_index_or, unwrap_or};
 ghost use Rattle.zq_model.specs.Entry.{sums_joined};
 ghost use Rattle.zq_model.specs.Operation.{IsWithin, MOST};
 ghost use Rattle.zq_model.specs.Score.{total};
 ghost use Rattle.zq_model.specs.Sets as sets;
 ghost use Rattle.zq_entry.specs.Sparse.{first_at, head_of, place_in, rest_at};
-ghost use Rattle.zq_entry.specs.Sums.{AreSums, MOST_SUM, dense_sums, nonzero_sums, sum_joined, sums_bumped};
+ghost use Rattle.zq_entry.specs.Sums.{AreSums, MOST_SUM, dense_sums, nonzero_sums, sum_joined, sum_kept, sums_bumped};
 
 use crate::lower::lower_site;
 use std::alloc::{AllocError, Global};
 use std::marker::Model;
 use zq_dots::{Dot, Score, SiteNo, Vector};
 
+/// Where sums lie: one alone, which is what nearly all have that have any, takes no memory of its own.
+#[derive(Debug, Drop)]
+enum Kept {
+    Nothing,
+    One([(SiteNo, i128); 1]),
+    Many(Vec<(SiteNo, i128)>),
+}
+
 /// For each site the sum of the increments of its Bumps. The sums that are not 0 are kept, by
 /// rising site, and the amount of each is at most 9007199254740992 times 281474976710655.
 #[derive(Debug, Drop)]
 pub struct Sums {
-    items: Vec<(SiteNo, i128)>,
+    kept: Kept,
 }
 
 impl Model for Sums {
     ghost use Rattle.std.specs.Prelude.{List, ℤ};
-    ghost use Rattle.zq_entry.specs.Sparse.{first_at, head_of, place_in, rest_at};
+    ghost use Rattle.zq_entry.specs.KeptSums.{kept_sums};
     ghost use Rattle.zq_entry.specs.Sums.{AreSums, dense_sums};
 
     ghost Value = { List ℤ };
 
-    ghost view = { λ sums. dense_sums sums.items.items };
+    ghost view = { λ sums. dense_sums (kept_sums sums.kept) };
 
-    ghost invariant = { λ sums. AreSums sums.items.items };
+    ghost invariant = { λ sums. AreSums (kept_sums sums.kept) };
 }
 
 impl Sums {
-    /// These sums.
+    /// These sums. It takes no memory, and gives theirs back where there is one at most.
     pub fn of(items: Vec<(SiteNo, i128)>) -> Sums
         requires { AreSums items.items }
         ensures { result ≡ dense_sums items.items }
     {
-        Sums { items }
+        let kept = match items.as_slice() {
+            [] => Kept::Nothing,
+            [sum] => Kept::One([*sum]),
+            _ => Kept::Many(items),
+        };
+        Sums { kept }
     }
 
-    /// A copy of these sums.
+    /// A copy of these sums. It takes memory for two or more.
     pub fn from_slice(alloc: Global, items: &[(SiteNo, i128)]) -> Result<Sums, AllocError>
         requires { AreSums items.now }
         ensures { IfOk result (λ copy. copy ≡ dense_sums items.now) }
     {
-        Ok(Sums {
-            items: Vec::from_slice(alloc, items)?,
-        })
+        let kept = match items {
+            [] => Kept::Nothing,
+            [sum] => Kept::One([*sum]),
+            _ => Kept::Many(Vec::from_slice(alloc, items)?),
+        };
+        Ok(Sums { kept })
+    }
+
+    /// One site's sum alone, and none where it is 0.
+    fn alone(site: SiteNo, sum: i128) -> Sums
+        requires { AreSums (sum_kept site sum) }
+        ensures { result ≡ dense_sums (sum_kept site sum) }
+    {
+        let kept = if sum == 0 {
+            Kept::Nothing
+        } else {
+            Kept::One([(site, sum)])
+        };
+        Sums { kept }
     }
 
     /// The sums that are not 0, by rising site.
@@ -55,7 +84,11 @@ impl Sums {
         ensures same { dense_sums result.now ≡ self.now }
         ensures within { AreSums result.now }
     {
-        &self.items
+        match &self.kept {
+            Kept::Nothing => &[],
+            Kept::One(items) => items,
+            Kept::Many(items) => items,
+        }
     }
 }
 
@@ -96,7 +129,7 @@ pub fn joined_sums(
         my_rest = my_others;
         their_rest = their_others;
     }
-    Ok(Sums { items })
+    Ok(Sums::of(items))
 }
 
 /// The sum of this site from the side whose vector knows more of the site, and mine where they know
@@ -132,13 +165,30 @@ pub fn bumped_sums(
     let (before, rest) = sums.split_at(place_of(sums, dot.site));
     let (old, after) = cut(rest, dot.site);
     let sum = added(old, increment);
-    let mut items = Vec::with_capacity(alloc, sums.len() + 1)?;
+    with_sum(alloc, before, dot.site, sum, after)
+}
+
+/// A site's sum between those of lower and of higher sites; 0 is not kept. It takes memory for two or more.
+fn with_sum(
+    alloc: Global,
+    before: &[(SiteNo, i128)],
+    site: SiteNo,
+    sum: i128,
+    after: &[(SiteNo, i128)],
+) -> Result<Sums, AllocError>
+    requires { AreSums (before.now ++ sum_kept site sum ++ after.now) }
+    ensures { IfOk result (λ new. new ≡ dense_sums (before.now ++ sum_kept site sum ++ after.now)) }
+{
+    if before.is_empty() && after.is_empty() {
+        return Ok(Sums::alone(site, sum));
+    }
+    let mut items = Vec::with_capacity(alloc, before.len() + after.len() + 1)?;
     items.extend_from_slice(before)?;
     if sum != 0 {
-        items.push((dot.site, sum))?;
+        items.push((site, sum))?;
     }
     items.extend_from_slice(after)?;
-    Ok(Sums { items })
+    Ok(Sums::of(items))
 }
 
 /// A site's sum and one more increment.

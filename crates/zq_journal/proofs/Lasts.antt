@@ -4,11 +4,11 @@ use Rattle.std.proofs.Common.{List, Some, [], ap, arith, false, get_or, length, 
 use Rattle.std.proofs.lemmas.List.{set-get_or, take_all, take_more}
 use Rattle.std.proofs.lemmas.Option.{get_or_from_slice_get, slice_get_read, slice_get_within}
 use Rattle.std.specs.Prelude.{slice_get}
-use Rattle.zq_history.specs.Books.{IsBook, is_change_over, operations_of, replayed}
+use Rattle.zq_history.specs.Books.{IsBook, operations_of, replayed}
 use Rattle.zq_journal.proofs.Replays.{length_written, new_next, operation_at}
 use Rattle.zq_journal.proofs.Wholes.{at_over, length_over, more_over, taken_over, vector_after, vector_more}
 use Rattle.zq_journal.specs.Books.{book_over}
-use Rattle.zq_journal.specs.Records.{Change, IsRecord, IsRecordable, Record, change_of, full_of, leaves_of, placed_in, records_in, records_over, vector_over, vector_past, whole, written_in}
+use Rattle.zq_journal.specs.Records.{Change, IsRecord, IsRecordable, Record, full_of, leaves_of, placed_in, records_in, records_over, vector_over, vector_past, whole, written_in}
 use Rattle.zq_journal.specs.Standing.{IsStanding}
 use Rattle.zq_journal.specs.declared.records.Record as code
 use Rattle.zq_model.proofs.Dots.{has_not}
@@ -25,19 +25,16 @@ state_vector s base tail stamp count is =
     ap (λ (a : Image). a.vector) (sym is.replay)
     ∙ vector_after s.heap s.heaps base tail (book_over s base (leaves_of (records_in s base tail)) stamp count).base refl
 
--- one record more, whose operation is new to the state
-pub longer_is : (s t : HeapImage) (base : List ℕ) (tail after : List code.Record) (r : code.Record) (change : Change) (stamp count : ℕ) →
-    IsBook (book_over s base (leaves_of (records_in s base tail)) stamp count) → IsRecordable s.heap s.heaps (placed_in change) → is_change_over s.heap s.image.vector (change_of change) ≡ true →
-    ((h K : ℕ) (v : List ℕ) → IsRecordable h K (placed_in change) → is_change_over h v (change_of change) ≡ true → whole h K v r.what ≡ change) → t.heap ≡ s.heap → t.heaps ≡ s.heaps →
-    after ≡ tail ++ r ∷ [] → records_in t base after ≡ records_in s base tail ++ record { stamp = r.stamp; what = change; before = r.before } ∷ []
-longer_is s t base tail after r change stamp count is own over kept heap heaps longer =
-    let late : List ℕ = vector_over s.heap s.heaps base tail in
-    let here : is_change_over s.heap late (change_of change) ≡ true = ap (λ v. is_change_over s.heap v (change_of change)) (sym (state_vector s base tail stamp count is)) ∙ over in
+-- one record more, over the vector of the state
+pub longer_is : (s t : HeapImage) (base : List ℕ) (tail after : List code.Record) (r : code.Record) (stamp count : ℕ) →
+    IsBook (book_over s base (leaves_of (records_in s base tail)) stamp count) → t.heap ≡ s.heap → t.heaps ≡ s.heaps → after ≡ tail ++ r ∷ [] →
+    records_in t base after ≡ records_in s base tail ++ full_of s.heap s.heaps s.image.vector r ∷ []
+longer_is s t base tail after r stamp count is heap heaps longer =
     ap (λ h. records_over h t.heaps base after) heap
     ∙ ap (λ K. records_over s.heap K base after) heaps
     ∙ ap (records_in s base) longer
     ∙ more_over s.heap s.heaps base tail r
-    ∙ ap (λ (what : Change). records_in s base tail ++ record { stamp = r.stamp; what = what; before = r.before } ∷ []) (kept s.heap s.heaps late own here)
+    ∙ ap (λ v. records_in s base tail ++ full_of s.heap s.heaps v r ∷ []) (sym (state_vector s base tail stamp count is))
 
 set_twice : (l : List ℕ) (i a b : ℕ) → slice_set (slice_set l i a) i b ≡ slice_set l i b
 set_twice [] i a b = refl

@@ -4,4 +4,3 @@ pub mod Records
 pub mod Standing
 pub mod BookView
 pub mod Answers
-pub mod Arriving

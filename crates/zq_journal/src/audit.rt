@@ -2,10 +2,8 @@
 ghost use Rattle.std.specs.List.{All};
 ghost use Rattle.std.specs.Prelude.{◌≡◌, IfOk, IsTrue, OnOk, drop, true, ℕ};
 ghost use Rattle.zq_history.specs.Books.{are_steps_over, replayed, steps_of};
-ghost use Rattle.zq_journal.specs.Records.{IsRecord, IsRecordable, placed_in, records_in, undone_at, whole, written_in};
+ghost use Rattle.zq_journal.specs.Records.{IsRecord, records_in, undone_at, written_in};
 ghost use Rattle.zq_model.specs.Bounded.{IsBounded};
-ghost use Rattle.zq_model.specs.Image.{image_after};
-ghost use Rattle.zq_model.specs.Sets.{New, taken_of};
 ghost use Rattle.zq_shard.specs.Shard.{with_vector};
 
 use crate::book::Book;
@@ -63,25 +61,8 @@ fn replay(alloc: Global, shard: &mut Shard, tail: &[Record]) -> Result<(), Alloc
     ensures image { OnOk result (shard.new.image ≡ replayed (written_in (records_in shard.old shard.old.image.vector tail.now)) shard.old.image) }
 {
     for record in tail {
-        take(alloc, shard, record)?;
+        drop(record.what.put_in(alloc, shard)?);
     }
-    Ok(())
-}
-
-/// Takes the operation of a record, which is new to the heap.
-fn take(alloc: Global, shard: &mut Shard, kept: &Record) -> Result<(), AllocError>
-    requires own { IsRecordable shard.old.heap shard.old.heaps (placed_in (whole shard.old.heap shard.old.heaps shard.old.image.vector kept.now.what)) }
-    requires new { taken_of shard.old.image.vector (placed_in (whole shard.old.heap shard.old.heaps shard.old.image.vector kept.now.what)).operation ≡ New }
-    ensures heap { shard.new.heap ≡ shard.old.heap }
-    ensures heaps { shard.new.heaps ≡ shard.old.heaps }
-    ensures rule { shard.new.rule ≡ shard.old.rule }
-    ensures image { OnOk result (shard.new.image ≡
-        image_after (placed_in (whole shard.old.heap shard.old.heaps shard.old.image.vector kept.now.what)).operation shard.old.image) }
-{
-    let op = kept
-        .what
-        .op(alloc, shard.heap(), shard.heaps(), shard.vector())?;
-    drop(shard.put_in(alloc, &op)?);
     Ok(())
 }
 

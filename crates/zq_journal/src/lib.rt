@@ -2,12 +2,12 @@
 //! that a peer can be given the operations that it lacks in place of the whole.
 #![tactic(auto)]
 
-mod arrival;
 mod audit;
 mod book;
 mod cutting;
 mod faults;
 mod own;
+mod putting;
 mod recording;
 mod records;
 mod since;

@@ -3,13 +3,15 @@ ghost use Rattle.std.specs.Prelude.{◌≤◌};
 ghost use Rattle.zq_model.specs.Sets.{LAST};
 
 use zq_dots::{Act, Dot};
+use zq_posheap::Name;
 
-/// An operation that was made here. What it had seen is the vector of the state before it, so it is not kept.
-#[derive(Debug, Drop)]
+/// An operation that was made here. What it had seen is the vector of the state before it, so it is not kept. A key and
+/// a member of at most 30 bytes take no memory of their own.
+#[derive(Drop)]
 pub(crate) struct Own {
     pub(crate) dot: Dot,
-    pub(crate) key: Vec<u8>,
-    pub(crate) member: Vec<u8>,
+    pub(crate) key: Name,
+    pub(crate) member: Name,
     pub(crate) act: Act,
     pub(crate) ghost counted: { 1 ≤ dot.n },
     pub(crate) ghost bounded: { dot.n ≤ LAST },

@@ -1,24 +1,25 @@
 //! How a book records what its site makes and takes.
-ghost use Rattle.std.specs.Prelude.{◌≡◌, ◌≢◌, ◌≤◌, ◌<◌, ◌↔◌, ◌⊎◌, ◌++◌, ◌∷◌, [], IfOk, IsErrOf, List, OnErr, OnOk, length, slice_index, true};
+ghost use Rattle.std.specs.Prelude.{◌≡◌, ◌≢◌, ◌≤◌, ◌<◌, ◌+◌, ◌↔◌, ◌⊎◌, ◌++◌, ◌∷◌, [], IfOk, IsErrOf, List, OnErr, OnOk, length, slice_index, true};
 ghost use Rattle.zq_dots.specs.Act.{act_of};
 ghost use Rattle.zq_dots.specs.Placed.{IsRanged, LONGEST};
 ghost use Rattle.zq_history.specs.Books.{Book as Books, Made, Step, is_change_over, recorded};
 ghost use Rattle.zq_history.specs.Reach.{IsWorked};
-ghost use Rattle.zq_journal.specs.Arriving.{arrived};
 ghost use Rattle.zq_journal.specs.Books.{LAST_STAMP, book_taken, state_of, step_of, steps_taken};
-ghost use Rattle.zq_journal.specs.Records.{IsRecordable, change_of, placed_in};
+ghost use Rattle.zq_journal.specs.Records.{IsRecordable, change_of, placed_in, whole};
 ghost use Rattle.zq_model.specs.Heaps as place;
+ghost use Rattle.zq_model.specs.Operation.{Act as ModelAct, IsAct};
 ghost use Rattle.zq_model.specs.Sets as sets;
 ghost use Rattle.zq_shard.specs.Shard.{IsOfHeap, next_operation};
 ghost use Rattle.zq_shard.specs.Taken.{answer_of};
 
-use crate::arrival::Arrival;
 use crate::book::{Book, LAST};
 use crate::faults::TakeFault;
-use crate::records::Record;
+use crate::own::Own;
+use crate::records::{Change, Record};
 use std::alloc::{AllocError, Global};
-use zq_dots::{Act, Op, SiteNo, heap_of};
+use zq_dots::{Act, Dot, Op, SiteNo, heap_of};
 use zq_history::{keeping, undoing, working};
+use zq_posheap::Name;
 use zq_shard::{MakeFault, Taken};
 
 impl Book {
@@ -48,8 +49,15 @@ impl Book {
             IsWorked self.new a stamp (steps ++ step_of stamp (Made (next_operation (state_of self.old) site key.now member.now (act_of act)).operation) ∷ [])) }
         ensures refused { OnErr result (self.new ≡ self.old) }
     {
-        let op = self.draft(alloc, site, key, member, act)?;
-        self.enter(alloc, stamp, Arrival::Made(op))?;
+        within(&act);
+        let dot = self.next_dot(site, key, member)?;
+        let what = Change::Made(Own {
+            dot,
+            key: Name::copied(alloc, key)?,
+            member: Name::copied(alloc, member)?,
+            act,
+        });
+        self.enter(alloc, stamp, what)?;
         Ok(())
     }
 
@@ -83,45 +91,41 @@ impl Book {
             return Err(TakeFault::Worn);
         }
         let op = boxed(alloc, op)?;
-        self.enter(alloc, stamp, Arrival::Took(op))?;
+        self.enter(alloc, stamp, Change::Took(op))?;
         Ok(taken)
     }
 
-    /// The next operation of a site, where a record of it can be counted.
+    /// The dot of the next operation of a site, where a record of it can be counted.
     #[tactic(auto, unfolding(crate::specs::Books::LAST_STAMP))]
-    fn draft(
-        &self,
-        alloc: Global,
-        site: SiteNo,
-        key: &[u8],
-        member: &[u8],
-        act: Act,
-    ) -> Result<Op, MakeFault>
+    fn next_dot(&self, site: SiteNo, key: &[u8], member: &[u8]) -> Result<Dot, MakeFault>
         requires key { length key.now ≤ LONGEST }
         requires member { length member.now ≤ LONGEST }
         ensures wrong_heap { IsErrOf result MakeFault.WrongHeap ↔ (place.heap_of key.now member.now self.now.heaps ≢ self.now.heap) }
         ensures worn { IsErrOf result MakeFault.Worn ↔ ((place.heap_of key.now member.now self.now.heaps ≡ self.now.heap) × ((slice_index self.now.state.vector site ≡ sets.LAST) ⊎ (self.now.count ≡ LAST_STAMP))) }
-        ensures made { IfOk result (λ op. op ≡ next_operation (state_of self.now) site key.now member.now (act_of act)) }
-        ensures placed { IfOk result (λ op. IsOfHeap (state_of self.now) op) }
-        ensures sound { IfOk result (λ op. IsRanged op) }
+        ensures placed { OnOk result (place.heap_of key.now member.now self.now.heaps ≡ self.now.heap) }
+        ensures site { IfOk result (λ dot. dot.site ≡ site) }
+        ensures next { IfOk result (λ dot. dot.n ≡ slice_index self.now.state.vector site + 1) }
+        ensures bounded { IfOk result (λ dot. dot.n ≤ sets.LAST) }
+        ensures sound { OnOk result ((act : ModelAct) → IsAct act → IsRanged (next_operation (state_of self.now) site key.now member.now act)) }
         ensures room { OnOk result (self.now.count < LAST_STAMP) }
     {
         if self.count == LAST && heap_of(key, member, self.shard.heaps()) == self.shard.heap() {
             return Err(MakeFault::Worn);
         }
-        self.shard.draft(alloc, site, key, member, act)
+        self.shard.next_dot(site, key, member)
     }
 
     /// Takes an operation that is new to the state, with a record at this stamp.
     #[tactic(auto, unfolding(crate::specs::Books::LAST_STAMP))]
-    fn enter(&mut self, alloc: Global, at: u64, arrival: Arrival) -> Result<(), AllocError>
+    fn enter(&mut self, alloc: Global, at: u64, what: Change) -> Result<(), AllocError>
         requires stamp { self.old.stamp ≤ at }
         requires bounded { at ≤ LAST_STAMP }
         requires count { self.old.count < LAST_STAMP }
-        requires recordable { IsRecordable self.old.heap self.old.heaps (placed_in (arrived arrival)) }
-        requires over { is_change_over self.old.heap self.old.state.vector (change_of (arrived arrival)) ≡ true }
-        ensures recorded { OnOk result (self.new ≡ recorded self.old at (change_of (arrived arrival))) }
-        ensures worked { OnOk result ((a : Books) (steps : List Step) → IsWorked self.old a at steps → IsWorked self.new a at (steps ++ step_of at (change_of (arrived arrival)) ∷ [])) }
+        requires recordable { IsRecordable self.old.heap self.old.heaps (placed_in (whole self.old.heap self.old.heaps self.old.state.vector what)) }
+        requires over { is_change_over self.old.heap self.old.state.vector (change_of (whole self.old.heap self.old.heaps self.old.state.vector what)) ≡ true }
+        ensures recorded { OnOk result (self.new ≡ recorded self.old at (change_of (whole self.old.heap self.old.heaps self.old.state.vector what))) }
+        ensures worked { OnOk result ((a : Books) (steps : List Step) → IsWorked self.old a at steps →
+            IsWorked self.new a at (steps ++ step_of at (change_of (whole self.old.heap self.old.heaps self.old.state.vector what)) ∷ [])) }
         ensures refused { OnErr result (self.new ≡ self.old) }
     {
         // A record of what is new keeps what a book keeps,
@@ -131,15 +135,27 @@ impl Book {
         // and goes on with a call's work.
         working();
         self.tail.reserve(1)?;
-        let before = self.shard.put_in(alloc, arrival.op())?;
+        let before = what.put_in(alloc, &mut self.shard)?;
         self.tail.push_reserved(Record {
             stamp: at,
-            what: arrival.kept(),
+            what,
             before,
         });
         self.stamp = at;
         self.count += 1;
         Ok(())
+    }
+}
+
+/// What the type of an act keeps of its number.
+fn within(act: &Act)
+    ensures { IsAct (act_of act.now) }
+{
+    match act {
+        Act::Put(score) | Act::Bump(score) => {
+            let _value = score.value();
+        }
+        Act::Drop => {}
     }
 }
 

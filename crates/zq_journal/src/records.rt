@@ -9,7 +9,7 @@ use zq_dots::{Dot, Op, Vector};
 use zq_entry::Entry;
 
 /// What an operation was to the book that recorded it.
-#[derive(Debug, Drop)]
+#[derive(Drop)]
 pub(crate) enum Change {
     /// It was made here.
     Made(Own),
@@ -64,8 +64,8 @@ impl Change {
     {
         match self {
             Change::Made(own) => {
-                let key = Vec::from_slice(alloc, &own.key)?;
-                let member = Vec::from_slice(alloc, &own.member)?;
+                let key = Vec::from_slice(alloc, own.key.as_slice())?;
+                let member = Vec::from_slice(alloc, own.member.as_slice())?;
                 Ok(Op::new(heap, heaps, own.dot, *seen, key, member, own.act))
             }
             Change::Took(op) => op.copy(alloc),
@@ -75,7 +75,7 @@ impl Change {
 
 /// An operation that was new where it came, the stamp of the call that brought it, and what its
 /// member had before it.
-#[derive(Debug, Drop)]
+#[derive(Drop)]
 pub(crate) struct Record {
     pub(crate) stamp: u64,
     pub(crate) what: Change,

@@ -6,3 +6,4 @@ pub mod Parts
 pub mod Built
 pub mod Sames
 pub mod Rowed
+pub mod Unseen

@@ -3,11 +3,9 @@
 use Rattle.std.specs.Cmp.Lexicographic.{slice_cmp}
 use Rattle.std.specs.FinMap.{FinMap, get, insert, keys, remove}
 use Rattle.std.specs.Ordering.{nat_cmp}
-use Rattle.std.specs.Prelude.{List, Option, Some, false, if◌then◌else◌, true, unwrap_or, ℕ, ◌*◌, ◌++◌, ◌-◌, ◌≡◌}
+use Rattle.std.specs.Prelude.{List, Option, Some, false, if◌then◌else◌, unwrap_or, ℕ, ◌++◌, ◌≡◌}
 use Rattle.std.specs.declared.cmp.Ordering.{Ordering}
-use Rattle.zq_entry.specs.Within.{AreSumsWithin}
-use Rattle.zq_model.specs.Image.{Entry, entry_after, is_bare, join_entry, map_on, no_additions, unless_bare}
-use Rattle.zq_model.specs.Operation.{MOST, Operation, is_bump}
+use Rattle.zq_model.specs.Image.{Entry, is_bare, join_entry, map_on, no_additions, unless_bare}
 
 abbrev pub bytes_cmp : List ℕ → List ℕ → Ordering
 bytes_cmp = slice_cmp nat_cmp
@@ -24,10 +22,6 @@ entry_in entries member = unwrap_or (get entries member) no_additions
 abbrev pub set_entry : Entries → List ℕ → Entry → Entries
 set_entry entries member entry = if is_bare entry then remove entries member else insert entries member entry
 
--- the entries after a new operation on their key
-abbrev pub entries_after : Operation → Entries → Entries
-entries_after o entries = set_entry entries o.member (entry_after o.act o.site o.n o.seen (entry_in entries o.member))
-
 -- the join of what two sides of the vectors u and v have of a member
 abbrev pub entry_joined : List ℕ → List ℕ → Entries → Entries → List ℕ → Option Entry
 entry_joined u v a b member = unless_bare (join_entry u v (entry_in a member) (entry_in b member))
@@ -39,7 +33,3 @@ joined_entries u v a b = map_on bytes_cmp (entry_joined u v a b) (keys a ++ keys
 -- no member stands without additions
 abbrev pub NoneIsBare : Entries → Type 0
 NoneIsBare entries = (member : List ℕ) (entry : Entry) → get entries member ≡ Some entry → is_bare entry ≡ false
-
--- where the operation is a Bump, the sums of its site are no more than its earlier Bumps can come to
-abbrev pub HasRoomFor : Operation → Entries → Type 0
-HasRoomFor o entries = is_bump o.act ≡ true → AreSumsWithin o.site (MOST * (o.n - 1)) (entry_in entries o.member)

@@ -4,3 +4,4 @@ pub mod Queued
 pub mod Listed
 pub mod Lent
 pub mod Built
+pub mod Effects

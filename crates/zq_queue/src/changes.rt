@@ -1,46 +1,67 @@
 //! What changes the entries of a queue.
 
-ghost use Rattle.std.specs.Prelude.{IfOk, List, None, Some, OnErr, OnOk, false, true, unwrap_or, ℕ, ◌*◌, ◌-◌, ◌≡◌};
-ghost use Rattle.zq_entry.specs.Within.{AreSumsWithin};
-ghost use Rattle.zq_model.specs.Operation.{Drop as ActDrop, MOST, is_bump};
-ghost use Rattle.zq_dots.specs.Rule.{rule_of};
-ghost use Rattle.zq_queue.specs.Queued.{AreScored, entries_of};
-ghost use Rattle.zq_posheap.specs.Members.{HasPlace, IsPlaceOf};
+ghost use Rattle.std.specs.Prelude.{IfOk, List, None, OnErr, OnOk, Some, false, unwrap_or, ℕ, ◌≡◌, ◌≤◌};
 ghost use Rattle.std.specs.FinMap.{get, insert};
+ghost use Rattle.std.specs.List.{list_all};
+ghost use Rattle.zq_dots.specs.Rule.{rule_of};
+ghost use Rattle.zq_entry.specs.Placed.{placed_of};
 ghost use Rattle.zq_model.specs.Image.{entry_after, is_bare, no_additions};
-ghost use Rattle.zq_queue.specs.Entries.{HasRoomFor, entries_after, entry_in, set_entry};
+ghost use Rattle.zq_model.specs.Operation.{Drop as ActDrop};
+ghost use Rattle.zq_model.specs.Sets.{LAST};
+ghost use Rattle.zq_posheap.specs.Members.{HasPlace, IsPlaceOf};
+ghost use Rattle.zq_queue.specs.Effects.{HasRoom, affected, entries_after, is_seen};
+ghost use Rattle.zq_queue.specs.Entries.{entry_in, set_entry};
+ghost use Rattle.zq_queue.specs.Queued.{AreScored, entries_of};
 
+use crate::effect::Effect;
 use crate::queue::Queue;
 use std::alloc::{AllocError, Global};
-use zq_dots::{Act, Op, Rule};
+use zq_dots::{Act, Rule, Vector};
 use zq_entry::Entry;
 use zq_posheap::{Place, PosHeap};
 
-/// What an operation makes of an entry. Additions that it takes away are not copied.
-fn changed(alloc: Global, entry: &Entry, op: &Op) -> Result<Entry, AllocError>
-    requires { is_bump op.now.operation.act ≡ true → AreSumsWithin op.now.operation.site (MOST * (op.now.operation.n - 1)) entry.now }
-    ensures { IfOk result (λ new. new ≡ entry_after op.now.operation.act op.now.operation.site op.now.operation.n op.now.operation.seen entry.now) }
+/// What an effect makes of an entry. Additions that it takes away are not copied.
+fn changed(alloc: Global, entry: &Entry, effect: &Effect<'_>) -> Result<Entry, AllocError>
+    requires counter { (1 ≤ effect.now.dot.n) × (effect.now.dot.n ≤ LAST) }
+    requires room { HasRoom effect.now entry.now }
+    ensures { IfOk result (λ new. new ≡ affected effect.now entry.now) }
 {
-    match op.act() {
+    match effect.act {
         Act::Put(score) => {
-            let mut changed = unseen(alloc, entry, op)?;
-            changed.put(alloc, op.dot(), score, op.seen())?;
+            let mut changed = unseen(alloc, entry, effect.seen)?;
+            changed.put(alloc, effect.dot, score, effect.seen)?;
             Ok(changed)
         }
         Act::Bump(increment) => {
             let mut changed = entry.copy(alloc)?;
-            changed.bump(alloc, op.dot(), increment, op.seen())?;
+            changed.bump(alloc, effect.dot, increment, effect.seen)?;
             Ok(changed)
         }
-        Act::Drop => unseen(alloc, entry, op),
+        Act::Drop => unseen(alloc, entry, effect.seen),
     }
 }
 
-/// A copy of the additions that an operation had not seen.
-fn unseen(alloc: Global, entry: &Entry, op: &Op) -> Result<Entry, AllocError>
-    ensures { (site n : ℕ) → IfOk result (λ new. new ≡ entry_after ActDrop site n op.now.operation.seen entry.now) }
+/// A copy of the additions that a vector has not seen.
+fn unseen(alloc: Global, entry: &Entry, seen: &Vector) -> Result<Entry, AllocError>
+    ensures { (site n : ℕ) → IfOk result (λ new. new ≡ entry_after ActDrop site n seen.now entry.now) }
 {
-    entry.merge(alloc, op.seen(), &Entry::new(), op.seen())
+    // A site has seen all that stands where its own operation comes.
+    if has_all(seen, entry) {
+        return Ok(Entry::new());
+    }
+    entry.merge(alloc, seen, &Entry::new(), seen)
+}
+
+/// Whether a vector has seen all additions of an entry.
+fn has_all(seen: &Vector, entry: &Entry) -> bool
+    ensures { result ≡ list_all (is_seen seen.now) (placed_of entry.now) }
+{
+    for place in 0..entry.len() {
+        if !seen.has(entry.at(place).dot) {
+            return false;
+        }
+    }
+    true
 }
 
 /// Gives the member at a place another entry, or takes it out where that is bare, and answers the entry that it had.
@@ -62,25 +83,31 @@ fn exchange(members: &mut PosHeap<Entry>, rule: Rule, place: Place, entry: Entry
 }
 
 impl Queue {
-    /// Takes a new operation on one of its members, and answers the entry that the member had: it is moved out, and only
-    /// what stays of it is copied. A member whose last addition goes does not stand any more. Where memory is refused
+    /// Takes the effect of a new operation on a member, and answers the entry that the member had: it is moved out, and
+    /// only what stays of it is copied. A member whose last addition goes does not stand any more. Where memory is refused
     /// nothing changes.
-    pub fn take(&mut self, alloc: Global, op: &Op) -> Result<Option<Entry>, AllocError>
-        requires { HasRoomFor op.now.operation self.old.entries }
+    pub fn take(
+        &mut self,
+        alloc: Global,
+        member: &[u8],
+        effect: &Effect<'_>,
+    ) -> Result<Option<Entry>, AllocError>
+        requires counter { (1 ≤ effect.now.dot.n) × (effect.now.dot.n ≤ LAST) }
+        requires room { HasRoom effect.now (entry_in self.old.entries member.now) }
         ensures rule { self.new.rule ≡ self.old.rule }
-        ensures taken { OnOk result (self.new.entries ≡ entries_after op.now.operation self.old.entries) }
-        ensures before { IfOk result (λ before. before ≡ get self.old.entries op.now.operation.member) }
+        ensures taken { OnOk result (self.new.entries ≡ entries_after effect.now member.now self.old.entries) }
+        ensures before { IfOk result (λ before. before ≡ get self.old.entries member.now) }
         ensures refused { OnErr result (self.new ≡ self.old) }
     {
-        match self.members.find(op.member()) {
+        match self.members.find(member) {
             Some(place) => {
                 let (_, entry) = self.members.at(place);
-                let entry = changed(alloc, entry, op)?;
+                let entry = changed(alloc, entry, effect)?;
                 Ok(Some(exchange(&mut self.members, self.rule, place, entry)))
             }
             None => {
-                let entry = changed(alloc, &Entry::new(), op)?;
-                self.add(op.member(), entry)?;
+                let entry = changed(alloc, &Entry::new(), effect)?;
+                self.add(member, entry)?;
                 Ok(None)
             }
         }

@@ -6,6 +6,7 @@
 
 mod changes;
 mod copies;
+mod effect;
 pub mod laws;
 mod merges;
 mod queue;
@@ -14,4 +15,5 @@ mod rows;
 #[cfg(test)]
 mod tests;
 
+pub use effect::Effect;
 pub use queue::Queue;

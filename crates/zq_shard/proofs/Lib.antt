@@ -15,3 +15,4 @@ pub mod Blocks
 pub mod KeysInOrder
 pub mod Rowed
 pub mod SameRules
+pub mod Nexts

@@ -5,12 +5,13 @@ use Rattle.std.specs.FinMap.{empty, find, get, keys, len}
 use Rattle.std.specs.Ordering.{eq_by_cmp}
 use Rattle.std.specs.Prelude.{List, None, Option, Some, flat_map, if◌then◌else◌, ◌==◌, map, refl, unwrap_or, ℕ, ◌++◌, ◌≡◌, ◌≢◌}
 use Rattle.zq_model.specs.Codes.{members_code}
-use Rattle.zq_model.specs.Image.{Entry, Members, Place, entry_after, entry_at, join_entry, map_on, no_additions, place_cmp, place_of, put_entry, unless_bare}
-use Rattle.zq_model.specs.Operation.{Operation}
+use Rattle.zq_model.specs.Image.{Entry, Members, Place, entry_at, join_entry, map_on, no_additions, place_cmp, put_entry, unless_bare}
 use Rattle.zq_model.specs.Rule.{Rule}
 use Rattle.zq_queue.specs.Codes.{rule_code}
+use Rattle.zq_queue.specs.Effects.{affected}
 use Rattle.zq_queue.specs.Entries.{Entries, bytes_cmp, joined_entries}
 use Rattle.zq_queue.specs.Queued.{Queued}
+use Rattle.zq_queue.specs.declared.effect.Effect.{Effect}
 
 -- a rule, and the members of all keys with their entries
 pub record Keyed : Type 0 where
@@ -61,9 +62,9 @@ queue_joined rule u v a b = unless_empty (record { rule = rule; entries = joined
 abbrev pub entries_at : Members → List ℕ → Entries
 entries_at members key = map_on bytes_cmp (λ member. get members (key, member)) (map (λ q. q.1) (keys members))
 
--- the members after a new operation
-abbrev pub members_after : Operation → Members → Members
-members_after o members = put_entry members (place_of o) (entry_after o.act o.site o.n o.seen (entry_at members (place_of o)))
+-- the members after the effect of a new operation at a place
+abbrev pub members_after : Effect → Place → Members → Members
+members_after e q members = put_entry members q (affected e (entry_at members q))
 
 -- what two sides with these vectors have together
 abbrev pub members_joined : List ℕ → List ℕ → Members → Members → Members

@@ -6,6 +6,7 @@ mod faults;
 mod joins;
 mod lending;
 mod listing;
+mod making;
 mod merging;
 mod queues;
 mod readings;

@@ -1,10 +1,12 @@
-ghost use Rattle.std.specs.Prelude.{◌≡◌, ◌≢◌, ◌↔◌, ◌∷◌, [], IfNone, IfOk, IfSome, IsTrue, List, None, Some, ℕ, OnErr, OnOk, length, option_map};
+ghost use Rattle.std.specs.Prelude.{◌≡◌, ◌≢◌, ◌≤◌, ◌↔◌, ◌∷◌, [], IfNone, IfOk, IfSome, IsTrue, List, None, Some, ℕ, OnErr, OnOk, length, option_map};
 ghost use Rattle.std.specs.FinMap as map;
 ghost use Rattle.zq_dots.specs.Rule.{rule_of};
-ghost use Rattle.zq_model.specs.Image.{entry_at, is_bare, place_of, put_entry};
+ghost use Rattle.zq_model.specs.Image.{entry_at, is_bare, put_entry};
 ghost use Rattle.zq_model.specs.Queue.{queue_of};
 ghost use Rattle.zq_model.specs.Score.{score_of};
-ghost use Rattle.zq_queue.specs.Entries.{HasRoomFor, bytes_cmp, entries_after, set_entry};
+ghost use Rattle.zq_model.specs.Sets.{LAST};
+ghost use Rattle.zq_queue.specs.Effects.{HasRoom, entries_after};
+ghost use Rattle.zq_queue.specs.Entries.{bytes_cmp, entry_in, set_entry};
 ghost use Rattle.zq_queue.specs.Queued.{Queued};
 ghost use Rattle.zq_queue.specs.Listed.{listed};
 ghost use Rattle.zq_shard.specs.Queues.{AreQueues, HasAt, and_then, entries_at, entries_in, members_after, or_none, unless_empty};
@@ -12,10 +14,10 @@ ghost use Rattle.zq_shard.specs.Queues.{AreQueues, HasAt, and_then, entries_at, 
 use indexmap::IndexMap;
 use std::alloc::{AllocError, Global};
 use std::marker::Model;
-use zq_dots::{Op, Rule, Vector};
+use zq_dots::Rule;
 use zq_entry::Entry;
 use zq_posheap::{Name, NameRef, Seeded};
-use zq_queue::Queue;
+use zq_queue::{Effect, Queue};
 
 /// The keys of a heap with their queues. A key without members is not there.
 #[derive(Drop)]
@@ -94,15 +96,22 @@ impl Queues {
         }
     }
 
-    /// Takes a new operation, and answers what its member had.
-    pub fn take(&mut self, alloc: Global, op: &Op) -> Result<Option<Entry>, AllocError>
-        requires { HasRoomFor op.now.operation (entries_at self.old.members op.now.operation.key) }
+    /// Takes the effect of a new operation on a member of a key, and answers what the member had.
+    pub fn take(
+        &mut self,
+        alloc: Global,
+        key: &[u8],
+        member: &[u8],
+        effect: &Effect<'_>,
+    ) -> Result<Option<Entry>, AllocError>
+        requires counter { (1 ≤ effect.now.dot.n) × (effect.now.dot.n ≤ LAST) }
+        requires room { HasRoom effect.now (entry_at self.old.members (key.now, member.now)) }
         ensures rule { self.new.rule ≡ self.old.rule }
-        ensures before { IfOk result (λ before. before ≡ map.get self.old.members (place_of op.now.operation)) }
-        ensures taken { OnOk result (self.new.members ≡ members_after op.now.operation self.old.members) }
+        ensures before { IfOk result (λ before. before ≡ map.get self.old.members (key.now, member.now)) }
+        ensures taken { OnOk result (self.new.members ≡ members_after effect.now (key.now, member.now) self.old.members) }
         ensures refused { OnErr result (self.new ≡ self.old) }
     {
-        take(&mut self.queues, alloc, self.rule, op)
+        take(&mut self.queues, alloc, self.rule, key, member, effect)
     }
 
     /// Gives a member of a key this entry, and takes it out where there is none.
@@ -141,30 +150,32 @@ impl Queues {
     }
 }
 
-/// Takes a new operation, and answers what its member had.
+/// Takes the effect of a new operation on a member of a key, and answers what the member had.
 fn take(
     queues: &mut IndexMap<Name, Queue, Seeded>,
     alloc: Global,
     rule: Rule,
-    op: &Op,
+    key: &[u8],
+    member: &[u8],
+    effect: &Effect<'_>,
 ) -> Result<Option<Entry>, AllocError>
-    requires room { HasRoomFor op.now.operation (entries_in queues.old.entries op.now.operation.key) }
+    requires counter { (1 ≤ effect.now.dot.n) × (effect.now.dot.n ≤ LAST) }
+    requires room { HasRoom effect.now (entry_in (entries_in queues.old.entries key.now) member.now) }
     requires kept { AreQueues (rule_of rule) queues.old.entries }
-    ensures before { IfOk result (λ before. before ≡ map.get (entries_in queues.old.entries op.now.operation.key) op.now.operation.member) }
-    ensures taken { OnOk result (HasAt op.now.operation.key (unless_empty (record { rule = rule_of rule; entries = entries_after op.now.operation (entries_in queues.old.entries op.now.operation.key) }))
+    ensures before { IfOk result (λ before. before ≡ map.get (entries_in queues.old.entries key.now) member.now) }
+    ensures taken { OnOk result (HasAt key.now (unless_empty (record { rule = rule_of rule; entries = entries_after effect.now member.now (entries_in queues.old.entries key.now) }))
         queues.old.entries queues.new.entries) }
     ensures refused { OnErr result (queues.new.entries ≡ queues.old.entries) }
 {
-    let key = op.key();
     if let Some(queue) = queues.get_mut(NameRef(key)) {
-        let before = queue.take(alloc, op)?;
+        let before = queue.take(alloc, member, effect)?;
         if queue.is_empty() {
             drop(queues.swap_remove(NameRef(key)));
         }
         return Ok(before);
     }
     let mut queue = Queue::new(alloc, rule, *queues.hasher());
-    drop(queue.take(alloc, op)?);
+    drop(queue.take(alloc, member, effect)?);
     add(queues, alloc, key, queue)?;
     Ok(None)
 }

@@ -1,57 +1,25 @@
-//! How a shard makes and takes operations.
-ghost use Rattle.std.specs.Prelude.{◌≡◌, ◌≢◌, ◌≤◌, ◌↔◌, ◌∷◌, IfErr, IfOk, IfSome, IsErrOf, IsOk, List, OnErr, OnOk, false, length, slice_index};
+//! How a shard takes operations and undoes them.
+ghost use Rattle.std.specs.Prelude.{◌≡◌, ◌↔◌, ◌∷◌, IfErr, IfOk, IfSome, IsErrOf, IsOk, List, OnErr, OnOk, false};
 ghost use Rattle.std.specs.FinMap as map;
-ghost use Rattle.zq_dots.specs.Act.{act_of};
-ghost use Rattle.zq_dots.specs.Placed.{IsRanged, LONGEST};
+ghost use Rattle.zq_dots.specs.Placed.{IsRanged};
 ghost use Rattle.zq_model.specs.Bounded.{IsBounded};
-ghost use Rattle.zq_model.specs.Heaps as place;
 ghost use Rattle.zq_model.specs.Image.{image_after, image_taken, is_bare, place_of};
 ghost use Rattle.zq_model.specs.Operation.{Operation};
 ghost use Rattle.zq_model.specs.Sets as sets;
-ghost use Rattle.zq_model.specs.Sets.{IsWorld, LAST, taken_of};
+ghost use Rattle.zq_model.specs.Sets.{IsWorld, taken_of};
 ghost use Rattle.zq_shard.specs.Queues.{or_none};
-ghost use Rattle.zq_shard.specs.Shard.{HoldsImage, IsOfHeap, next_operation, with_entry, with_vector};
+ghost use Rattle.zq_shard.specs.Shard.{HoldsImage, IsOfHeap, with_entry, with_vector};
 ghost use Rattle.zq_shard.specs.Taken.{answer_of};
 
-use crate::faults::{MakeFault, TakeFault};
+use crate::faults::TakeFault;
 use crate::shard::Shard;
 use crate::taken::Taken;
 use std::alloc::{AllocError, Global};
-use zq_dots::{Act, Op, SiteNo, Vector, heap_of};
+use zq_dots::{Op, Vector, heap_of};
 use zq_entry::Entry;
+use zq_queue::Effect;
 
 impl Shard {
-    /// The next operation of a site, which is not yet taken. Two drafts of a site with nothing
-    /// taken in between have the same dot: at most one of them may be put in or sent.
-    ///
-    /// `WrongHeap` where the member lies in another heap, else `Worn` where the site's counter is at
-    /// its last value, else `NoMemory` where a copy of the key or the member found no memory.
-    pub fn draft(
-        &self,
-        alloc: Global,
-        site: SiteNo,
-        key: &[u8],
-        member: &[u8],
-        act: Act,
-    ) -> Result<Op, MakeFault>
-        requires key { length key.now ≤ LONGEST }
-        requires member { length member.now ≤ LONGEST }
-        ensures wrong_heap { IsErrOf result MakeFault.WrongHeap ↔ (place.heap_of key.now member.now self.now.heaps ≢ self.now.heap) }
-        ensures worn { IsErrOf result MakeFault.Worn ↔ ((place.heap_of key.now member.now self.now.heaps ≡ self.now.heap) × (slice_index self.now.image.vector site ≡ LAST)) }
-        ensures made { IfOk result (λ op. op ≡ next_operation self.now site key.now member.now (act_of act)) }
-        ensures placed { IfOk result (λ op. IsOfHeap self.now op) }
-        ensures new { IfOk result (λ op. taken_of self.now.image.vector op.operation ≡ sets.New) }
-        ensures sound { IfOk result (λ op. IsRanged op) }
-    {
-        if heap_of(key, member, self.heaps) != self.heap {
-            return Err(MakeFault::WrongHeap);
-        }
-        let dot = self.vector.next(site)?;
-        let key = Vec::from_slice(alloc, key)?;
-        let member = Vec::from_slice(alloc, member)?;
-        Ok(Op::new(self.heap, self.heaps, dot, self.vector, key, member, act))
-    }
-
     /// Takes an operation of this heap that is New here, and answers what its member had before.
     /// Where memory is short nothing changes.
     pub fn put_in(&mut self, alloc: Global, op: &Op) -> Result<Option<Entry>, AllocError>
@@ -66,7 +34,12 @@ impl Shard {
         ensures refused { OnErr result (self.new ≡ self.old) }
     {
         ranged(op);
-        let before = self.queues.take(alloc, op)?;
+        let effect = Effect {
+            dot: op.dot(),
+            act: op.act(),
+            seen: op.seen(),
+        };
+        let before = self.queues.take(alloc, op.key(), op.member(), &effect)?;
         let dot = op.dot();
         self.vector.set(dot.site, dot.n);
         Ok(before)
@@ -102,35 +75,6 @@ impl Shard {
         ensures image { self.new.image ≡ with_vector vector.now self.old.image }
     {
         self.vector = *vector;
-    }
-
-    /// Makes the next operation of a site and takes it. Faults are those of [`Shard::draft`], and
-    /// `NoMemory` also where the image cannot grow; after each nothing has changed.
-    pub fn make(
-        &mut self,
-        alloc: Global,
-        site: SiteNo,
-        key: &[u8],
-        member: &[u8],
-        act: Act,
-    ) -> Result<Op, MakeFault>
-        requires key { length key.now ≤ LONGEST }
-        requires member { length member.now ≤ LONGEST }
-        ensures wrong_heap { IsErrOf result MakeFault.WrongHeap ↔ (place.heap_of key.now member.now self.old.heaps ≢ self.old.heap) }
-        ensures worn { IsErrOf result MakeFault.Worn ↔ ((place.heap_of key.now member.now self.old.heaps ≡ self.old.heap) × (slice_index self.old.image.vector site ≡ LAST)) }
-        ensures made { IfOk result (λ op. op ≡ next_operation self.old site key.now member.now (act_of act)) }
-        ensures placed { IfOk result (λ op. IsOfHeap self.old op) }
-        ensures sound { IfOk result (λ op. IsRanged op) }
-        ensures heap { self.new.heap ≡ self.old.heap }
-        ensures heaps { self.new.heaps ≡ self.old.heaps }
-        ensures rule { self.new.rule ≡ self.old.rule }
-        ensures taken { IfOk result (λ op. self.new.image ≡ image_after op.operation self.old.image) }
-        ensures set { IfOk result (λ op. (S : List Operation) → HoldsImage self.old S → HoldsImage self.new (op.operation ∷ S)) }
-        ensures refused { OnErr result (self.new ≡ self.old) }
-    {
-        let op = self.draft(alloc, site, key, member, act)?;
-        drop(self.put_in(alloc, &op)?);
-        Ok(op)
     }
 
     /// What becomes of an operation that is handed to this heap: `Known` where the vector has its

@@ -1,12 +1,13 @@
 //! A queue at one side, with the vector of what the side has seen.
-ghost use Rattle.std.specs.Prelude.{false, ◌≡◌};
+ghost use Rattle.std.specs.Prelude.{false, ◌≡◌, ◌≤◌};
 ghost use Rattle.zq_dots.specs.Act.{act_of};
 ghost use Rattle.zq_model.specs.Operation.{is_bump};
+ghost use Rattle.zq_model.specs.Sets.{LAST};
 
-use crate::Queue;
+use crate::{Effect, Queue};
 use std::alloc::Global;
 use std::test::Fail;
-use zq_dots::{Act, Op, Rule, SiteNo, Vector};
+use zq_dots::{Act, Dot, Rule, SiteNo, Vector};
 use zq_entry::Entry;
 use zq_posheap::Seeded;
 
@@ -35,18 +36,26 @@ impl Side {
             Ok(dot) => dot,
             Err(_) => return Err("a counter".into()),
         };
-        let n = dot.n;
-        let op = Op::new(
-            0,
-            1,
-            dot,
-            self.seen,
-            vec![in alloc; b'q']?,
-            vec![in alloc; member]?,
-            act,
-        );
-        let before = self.queue.take(alloc, &op)?;
-        self.seen.set(self.site, n);
-        Ok(before)
+        put(&mut self.queue, &mut self.seen, alloc, dot, member, act)
     }
+}
+
+/// Takes an act on a member of one byte that has seen what the vector has, and answers what the member had. The vector
+/// comes to know it.
+fn put(
+    queue: &mut Queue,
+    seen: &mut Vector,
+    alloc: Global,
+    dot: Dot,
+    member: u8,
+    act: Act,
+) -> Result<Option<Entry>, Fail>
+    requires counter { (1 ≤ dot.n) × (dot.n ≤ LAST) }
+    requires act { is_bump (act_of act) ≡ false }
+{
+    let Dot { site, n } = dot;
+    let effect = Effect { dot, act, seen };
+    let before = queue.take(alloc, &[member], &effect)?;
+    seen.set(site, n);
+    Ok(before)
 }

@@ -4,7 +4,7 @@ use Rattle.std.specs.Int.{w128}
 use mir.Val.{SFits, of_z, to_z}
 use Rattle.zq_entry.specs.Sparse.{head_of, lower}
 use Rattle.zq_entry.specs.Sums.{dense_sums, sum_joined}
-use Rattle.zq_entry.proofs.MergeLemmas.{merged, merged-done, rising-merged}
+use Rattle.zq_entry.proofs.MergeLemmas.{merged-done, rising-merged}
 use Rattle.zq_entry.proofs.SumLemmas.{joined-dense, nothing-joined}
 use Rattle.zq_entry.proofs.SumWalks.{turn}
 use Rattle.zq_entry.proofs.sums.joined_sums.Goals as goal
@@ -32,18 +32,21 @@ loop-site-preserved c =
     (sym c.in_default-joined_sum.is ∙ (c.joined_sum.ensures ∙ (ap (λ x. sum_joined u v s x c.cut-their_sum.result.0) c.cut-my_sum.ensures.first ∙ ap (sum_joined u v s _) c.cut-their_sum.ensures.first))) (sym (append-nil c.loop-site.items.items)) in
     rw (c.cut-my_sum.ensures.rest, c.cut-their_sum.ensures.rest) (record { joined = t.joined ∙ c.loop-site.invariant.joined; each = t.each; mine = t.mine; theirs = t.theirs })
 
-whole : (c : goal.In_default) → c.loop-site.items.items ≡ merged (sum_joined c.args.mine.now c.args.theirs.now) c.args.my_sums.now c.args.their_sums.now
-whole c =
+pub of-requires : goal.of-requires
+of-requires c =
     let u = c.args.mine.now in
     let v = c.args.theirs.now in
     let none = ap (λ x. lower x (head_of c.loop-site.their_rest.now)) (sym c.head_site.ensures) ∙ (ap (lower c.head_site.result) (sym c.head_site-in-loop-site.ensures) ∙ (sym c.lower_site.ensures ∙ c.in_default.is)) in
-    sym (merged-done (sum_joined u v) c.loop-site.items.items c.loop-site.my_rest.now c.loop-site.their_rest.now (nothing-joined u v) none) ∙ c.loop-site.invariant.joined
-
-pub invariant_of-result : goal.invariant_of-result
-invariant_of-result c = record {
-  rising = rw (whole c) (rising-merged (sum_joined c.args.mine.now c.args.theirs.now) c.args.my_sums.now c.args.their_sums.now);
-  each = c.loop-site.invariant.each;
-}
+    let whole = sym (merged-done (sum_joined u v) c.loop-site.items.items c.loop-site.my_rest.now c.loop-site.their_rest.now (nothing-joined u v) none) ∙ c.loop-site.invariant.joined in
+    record {
+      rising = rw whole (rising-merged (sum_joined u v) c.args.my_sums.now c.args.their_sums.now);
+      each = c.loop-site.invariant.each;
+    }
 
 pub returns : goal.returns
-returns c = ap dense_sums (whole c) ∙ joined-dense c.args.mine.now c.args.theirs.now c.args.my_sums.now c.args.their_sums.now
+returns c =
+    let u = c.args.mine.now in
+    let v = c.args.theirs.now in
+    let none = ap (λ x. lower x (head_of c.loop-site.their_rest.now)) (sym c.head_site.ensures) ∙ (ap (lower c.head_site.result) (sym c.head_site-in-loop-site.ensures) ∙ (sym c.lower_site.ensures ∙ c.in_default.is)) in
+    let whole = sym (merged-done (sum_joined u v) c.loop-site.items.items c.loop-site.my_rest.now c.loop-site.their_rest.now (nothing-joined u v) none) ∙ c.loop-site.invariant.joined in
+    c.of.ensures ∙ ap dense_sums whole ∙ joined-dense u v c.args.my_sums.now c.args.their_sums.now

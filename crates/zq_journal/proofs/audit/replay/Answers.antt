@@ -6,27 +6,27 @@ use Rattle.zq_journal.proofs.Wholes.{length_over}
 use Rattle.zq_journal.specs.Records.{records_in, written_in}
 use Rattle.zq_journal.proofs.audit.replay.Goals as goal
 
-pub take-requires-clause-own : goal.take-requires-clause-own
-take-requires-clause-own c =
+pub put_in-requires-clause-own : goal.put_in-requires-clause-own
+put_in-requires-clause-own c =
     own_here c.args.shard.now c.loop-record.shard c.args.tail.now c.loop-record.record-index c.record-item.result (omega arith) c.record-item.is c.loop-record.invariant.heap
     c.loop-record.invariant.heaps c.loop-record.invariant.image c.loop-record.invariant.rest c.requires.each
 
-pub take-requires-clause-new : goal.take-requires-clause-new
-take-requires-clause-new c =
+pub put_in-requires-clause-new : goal.put_in-requires-clause-new
+put_in-requires-clause-new c =
     new_here c.args.shard.now c.loop-record.shard c.args.tail.now c.loop-record.record-index c.record-item.result (omega arith) c.record-item.is c.loop-record.invariant.heap
     c.loop-record.invariant.heaps c.loop-record.invariant.image c.loop-record.invariant.rest c.requires.over
 
 pub loop-record-preserved : goal.loop-record-preserved
 loop-record-preserved c = record {
-  heap = c.in_ok-take.ensures.heap ∙ c.loop-record.invariant.heap;
-  heaps = c.in_ok-take.ensures.heaps ∙ c.loop-record.invariant.heaps;
-  rule = c.in_ok-take.ensures.rule ∙ c.loop-record.invariant.rule;
+  heap = c.in_ok-put_in.ensures.heap ∙ c.loop-record.invariant.heap;
+  heaps = c.in_ok-put_in.ensures.heaps ∙ c.loop-record.invariant.heaps;
+  rule = c.in_ok-put_in.ensures.rule ∙ c.loop-record.invariant.rule;
   image =
       image_here c.args.shard.now c.loop-record.shard c.args.tail.now c.loop-record.record-index c.record-item.result (omega arith) c.record-item.is c.loop-record.invariant.heap
-      c.loop-record.invariant.heaps c.loop-record.invariant.image c.loop-record.invariant.rest c.take.new.shard c.in_ok-take.ensures.image;
+      c.loop-record.invariant.heaps c.loop-record.invariant.image c.loop-record.invariant.rest c.put_in.new.shard c.in_ok-put_in.ensures.image;
   rest =
       rest_here c.args.shard.now c.loop-record.shard c.args.tail.now c.loop-record.record-index c.record-item.result (omega arith) c.record-item.is c.loop-record.invariant.heap
-      c.loop-record.invariant.heaps c.loop-record.invariant.image c.loop-record.invariant.rest c.take.new.shard c.in_ok-take.ensures.image;
+      c.loop-record.invariant.heaps c.loop-record.invariant.image c.loop-record.invariant.rest c.put_in.new.shard c.in_ok-put_in.ensures.image;
 }
 
 pub returns-clause-image : goal.returns-clause-image

@@ -1,4 +1,4 @@
-use Rattle.std.proofs.Common.{List, [], ap, arith, subst, sym, true, ◌++◌, ◌∙◌, ◌∷◌, ◌≡◌, ◌≤◌}
+use Rattle.std.proofs.Common.{List, [], ap, arith, refl, subst, sym, true, ◌++◌, ◌∙◌, ◌∷◌, ◌≡◌, ◌≤◌}
 use Rattle.zq_history.proofs.NewRecords.{change_is_new}
 use Rattle.zq_history.specs.Books.{Book, is_change_over, recorded}
 use Rattle.zq_history.specs.Reach.{IsWorked}
@@ -6,24 +6,26 @@ use Rattle.zq_journal.proofs.BoundedTails.{bounded_state}
 use Rattle.zq_journal.proofs.Entered.{IsPutIn, entered_is, entered_stands, next_from, record_from}
 use Rattle.zq_journal.proofs.Lasts.{longer_is}
 use Rattle.zq_journal.proofs.Missing.{operation_is}
-use Rattle.zq_journal.specs.Arriving.{arrived}
 use Rattle.zq_journal.specs.BookView.{book_of, records_of}
 use Rattle.zq_journal.specs.Books.{step_of}
-use Rattle.zq_journal.specs.Records.{Change, IsRecordable, Record, change_of, placed_in, records_in}
+use Rattle.zq_journal.specs.Records.{Change, IsRecordable, Record, change_of, placed_in, records_in, whole}
 use Rattle.zq_journal.specs.Standing.{IsStanding}
 use Rattle.zq_journal.specs.declared.records.Record as code
 use Rattle.zq_model.specs.Sets.{New, taken_of}
 use Rattle.zq_shard.specs.Shard.{HeapImage}
 use Rattle.zq_journal.proofs.book.Book.enter.Goals as goal
 
+pub put_in-requires-clause-own : goal.put_in-requires-clause-own
+put_in-requires-clause-own c =
+    subst (λ (q : Book). IsRecordable q.heap q.heaps (placed_in (whole q.heap q.heaps q.state.vector c.args.what))) (sym c.self.view_is) c.requires.recordable
+
 pub put_in-requires-clause-new : goal.put_in-requires-clause-new
 put_in-requires-clause-new c =
-    let arrival : Change = arrived c.args.arrival in
-    let over : is_change_over c.self.inside.shard.heap c.self.inside.shard.image.vector (change_of arrival) ≡ true =
-    ap (λ q. is_change_over q.heap q.state.vector (change_of arrival)) c.self.view_is ∙ c.requires.over in
-    ap (λ p. taken_of c.self.inside.shard.image.vector p.operation) c.op.ensures
-    ∙ subst (λ o. taken_of c.self.inside.shard.image.vector o ≡ New) (operation_is arrival)
-    (change_is_new c.self.inside.shard.heap c.self.inside.shard.image.vector (change_of arrival) over).1
+    let s : HeapImage = c.self.inside.shard in
+    let change : Change = whole s.heap s.heaps s.image.vector c.args.what in
+    let over : is_change_over s.heap s.image.vector (change_of change) ≡ true =
+    subst (λ (q : Book). is_change_over q.heap q.state.vector (change_of (whole q.heap q.heaps q.state.vector c.args.what)) ≡ true) (sym c.self.view_is) c.requires.over in
+    subst (λ o. taken_of s.image.vector o ≡ New) (operation_is change) (change_is_new s.heap s.image.vector (change_of change) over).1
 
 pub invariant_of-self-in_err-before : goal.invariant_of-self-in_err-before
 invariant_of-self-in_err-before c =
@@ -35,57 +37,58 @@ pub invariant_of-self-2 : goal.invariant_of-self-2
 invariant_of-self-2 c =
     let s : HeapImage = c.self.inside.shard in
     let b : Book = book_of c.self.inside in
-    let change : Change = arrived c.args.arrival in
+    let change : Change = whole s.heap s.heaps s.image.vector c.args.what in
     let r : Record = record { stamp = c.args.at; what = change; before = c.in_ok-before.before } in
-    let over : is_change_over b.heap b.state.vector (change_of change) ≡ true = ap (λ q. is_change_over q.heap q.state.vector (change_of change)) c.self.view_is ∙ c.requires.over in
-    let own : IsRecordable s.heap s.heaps (placed_in change) = subst (λ (q : Book). IsRecordable q.heap q.heaps (placed_in change)) (sym c.self.view_is) c.requires.recordable in
-    let put : IsPutIn s c.put_in.new.self r c.op.result.now = record {
-      op = c.op.ensures;
+    let over : is_change_over b.heap b.state.vector (change_of change) ≡ true =
+    subst (λ (q : Book). is_change_over q.heap q.state.vector (change_of (whole q.heap q.heaps q.state.vector c.args.what)) ≡ true) (sym c.self.view_is) c.requires.over in
+    let own : IsRecordable s.heap s.heaps (placed_in change) =
+    subst (λ (q : Book). IsRecordable q.heap q.heaps (placed_in (whole q.heap q.heaps q.state.vector c.args.what))) (sym c.self.view_is) c.requires.recordable in
+    let put : IsPutIn s c.put_in.new.shard r (placed_in change) = record {
+      op = refl;
       heap = c.in_ok-before.ensures.heap;
       heaps = c.in_ok-before.ensures.heaps;
       rule = c.in_ok-before.ensures.rule;
-      image = c.in_ok-before.ensures.taken;
+      image = c.in_ok-before.ensures.image;
       had = c.in_ok-before.ensures.before;
       bounded = bounded_state s c.self.inside.vector (records_of c.self.inside) c.self.inside.stamp c.self.inside.count c.self.invariant;
     } in
-    let after : List Record = records_in c.put_in.new.self c.self.inside.vector c.push_reserved.new.self.items in
-    let pushed : code.Record = record { stamp = c.args.at; what = c.kept.result; before = c.in_ok-before.before } in
+    let after : List Record = records_in c.put_in.new.shard c.self.inside.vector c.push_reserved.new.self.items in
+    let pushed : code.Record = record { stamp = c.args.at; what = c.args.what; before = c.in_ok-before.before } in
     let longer : after ≡ records_of c.self.inside ++ r ∷ [] =
-    longer_is s c.put_in.new.self c.self.inside.vector c.self.inside.tail.items c.push_reserved.new.self.items pushed change c.self.inside.stamp c.self.inside.count c.self.invariant.book own over
-    c.kept.ensures c.in_ok-before.ensures.heap c.in_ok-before.ensures.heaps (c.push_reserved.ensures.items ∙ ap (λ xs. xs ++ pushed ∷ []) c.in_ok-reserve.ensures.items) in
+    longer_is s c.put_in.new.shard c.self.inside.vector c.self.inside.tail.items c.push_reserved.new.self.items pushed c.self.inside.stamp c.self.inside.count c.self.invariant.book
+    c.in_ok-before.ensures.heap c.in_ok-before.ensures.heaps (c.push_reserved.ensures.items ∙ ap (λ xs. xs ++ pushed ∷ []) c.in_ok-reserve.ensures.items) in
     let stamp_is : b.stamp ≡ c.args.self.now.stamp = ap (λ q. q.stamp) c.self.view_is in
     let count_is : b.count ≡ c.args.self.now.count = ap (λ q. q.count) c.self.view_is in
     let rises : b.stamp ≤ c.args.at = omega (arith, stamp_is, c.requires.stamp) in
-    entered_stands s c.put_in.new.self c.self.inside.vector (records_of c.self.inside) after r c.self.inside.stamp c.self.inside.count (next_from s c.put_in.new.self r c.op.result.now put) longer
-    c.self.invariant (c.keeping.ensures.recording b c.args.at (change_of change) rises over c.self.invariant.book) (record_from s c.put_in.new.self r c.op.result.now put own) c.requires.bounded
+    entered_stands s c.put_in.new.shard c.self.inside.vector (records_of c.self.inside) after r c.self.inside.stamp c.self.inside.count (next_from s c.put_in.new.shard r (placed_in change) put) longer
+    c.self.invariant (c.keeping.ensures.recording b c.args.at (change_of change) rises over c.self.invariant.book) (record_from s c.put_in.new.shard r (placed_in change) put own) c.requires.bounded
     (omega (arith, count_is, c.requires.count))
 
 pub returns-clause-recorded : goal.returns-clause-recorded
 returns-clause-recorded c =
     let s : HeapImage = c.self.inside.shard in
     let b : Book = book_of c.self.inside in
-    let change : Change = arrived c.args.arrival in
+    let change : Change = whole s.heap s.heaps s.image.vector c.args.what in
     let r : Record = record { stamp = c.args.at; what = change; before = c.in_ok-before.before } in
-    let over : is_change_over b.heap b.state.vector (change_of change) ≡ true = ap (λ q. is_change_over q.heap q.state.vector (change_of change)) c.self.view_is ∙ c.requires.over in
-    let own : IsRecordable s.heap s.heaps (placed_in change) = subst (λ (q : Book). IsRecordable q.heap q.heaps (placed_in change)) (sym c.self.view_is) c.requires.recordable in
-    let put : IsPutIn s c.put_in.new.self r c.op.result.now = record {
-      op = c.op.ensures;
+    let put : IsPutIn s c.put_in.new.shard r (placed_in change) = record {
+      op = refl;
       heap = c.in_ok-before.ensures.heap;
       heaps = c.in_ok-before.ensures.heaps;
       rule = c.in_ok-before.ensures.rule;
-      image = c.in_ok-before.ensures.taken;
+      image = c.in_ok-before.ensures.image;
       had = c.in_ok-before.ensures.before;
       bounded = bounded_state s c.self.inside.vector (records_of c.self.inside) c.self.inside.stamp c.self.inside.count c.self.invariant;
     } in
-    let after : List Record = records_in c.put_in.new.self c.self.inside.vector c.push_reserved.new.self.items in
-    let pushed : code.Record = record { stamp = c.args.at; what = c.kept.result; before = c.in_ok-before.before } in
+    let after : List Record = records_in c.put_in.new.shard c.self.inside.vector c.push_reserved.new.self.items in
+    let pushed : code.Record = record { stamp = c.args.at; what = c.args.what; before = c.in_ok-before.before } in
     let longer : after ≡ records_of c.self.inside ++ r ∷ [] =
-    longer_is s c.put_in.new.self c.self.inside.vector c.self.inside.tail.items c.push_reserved.new.self.items pushed change c.self.inside.stamp c.self.inside.count c.self.invariant.book own over
-    c.kept.ensures c.in_ok-before.ensures.heap c.in_ok-before.ensures.heaps (c.push_reserved.ensures.items ∙ ap (λ xs. xs ++ pushed ∷ []) c.in_ok-reserve.ensures.items) in
-    entered_is s c.put_in.new.self c.self.inside.vector (records_of c.self.inside) after r c.self.inside.stamp c.self.inside.count (next_from s c.put_in.new.self r c.op.result.now put) longer
-    ∙ ap (λ q. recorded q c.args.at (change_of change)) c.self.view_is
+    longer_is s c.put_in.new.shard c.self.inside.vector c.self.inside.tail.items c.push_reserved.new.self.items pushed c.self.inside.stamp c.self.inside.count c.self.invariant.book
+    c.in_ok-before.ensures.heap c.in_ok-before.ensures.heaps (c.push_reserved.ensures.items ∙ ap (λ xs. xs ++ pushed ∷ []) c.in_ok-reserve.ensures.items) in
+    entered_is s c.put_in.new.shard c.self.inside.vector (records_of c.self.inside) after r c.self.inside.stamp c.self.inside.count (next_from s c.put_in.new.shard r (placed_in change) put) longer
+    ∙ ap (λ (q : Book). recorded q c.args.at (change_of (whole q.heap q.heaps q.state.vector c.args.what))) c.self.view_is
 
 pub returns-clause-worked : goal.returns-clause-worked
 returns-clause-worked c = λ a steps is.
-    subst (λ (q : Book). IsWorked q a c.args.at (steps ++ step_of c.args.at (change_of (arrived c.args.arrival)) ∷ [])) (sym (returns-clause-recorded c))
-    (c.working.ensures.records c.args.self.now a c.args.at steps (change_of (arrived c.args.arrival)) is c.requires.over)
+    let change : Change = whole c.args.self.now.heap c.args.self.now.heaps c.args.self.now.state.vector c.args.what in
+    subst (λ (q : Book). IsWorked q a c.args.at (steps ++ step_of c.args.at (change_of change) ∷ [])) (sym (returns-clause-recorded c))
+    (c.working.ensures.records c.args.self.now a c.args.at steps (change_of change) is c.requires.over)

@@ -1,11 +1,12 @@
 use Rattle.std.proofs.Common.{ap, sym, ◌∙◌}
+use Rattle.std.proofs.lemmas.Int.{to_z-of_z}
+use Rattle.std.specs.Int.{w128}
 use Rattle.std.specs.List.{position}
 use Rattle.std.specs.Ordering.{is_lt}
 use Rattle.std.specs.Prelude.{Some, count_by, ℤ}
 use Rattle.zq_dots.specs.Rule.{rule_of}
 use Rattle.zq_model.specs.Meaning.{scored_cmp}
 use Rattle.zq_model.specs.Score.{score_of}
-use Rattle.zq_queue.proofs.Changing.{handed_on}
 use Rattle.zq_queue.proofs.Listeds.{listed_in_order}
 use Rattle.zq_queue.proofs.Ranks.{no_rank, rank_of}
 use Rattle.zq_queue.specs.Entries.{entry_in}
@@ -26,6 +27,6 @@ returns c =
     let x = c.in_ok-score.score in
     let score = ap (λ q. score_of q.rule (entry_in q.entries m)) c.self.view_is ∙ sym c.standing.ensures.score ∙ c.in_ok-score.was in
     ap (λ n. Some n) (c.count_before.ensures _ (listed_in_order rule held c.self.invariant)
-    ∙ ap (λ (y : ℤ). count_by (λ z. is_lt (scored_cmp z (y, m))) (listed rule (entries_of held))) (handed_on x c.in_ok-score.ensures.within))
+    ∙ ap (λ (y : ℤ). count_by (λ z. is_lt (scored_cmp z (y, m))) (listed rule (entries_of held))) (to_z-of_z w128 x c.in_ok-score.ensures.fits))
     ∙ rank_of rule held c.self.invariant m x score
     ∙ ap (λ q. position (is_of_member m) (listed q.rule q.entries)) c.self.view_is

@@ -1,11 +1,12 @@
 use Rattle.std.proofs.Common.{ap, arith, sym, ◌∙◌}
+use Rattle.std.proofs.lemmas.Int.{to_z-of_z}
+use Rattle.std.specs.Int.{w128}
 use Rattle.std.specs.List.{position}
 use Rattle.std.specs.Ordering.{is_lt}
 use Rattle.std.specs.Prelude.{Some, count_by, reverse, ◌-◌, ℤ}
 use Rattle.zq_dots.specs.Rule.{rule_of}
 use Rattle.zq_model.specs.Meaning.{scored_cmp}
 use Rattle.zq_model.specs.Score.{score_of}
-use Rattle.zq_queue.proofs.Changing.{handed_on}
 use Rattle.zq_queue.proofs.Listeds.{length-listed, listed_in_order}
 use Rattle.zq_queue.proofs.Ranks.{no_turned_rank, rank_within, turned_rank_of}
 use Rattle.zq_queue.specs.Entries.{entry_in}
@@ -26,7 +27,7 @@ overflow_sub-result c =
     let x = c.in_ok-score.score in
     let score = ap (λ q. score_of q.rule (entry_in q.entries m)) c.self.view_is ∙ sym c.standing.ensures.score ∙ c.in_ok-score.was in
     let before = c.count_before-before.ensures _ (listed_in_order rule held c.self.invariant)
-    ∙ ap (λ (y : ℤ). count_by (λ z. is_lt (scored_cmp z (y, m))) (listed rule (entries_of held))) (handed_on x c.in_ok-score.ensures.within) in
+    ∙ ap (λ (y : ℤ). count_by (λ z. is_lt (scored_cmp z (y, m))) (listed rule (entries_of held))) (to_z-of_z w128 x c.in_ok-score.ensures.fits) in
     omega (arith, before, rank_within rule held c.self.invariant m x score, c.len.ensures.number, length-listed rule held c.self.invariant)
 
 pub overflow_sub-result-2 : goal.overflow_sub-result-2
@@ -37,7 +38,7 @@ overflow_sub-result-2 c =
     let x = c.in_ok-score.score in
     let score = ap (λ q. score_of q.rule (entry_in q.entries m)) c.self.view_is ∙ sym c.standing.ensures.score ∙ c.in_ok-score.was in
     let before = c.count_before-before.ensures _ (listed_in_order rule held c.self.invariant)
-    ∙ ap (λ (y : ℤ). count_by (λ z. is_lt (scored_cmp z (y, m))) (listed rule (entries_of held))) (handed_on x c.in_ok-score.ensures.within) in
+    ∙ ap (λ (y : ℤ). count_by (λ z. is_lt (scored_cmp z (y, m))) (listed rule (entries_of held))) (to_z-of_z w128 x c.in_ok-score.ensures.fits) in
     omega (arith, before, rank_within rule held c.self.invariant m x score, c.len.ensures.number, length-listed rule held c.self.invariant)
 
 pub returns : goal.returns
@@ -49,7 +50,7 @@ returns c =
     let x = c.in_ok-score.score in
     let score = ap (λ q. score_of q.rule (entry_in q.entries m)) c.self.view_is ∙ sym c.standing.ensures.score ∙ c.in_ok-score.was in
     let before = c.count_before-before.ensures _ (listed_in_order rule held c.self.invariant)
-    ∙ ap (λ (y : ℤ). count_by (λ z. is_lt (scored_cmp z (y, m))) queue) (handed_on x c.in_ok-score.ensures.within) in
+    ∙ ap (λ (y : ℤ). count_by (λ z. is_lt (scored_cmp z (y, m))) queue) (to_z-of_z w128 x c.in_ok-score.ensures.fits) in
     let long = c.len.ensures.number ∙ sym (length-listed rule held c.self.invariant) in
     (λ k. Some (long k - 1 - before k))
     ∙ turned_rank_of rule held c.self.invariant m x score

@@ -1,7 +1,7 @@
 use Rattle.std.proofs.Common.{ap, ap₂, subst, sym, ◌∙◌, ◌≡◌}
 use Rattle.std.specs.Prelude.{slice_set}
 use Rattle.zq_model.specs.Bounded.{IsBounded}
-use Rattle.zq_model.specs.Image.{image_after}
+use Rattle.zq_model.specs.Image.{entry_after, entry_at, image_after, put_entry}
 use Rattle.zq_model.specs.Sets.{New, taken_of}
 use Rattle.zq_shard.proofs.BoundedSteps.{new_bounded, new_has_room}
 use Rattle.zq_shard.proofs.SetSteps.{new_holds}
@@ -13,13 +13,18 @@ use Rattle.zq_shard.proofs.shard.Shard.put_in.Goals.{After-set}
 -- the image after the operation
 image_is : (c : After-set) → record { vector = c.set.new.self; members = c.take.new.self.members } ≡ image_after c.args.op.now.operation (heap_image_of c.self.inside).image
 image_is c =
+    let old = c.self.inside.queues.members in
     let vector = c.set.ensures ∙ ap₂ (slice_set c.self.inside.vector) c.dot-dot.ensures.site c.dot-dot.ensures.n in
-    λ i. record { vector = vector i; members = c.in_ok-before.ensures.taken i }
+    let members = c.in_ok-before.ensures.taken
+    ∙ (λ i. put_entry old (c.key.ensures.same i, c.member.ensures.same i)
+    (entry_after (c.act.ensures.same i) (c.dot.ensures.site i) (c.dot.ensures.n i) (c.seen.ensures.same i) (entry_at old (c.key.ensures.same i, c.member.ensures.same i)))) in
+    λ i. record { vector = vector i; members = members i }
 
-pub take-requires : goal.take-requires
-take-requires c =
-    new_has_room (heap_image_of c.self.inside) c.args.op.now c.self.invariant c.ranged.ensures
-    (subst (λ (s : HeapImage). taken_of s.image.vector c.args.op.now.operation ≡ New) (sym c.self.view_is) c.requires.new)
+pub take-requires-clause-room : goal.take-requires-clause-room
+take-requires-clause-room c = λ bump.
+    rw (c.dot.ensures.site, c.dot.ensures.n, c.key.ensures.same, c.member.ensures.same)
+    (new_has_room (heap_image_of c.self.inside) c.args.op.now c.self.invariant c.ranged.ensures
+    (subst (λ (s : HeapImage). taken_of s.image.vector c.args.op.now.operation ≡ New) (sym c.self.view_is) c.requires.new))
 
 pub invariant_of-self-2 : goal.invariant_of-self-2
 invariant_of-self-2 c =
