@@ -1,6 +1,6 @@
 -- A move in the one book of its heap: the list with that book after it is what the move makes of the list.
 
-use Rattle.std.proofs.Common.{Bool, List, Some, [], ap, arith, false, inl, inr, refl, set, subst, suc, sym, true, zero, ℕ, ◌<◌, ◌∙◌, ◌∷◌, ◌≡◌, ◌≢◌, ◌≤◌}
+use Rattle.std.proofs.Common.{Bool, List, None, Some, [], ap, arith, false, inl, inr, refl, set, subst, suc, sym, true, zero, ℕ, ◌<◌, ◌∙◌, ◌∷◌, ◌≡◌, ◌≢◌, ◌≤◌}
 use Rattle.std.proofs.lemmas.Bool.{cond-false, cond-true, eqb-true, false_from_ne_true}
 use Rattle.std.proofs.lemmas.Option.{same_Some}
 use Rattle.std.specs.List.{list_any}
@@ -47,7 +47,7 @@ module _ (site stamp : ℕ) (move : Move) where
 
   -- the move leaves the rule and the number of heaps
   pub lending_made : (books : List Book) → lending_of (made site stamp move books) ≡ lent_after site stamp move (lending_of books)
-  lending_made books = λ i. record { rule = rule_made books i; heaps = heaps_made books i; books = made site stamp move books }
+  lending_made books = λ i. record { rule = rule_made books i; heaps = heaps_made books i; books = made site stamp move books; told = None }
 
   -- ---- the one book of the member's heap
 

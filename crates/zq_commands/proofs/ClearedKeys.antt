@@ -11,7 +11,7 @@ use Rattle.zq_commands.specs.Clearing.{Clears, IsLeft}
 use Rattle.zq_commands.specs.Cut.{want_of}
 use Rattle.zq_commands.specs.FirstPairs.{DropsFirst, drop_of}
 use Rattle.zq_commands.specs.Lending.{Lending, lent_after, queues_in}
-use Rattle.zq_commands.specs.Running.{RunsOver, lent_after_all}
+use Rattle.zq_commands.specs.Running.{RunsOver, lent_after_all, part}
 use Rattle.zq_commands.specs.Stepping.{Steps}
 use Rattle.zq_commands.specs.declared.cleared.Cleared.{Cleared}
 use Rattle.zq_commands.specs.declared.cut.Cut.{Cut}
@@ -21,7 +21,7 @@ use Rattle.zq_history.specs.Books.{Book}
 use Rattle.zq_moves.specs.Moves.{Move, Queue, after, after_all}
 use Rattle.zq_plans.specs.Plan.{del_part, drops, in_turn, is_there, moves_in_turn}
 use Rattle.zq_plans.specs.Replies.{bytes_of}
-use Rattle.zq_plans.specs.Run.{IsWhy, Number, cut_error, part}
+use Rattle.zq_plans.specs.Run.{IsWhy, Number, cut_error}
 use Rattle.zq_words.specs.Words.{Word}
 
 -- ---- lists
@@ -153,10 +153,5 @@ module _ (site stamp : ℕ) (keys : List Word) (i : ℕ) (key : Word) (s t u : L
       = clears.lent ∙ ap (lent_after_all site stamp (take k moves)) here.lent ∙ sym (lent-append site stamp front (take k moves) s) ∙ ap (λ ms. lent_after_all site stamp ms s) (sym taken) in
       let next : slice_get (moves_in_turn del_part keys (queues_in s)) cleared.done ≡ slice_get (moves ++ later) k
       = ap (λ ms. slice_get ms cleared.done) whole_moves ∙ ap (slice_get (front ++ (moves ++ later))) at_k ∙ get_past front (moves ++ later) k in
-      record {
-        runs = part cleared.done (want_of cut) (omega (arith, at_k, wide, ap length whole_moves, length-append front (moves ++ later), length-append moves later))
-            (ap (λ (l : Lending). l.books) same)
-            (subst (λ o. IsWhy site o u.books (want_of cut)) (sym next) (why_all site u.books moves later k cut (subst (IsLeft site key t u k) some clears.left))) says;
-        rule = ap (λ (l : Lending). l.rule) same;
-        heaps = ap (λ (l : Lending). l.heaps) same;
-      }
+      part cleared.done (want_of cut) (omega (arith, at_k, wide, ap length whole_moves, length-append front (moves ++ later), length-append moves later)) same
+      (subst (λ o. IsWhy site o u.books (want_of cut)) (sym next) (why_all site u.books moves later k cut (subst (IsLeft site key t u k) some clears.left))) says (λ _. refl)

@@ -1,14 +1,15 @@
 -- The parts of a command, one after the other.
 
-use Rattle.std.specs.Prelude.{List, Some, [], drop, if◌then◌else◌, length, refl, slice_get, take, ℕ, ◌++◌, ◌+◌, ◌∷◌, ◌≡◌, ◌≤◌}
+use Rattle.std.specs.Prelude.{List, Option, Some, [], drop, if◌then◌else◌, length, refl, slice_get, take, ℕ, ◌++◌, ◌+◌, ◌∷◌, ◌≡◌, ◌≤◌}
 use Rattle.std.proofs.Common.{ap, arith, suc, sym, zero, zero-add, ◌∙◌}
 use Rattle.std.proofs.Math.Seq.{take-append_seam}
 use Rattle.std.proofs.lemmas.List.{append-nil, append_assoc, length-append, take_all, take-append-drop}
-use Rattle.zq_commands.specs.Lending.{Lending, queues_in}
-use Rattle.zq_commands.specs.Running.{lent_after_all}
+use Rattle.zq_commands.specs.Lending.{Lending, queues_in, told_by}
+use Rattle.zq_commands.specs.Running.{lent_after_all, told_after}
 use Rattle.zq_commands.specs.Stepping.{Steps}
 use Rattle.zq_commands.specs.declared.made.Made.{Made}
 use Rattle.zq_history.specs.Books.{Book}
+use Rattle.zq_model.specs.Operation.{Operation}
 use Rattle.zq_moves.specs.Lent.{books_after, made}
 use Rattle.zq_moves.specs.Moves.{Move, Queues, after, after_all}
 use Rattle.zq_plans.specs.Plan.{Part, count_in_turn, moves_in_turn}
@@ -29,8 +30,13 @@ books-append : (site stamp : ℕ) (xs ys : List Move) (books : List Book) → bo
 books-append site stamp [] ys books = refl
 books-append site stamp (x ∷ xs) ys books = books-append site stamp xs ys (made site stamp x books)
 
+told-append : (site stamp : ℕ) (xs ys : List Move) (books : List Book) (told : Option (List Operation)) →
+    told_after site stamp (xs ++ ys) books told ≡ told_after site stamp ys (books_after site stamp xs books) (told_after site stamp xs books told)
+told-append site stamp [] ys books told = refl
+told-append site stamp (x ∷ xs) ys books told = told-append site stamp xs ys (made site stamp x books) (told_by site x books told)
+
 pub lent-append : (site stamp : ℕ) (xs ys : List Move) (s : Lending) → lent_after_all site stamp (xs ++ ys) s ≡ lent_after_all site stamp ys (lent_after_all site stamp xs s)
-lent-append site stamp xs ys s = ap (λ books. record s { books = books }) (books-append site stamp xs ys s.books)
+lent-append site stamp xs ys s = λ i. record s { books = books-append site stamp xs ys s.books i; told = told-append site stamp xs ys s.books s.told i }
 
 module _ {X : Type 0} (f : Queues → X → Part) where
   moves-append : (xs ys : List X) (s : Queues) → moves_in_turn f (xs ++ ys) s ≡ moves_in_turn f xs s ++ moves_in_turn f ys (after_all (moves_in_turn f xs s) s)

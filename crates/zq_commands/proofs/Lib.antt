@@ -1,21 +1,21 @@
-mod OnOk
-mod AtPlace
-mod InTurn
-mod RanPlans
-mod Widths
-mod Counts
-mod Ranks
-mod FirstPairs
-mod Popped
-mod PoppedParts
-mod ClearedKeys
-mod WordsAt
-mod Woven
-mod Sections
-mod Runs
-mod VecBooks
-mod SitePlaces
-mod SiteRuns
-mod BookMoves
-mod ScoreBounds
+pub mod OnOk
+pub mod AtPlace
+pub mod InTurn
+pub mod RanPlans
+pub mod Widths
+pub mod Counts
+pub mod Ranks
+pub mod FirstPairs
+pub mod Popped
+pub mod PoppedParts
+pub mod ClearedKeys
+pub mod WordsAt
+pub mod Woven
+pub mod Sections
+pub mod Runs
+pub mod VecBooks
+pub mod SitePlaces
+pub mod SiteRuns
+pub mod BookMoves
+pub mod ScoreBounds
 pub mod Begun

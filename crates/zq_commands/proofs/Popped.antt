@@ -1,6 +1,6 @@
 -- Where a pop stands after some of its pairs, and what it comes to.
 
-use Rattle.std.proofs.Common.{List, [], ap, arith, drop, flat_map, length, map, refl, subst, suc, sym, true, zero, ℕ, ◌++◌, ◌+◌, ◌<◌, ◌∙◌, ◌∷◌, ◌≡◌, ◌≤◌, false}
+use Rattle.std.proofs.Common.{Bool, List, [], ap, arith, drop, flat_map, length, map, refl, subst, suc, sym, true, zero, ℕ, ◌++◌, ◌+◌, ◌<◌, ◌∙◌, ◌∷◌, ◌≡◌, ◌≤◌, false}
 use Rattle.std.proofs.lemmas.List.{length-map, length-take, map-append, take-map, take-take, take_all}
 use Rattle.std.specs.Prelude.{Some, decimal, slice_get, take}
 use Rattle.zq_commands.proofs.InTurn.{lent-append, take_next}
@@ -8,15 +8,14 @@ use Rattle.zq_commands.specs.Arrays.{array_bytes}
 use Rattle.zq_commands.specs.Cut.{want_of}
 use Rattle.zq_commands.specs.FirstPairs.{PopsFirst, drop_of}
 use Rattle.zq_commands.specs.Lending.{Lending, lent_after, queues_in}
-use Rattle.zq_commands.specs.Running.{RunsOver, lent_after_all}
+use Rattle.zq_commands.specs.Running.{EndsOver, lent_after_all, part, whole}
 use Rattle.zq_commands.specs.declared.cut.Cut.{Cut}
 use Rattle.zq_commands.specs.declared.cut.Cut.TheVariants.{NoMemory, Worn}
 use Rattle.zq_model.specs.Meaning.{Scored}
-use Rattle.zq_moves.specs.Lent.{books_after}
 use Rattle.zq_moves.specs.Moves.{Queue}
 use Rattle.zq_plans.specs.Plan.{drops, pop}
 use Rattle.zq_plans.specs.Replies.{bytes_of, pairs_reply, parts_of_pair}
-use Rattle.zq_plans.specs.Run.{IsWhy, Number, cut_error, cut_pop, part, whole}
+use Rattle.zq_plans.specs.Run.{IsWhy, Memory, Number, cut_error, cut_pop}
 use Rattle.zq_resp.specs.Reply.{bulk, joined, line}
 use Rattle.zq_words.specs.Words.{Word}
 
@@ -95,25 +94,22 @@ module _ (site stamp : ℕ) (key : List ℕ) where
       }
 
   module _ (n : ℕ) (s t : Lending) (done : ℕ) (parts : List Word) (here : PoppedAfter s t done parts) (bytes : Word) where
-    ran_taken : take done (queues_in s key) ≡ take n (queues_in s key) → bytes ≡ array_bytes parts →
-        RunsOver site stamp false (pop key n (queues_in s)) (cut_pop (Some (key, n)) (queues_in s)) s t bytes
-    ran_taken same is = record {
-      runs = whole (ap (λ (l : Lending). l.books) here.lent ∙ ap (λ pairs. books_after site stamp (drops key pairs) s.books) same)
-          (is ∙ ap array_bytes here.shown ∙ ap (λ pairs. array_bytes (shown_parts pairs)) same ∙ shown_bytes (take n (queues_in s key)));
-      rule = ap (λ (l : Lending). l.rule) here.lent;
-      heaps = ap (λ (l : Lending). l.heaps) here.lent;
-    }
+    ran_taken : (short : Bool) → take done (queues_in s key) ≡ take n (queues_in s key) → bytes ≡ array_bytes parts →
+        EndsOver site stamp false (pop key n (queues_in s)) (cut_pop (Some (key, n)) (queues_in s)) s t bytes short
+    ran_taken short same is = whole (here.lent ∙ ap (λ pairs. lent_after_all site stamp (drops key pairs) s) same)
+        (is ∙ ap array_bytes here.shown ∙ ap (λ pairs. array_bytes (shown_parts pairs)) same ∙ shown_bytes (take n (queues_in s key)))
 
     -- all that were asked for
-    pub popped_whole : done ≡ n → bytes ≡ array_bytes parts → RunsOver site stamp false (pop key n (queues_in s)) (cut_pop (Some (key, n)) (queues_in s)) s t bytes
-    popped_whole all is = ran_taken (ap (λ k. take k (queues_in s key)) all) is
+    pub popped_whole : (short : Bool) → done ≡ n → bytes ≡ array_bytes parts → EndsOver site stamp false (pop key n (queues_in s)) (cut_pop (Some (key, n)) (queues_in s)) s t bytes short
+    popped_whole short all is = ran_taken short (ap (λ k. take k (queues_in s key)) all) is
 
     -- and all that were there
-    pub popped_out : done ≤ n → queues_in t key ≡ [] → bytes ≡ array_bytes parts → RunsOver site stamp false (pop key n (queues_in s)) (cut_pop (Some (key, n)) (queues_in s)) s t bytes
-    popped_out low none is =
+    pub popped_out : (short : Bool) → done ≤ n → queues_in t key ≡ [] → bytes ≡ array_bytes parts →
+        EndsOver site stamp false (pop key n (queues_in s)) (cut_pop (Some (key, n)) (queues_in s)) s t bytes short
+    popped_out short low none is =
         let q = queues_in s key in
         let past = empty_drop q done (sym here.left ∙ none) in
-        ran_taken (take_all done q past ∙ sym (take_all n q (omega (arith, past, low)))) is
+        ran_taken short (take_all done q past ∙ sym (take_all n q (omega (arith, past, low)))) is
 
     why_next : (cut : Cut) → done < n → (cut ≡ Worn → IsWhy site (slice_get (drops key (queues_in t key)) 0) t.books Number) →
         IsWhy site (slice_get (drops key (take n (queues_in s key))) done) t.books (want_of cut)
@@ -130,14 +126,11 @@ module _ (site stamp : ℕ) (key : List ℕ) where
         ] refl
 
     -- those before the one that was refused
-    pub popped_cut : (cut : Cut) → done < n → (cut ≡ Worn → IsWhy site (slice_get (drops key (queues_in t key)) 0) t.books Number) → (0 < done → bytes ≡ array_bytes parts) →
-        (done ≡ 0 → bytes ≡ bytes_of (cut_error 0 (want_of cut))) → RunsOver site stamp false (pop key n (queues_in s)) (cut_pop (Some (key, n)) (queues_in s)) s t bytes
-    popped_cut cut below why some none =
+    pub popped_cut : (cut : Cut) (short : Bool) → done < n → (cut ≡ Worn → IsWhy site (slice_get (drops key (queues_in t key)) 0) t.books Number) → (0 < done → bytes ≡ array_bytes parts) →
+        (done ≡ 0 → bytes ≡ bytes_of (cut_error 0 (want_of cut))) → (want_of cut ≡ Memory → short ≡ true) →
+        EndsOver site stamp false (pop key n (queues_in s)) (cut_pop (Some (key, n)) (queues_in s)) s t bytes short
+    popped_cut cut short below why some none memory =
         let q = queues_in s key in
         let moves : take done (drops key (take n q)) ≡ drops key (take done q) = take-map (drop_of key) done (take n q) ∙ ap (drops key) (take-take done n q (omega (arith, below))) in
-        record {
-          runs = part done (want_of cut) (let within = here.within in omega (arith, within, below, length-map (take n q) (drop_of key), length-take n q))
-              (ap (λ (l : Lending). l.books) here.lent ∙ ap (λ ms. books_after site stamp ms s.books) (sym moves)) (why_next cut below why) (said cut some none);
-          rule = ap (λ (l : Lending). l.rule) here.lent;
-          heaps = ap (λ (l : Lending). l.heaps) here.lent;
-        }
+        part done (want_of cut) (let within = here.within in omega (arith, within, below, length-map (take n q) (drop_of key), length-take n q))
+        (here.lent ∙ ap (λ ms. lent_after_all site stamp ms s) (sym moves)) (why_next cut below why) (said cut some none) memory

@@ -7,15 +7,18 @@ use Rattle.zq_commands.proofs.InTurn.{StandsAfter, moves_split, stands_cut, stan
 use Rattle.zq_commands.specs.Cut.{want_of}
 use Rattle.zq_commands.specs.Lending.{Lending, lent_after, queues_in}
 use Rattle.zq_commands.specs.Commands.{IsRunOver, is_reading}
-use Rattle.zq_commands.specs.Running.{IsRead, RunsOver}
+use Rattle.zq_commands.specs.Running.{EndsOver, IsRead, RunsOver, lent_after_all, part, whole}
 use Rattle.zq_commands.specs.declared.cut.Cut.{Cut}
 use Rattle.zq_commands.specs.declared.cut.Cut.TheVariants.{NoMemory, Worn}
-use Rattle.zq_moves.specs.Lent.{books_after}
+use Rattle.zq_commands.specs.declared.ran.Ran.{Ran}
 use Rattle.zq_moves.specs.Moves.{Move, Queues, after_all}
 use Rattle.zq_history.specs.Books.{Book}
 use Rattle.zq_plans.specs.Plan.{Part, Plan, in_turn, lets, moves_in_turn, one, plan_of, raise, raise_if, raising, reading, sum_of}
 use Rattle.zq_plans.specs.Replies.{Error, NullBulk, Reply, bytes_of, count_reply, number_text}
-use Rattle.zq_plans.specs.Run.{IsStrictlyWhy, IsWhy, Memory, Number, Want, cut_error, part, whole}
+use Rattle.zq_plans.specs.Run as run
+use Rattle.zq_plans.specs.Run.{IsStrictlyWhy, IsWhy, Memory, Number, Runs, Want, cut_error, cut_reply}
+use Rattle.zq_resp.specs.Reply.{reply_bytes}
+use Rattle.zq_resp.specs.declared.reply.Reply as resp
 use Rattle.zq_words.specs.Command.{Command, Del, Ping, Zadd, ZaddIncr, Zcard, Zcount, Zincrby, Zpopmin, Zpopnear, Zrange, Zrank, Zrem, Zrevrank, Zscore}
 use Rattle.zq_words.specs.Words.{Word, is_in_range}
 use Rattle.zq_words.specs.declared.flags.Flags.{Flags}
@@ -46,11 +49,7 @@ module _ {X : Type 0} (f : Queues → X → Part) (site stamp : ℕ) (xs : List 
       RunsOver site stamp strict (in_turn f xs (queues_in s)) cut_error s t bytes
   ran_whole strict here bytes is =
       let all = stands_whole f site stamp xs s t counted done here in
-      record {
-        runs = whole (ap (λ (l : Lending). l.books) all.0) (is ∙ ap (λ n. bytes_of (count_reply n)) all.1);
-        rule = ap (λ (l : Lending). l.rule) all.0;
-        heaps = ap (λ (l : Lending). l.heaps) all.0;
-      }
+      whole all.0 (is ∙ ap (λ n. bytes_of (count_reply n)) all.1)
 
   -- the move that was to come next
   next_move : (i : ℕ) (x : X) (move : Move) → StandsAfter f site stamp xs i s t counted done → slice_get xs i ≡ Some x → (f (queues_in t) x).moves ≡ move ∷ [] →
@@ -69,36 +68,24 @@ module _ {X : Type 0} (f : Queues → X → Part) (site stamp : ℕ) (xs : List 
       RunsOver site stamp true (in_turn f xs (queues_in s)) cut_error s t bytes
   ran_cut cut i x move here at is worn memory bytes says =
       let stands = stands_cut f site stamp xs i s t counted done here in
-      record {
-        runs = part done (want_of cut) stands.0 (ap (λ (l : Lending). l.books) stands.1)
-            (subst (λ o. IsStrictlyWhy site o t.books (want_of cut)) (sym (next_move i x move here at is)) (why_strictly site t.books move cut worn memory)) says;
-        rule = ap (λ (l : Lending). l.rule) stands.1;
-        heaps = ap (λ (l : Lending). l.heaps) stands.1;
-      }
+      part done (want_of cut) stands.0 stands.1
+      (subst (λ o. IsStrictlyWhy site o t.books (want_of cut)) (sym (next_move i x move here at is)) (why_strictly site t.books move cut worn memory)) says (λ _. refl)
 
 -- a plan of which nothing was made for want of memory
 pub ran_none : (site stamp : ℕ) (plan : Plan) (lent : Lending) (bytes : Word) → bytes ≡ bytes_of (cut_error 0 Memory) → RunsOver site stamp false plan cut_error lent lent bytes
-ran_none site stamp plan lent bytes says = record { runs = part 0 Memory (omega arith) refl tt says; rule = refl; heaps = refl }
+ran_none site stamp plan lent bytes says = part 0 Memory (omega arith) refl tt says (λ _. refl)
 
 -- a plan of one move, which was not made
 pub ran_refused : (site stamp : ℕ) (plan : Plan) (move : Move) (cut : Cut) (old new : Lending) (bytes : Word) → plan.moves ≡ move ∷ [] → new ≡ old →
     (cut ≡ Worn → IsWhy site (Some move) old.books Number) → bytes ≡ bytes_of (cut_error 0 (want_of cut)) → RunsOver site stamp false plan cut_error old new bytes
 ran_refused site stamp plan move cut old new bytes is same why says =
     subst (λ l. RunsOver site stamp false plan cut_error old l bytes) (sym same)
-    (record {
-      runs = part 0 (want_of cut) (omega arith) refl (subst (λ moves. IsWhy site (slice_get moves 0) old.books (want_of cut)) (sym is) (why_first site old.books (move ∷ []) (Some move) cut refl why)) says;
-      rule = refl;
-      heaps = refl;
-    })
+    (part 0 (want_of cut) (omega arith) refl (subst (λ moves. IsWhy site (slice_get moves 0) old.books (want_of cut)) (sym is) (why_first site old.books (move ∷ []) (Some move) cut refl why)) says (λ _. refl))
 
 -- a plan of one move, which was made
 pub ran_one : (site stamp : ℕ) (plan : Plan) (move : Move) (old new : Lending) (bytes : Word) → plan.moves ≡ move ∷ [] → new ≡ lent_after site stamp move old →
     bytes ≡ bytes_of plan.reply → RunsOver site stamp false plan cut_error old new bytes
-ran_one site stamp plan move old new bytes is same says = record {
-  runs = whole (ap (λ (l : Lending). l.books) same ∙ ap (λ moves. books_after site stamp moves old.books) (sym is)) says;
-  rule = ap (λ (l : Lending). l.rule) same;
-  heaps = ap (λ (l : Lending). l.heaps) same;
-}
+ran_one site stamp plan move old new bytes is same says = whole (same ∙ ap (λ moves. lent_after_all site stamp moves old) (sym is)) says
 
 -- the plan of a sum in range
 pub raise_in : (key member : Word) (old : Option ℤ) (increment : ℤ) → is_in_range (sum_of old increment) ≡ true →
@@ -113,25 +100,66 @@ pub raise_let : (flags : Flags) (key member : Word) (old : Option ℤ) (incremen
 raise_let flags key member old increment passes = cond-true (lets flags old (sum_of old increment)) (raise key member old increment) (reading NullBulk) passes
 
 -- a plan that only reads, whole or without its reply for want of memory
-reading_ran : (site stamp : ℕ) (reply : Reply) (cut : ℕ → Want → Reply) (lent : Lending) (bytes : Word) → cut 0 Memory ≡ cut_error 0 Memory → IsRead reply bytes →
-    RunsOver site stamp false (reading reply) cut lent lent bytes
-reading_ran site stamp reply cut lent bytes error (inl says) = record { runs = whole refl says; rule = refl; heaps = refl }
-reading_ran site stamp reply cut lent bytes error (inr says) = record { runs = part 0 Memory (omega arith) refl tt (says ∙ sym (ap bytes_of error)); rule = refl; heaps = refl }
+reading_ran : (site stamp : ℕ) (reply : Reply) (cut : ℕ → Want → Reply) (lent : Lending) (bytes : Word) (short : Bool) → cut 0 Memory ≡ cut_error 0 Memory → IsRead reply bytes →
+    (bytes ≡ bytes_of (cut_error 0 Memory) → short ≡ true) → EndsOver site stamp false (reading reply) cut lent lent bytes short
+reading_ran site stamp reply cut lent bytes short error (inl says) told = whole refl says
+reading_ran site stamp reply cut lent bytes short error (inr says) told = part 0 Memory (omega arith) refl tt (says ∙ sym (ap bytes_of error)) (λ _. told says)
 
 -- a command that only reads
-pub ran_read : (site stamp : ℕ) (command : Command) (lent : Lending) (bytes : Word) → is_reading command ≡ true → IsRead (plan_of command (queues_in lent)).reply bytes →
-    IsRunOver site stamp command lent lent bytes
-ran_read site stamp (Ping message) lent bytes reads says = reading_ran site stamp _ _ lent bytes refl says
-ran_read site stamp (Zscore key member) lent bytes reads says = reading_ran site stamp _ _ lent bytes refl says
-ran_read site stamp (Zcard key) lent bytes reads says = reading_ran site stamp _ _ lent bytes refl says
-ran_read site stamp (Zcount key min max) lent bytes reads says = reading_ran site stamp _ _ lent bytes refl says
-ran_read site stamp (Zrank key member) lent bytes reads says = reading_ran site stamp _ _ lent bytes refl says
-ran_read site stamp (Zrevrank key member) lent bytes reads says = reading_ran site stamp _ _ lent bytes refl says
-ran_read site stamp (Zrange key range is_turned with_scores) lent bytes reads says = reading_ran site stamp _ _ lent bytes refl says
-ran_read site stamp (Zadd key flags pairs) lent bytes reads says = absurd (true≢false (sym reads))
-ran_read site stamp (ZaddIncr key flags increment member) lent bytes reads says = absurd (true≢false (sym reads))
-ran_read site stamp (Zincrby key increment member) lent bytes reads says = absurd (true≢false (sym reads))
-ran_read site stamp (Zrem key members) lent bytes reads says = absurd (true≢false (sym reads))
-ran_read site stamp (Zpopmin key count) lent bytes reads says = absurd (true≢false (sym reads))
-ran_read site stamp (Zpopnear key) lent bytes reads says = absurd (true≢false (sym reads))
-ran_read site stamp (Del keys) lent bytes reads says = absurd (true≢false (sym reads))
+pub ran_read : (site stamp : ℕ) (command : Command) (lent : Lending) (bytes : Word) (short : Bool) → is_reading command ≡ true → IsRead (plan_of command (queues_in lent)).reply bytes →
+    (bytes ≡ bytes_of (cut_error 0 Memory) → short ≡ true) → IsRunOver site stamp command lent lent bytes short
+ran_read site stamp (Ping message) lent bytes short reads says told = reading_ran site stamp _ _ lent bytes short refl says told
+ran_read site stamp (Zscore key member) lent bytes short reads says told = reading_ran site stamp _ _ lent bytes short refl says told
+ran_read site stamp (Zcard key) lent bytes short reads says told = reading_ran site stamp _ _ lent bytes short refl says told
+ran_read site stamp (Zcount key min max) lent bytes short reads says told = reading_ran site stamp _ _ lent bytes short refl says told
+ran_read site stamp (Zrank key member) lent bytes short reads says told = reading_ran site stamp _ _ lent bytes short refl says told
+ran_read site stamp (Zrevrank key member) lent bytes short reads says told = reading_ran site stamp _ _ lent bytes short refl says told
+ran_read site stamp (Zrange key range is_turned with_scores) lent bytes short reads says told = reading_ran site stamp _ _ lent bytes short refl says told
+ran_read site stamp (Zadd key flags pairs) lent bytes short reads says told = absurd (true≢false (sym reads))
+ran_read site stamp (ZaddIncr key flags increment member) lent bytes short reads says told = absurd (true≢false (sym reads))
+ran_read site stamp (Zincrby key increment member) lent bytes short reads says told = absurd (true≢false (sym reads))
+ran_read site stamp (Zrem key members) lent bytes short reads says told = absurd (true≢false (sym reads))
+ran_read site stamp (Zpopmin key count) lent bytes short reads says told = absurd (true≢false (sym reads))
+ran_read site stamp (Zpopnear key) lent bytes short reads says told = absurd (true≢false (sym reads))
+ran_read site stamp (Del keys) lent bytes short reads says told = absurd (true≢false (sym reads))
+
+-- where want of memory is answered by an error, the reply says whether it is short
+pub ends_told : (site stamp : ℕ) (strict : Bool) (plan : Plan) (cut : ℕ → Want → Reply) (old new : Lending) (bytes : Word) (short : Bool) → ((k : ℕ) → cut k Memory ≡ cut_error k Memory) →
+    ((k : ℕ) → bytes ≡ bytes_of (cut_error k Memory) → short ≡ true) → RunsOver site stamp strict plan cut old new bytes → EndsOver site stamp strict plan cut old new bytes short
+ends_told site stamp strict plan cut old new bytes short error told (whole lent says) = whole lent says
+ends_told site stamp strict plan cut old new bytes short error told (part k Memory low lent why says memory) = part k Memory low lent why says (λ _. told k (says ∙ ap bytes_of (error k)))
+ends_told site stamp strict plan cut old new bytes short error told (part k Number low lent why says memory) = part k Number low lent why says (λ e. absurd (cc))
+
+pub run_told : (site stamp : ℕ) (command : Command) (old new : Lending) (reply : resp.Reply) (ran : Ran) → ((k : ℕ) → cut_reply command (queues_in old) k Memory ≡ cut_error k Memory) →
+    ran.reply ≡ reply → ((k : ℕ) → reply_bytes reply ≡ bytes_of (cut_error k Memory) → ran.is_short ≡ true) → IsRunOver site stamp command old new (reply_bytes reply) true →
+    IsRunOver site stamp command old new (reply_bytes ran.reply) ran.is_short
+run_told site stamp command old new reply ran error same told runs =
+    subst (λ r. IsRunOver site stamp command old new (reply_bytes r) ran.is_short) (sym same) (ends_told site stamp _ _ _ old new (reply_bytes reply) ran.is_short error told runs)
+
+-- it runs, whether it is short or not
+pub ends_whole : (site stamp : ℕ) (strict : Bool) (plan : Plan) (cut : ℕ → Want → Reply) (old new : Lending) (bytes : Word) (short : Bool) →
+    EndsOver site stamp strict plan cut old new bytes short → RunsOver site stamp strict plan cut old new bytes
+ends_whole site stamp strict plan cut old new bytes short (whole lent says) = whole lent says
+ends_whole site stamp strict plan cut old new bytes short (part k want low lent why says memory) = part k want low lent why says (λ _. refl)
+
+-- a reply that is read off, where it is not short
+pub read_whole : (reply : Reply) (read : resp.Reply) (ran : Ran) → ran.reply ≡ read → ((k : ℕ) → reply_bytes read ≡ bytes_of (cut_error k Memory) → ran.is_short ≡ true) →
+    IsRead reply (reply_bytes read) → ran.is_short ≡ false → reply_bytes ran.reply ≡ bytes_of reply
+read_whole reply read ran same told (inl says) not = ap reply_bytes same ∙ says
+read_whole reply read ran same told (inr says) not = absurd (true≢false (sym (told 0 says) ∙ not))
+
+-- it runs over the books alone
+pub ran_books : (site stamp : ℕ) (strict : Bool) (plan : Plan) (cut : ℕ → Want → Reply) (old new : Lending) (bytes : Word) (short : Bool) →
+    EndsOver site stamp strict plan cut old new bytes short → Runs site stamp strict plan cut old.books new.books bytes
+ran_books site stamp strict plan cut old new bytes short (whole lent says) = run.whole (ap (λ (l : Lending). l.books) lent) says
+ran_books site stamp strict plan cut old new bytes short (part k want low lent why says memory) = run.part k want low (ap (λ (l : Lending). l.books) lent) why says
+
+pub ran_rule : (site stamp : ℕ) (strict : Bool) (plan : Plan) (cut : ℕ → Want → Reply) (old new : Lending) (bytes : Word) (short : Bool) →
+    EndsOver site stamp strict plan cut old new bytes short → new.rule ≡ old.rule
+ran_rule site stamp strict plan cut old new bytes short (whole lent says) = ap (λ (l : Lending). l.rule) lent
+ran_rule site stamp strict plan cut old new bytes short (part k want low lent why says memory) = ap (λ (l : Lending). l.rule) lent
+
+pub ran_heaps : (site stamp : ℕ) (strict : Bool) (plan : Plan) (cut : ℕ → Want → Reply) (old new : Lending) (bytes : Word) (short : Bool) →
+    EndsOver site stamp strict plan cut old new bytes short → new.heaps ≡ old.heaps
+ran_heaps site stamp strict plan cut old new bytes short (whole lent says) = ap (λ (l : Lending). l.heaps) lent
+ran_heaps site stamp strict plan cut old new bytes short (part k want low lent why says memory) = ap (λ (l : Lending). l.heaps) lent

@@ -5,8 +5,8 @@ use Rattle.std.proofs.lemmas.Bool.{cases_eq, eq-eqb, eqb-true}
 use Rattle.std.proofs.lemmas.List.{length-set}
 use Rattle.std.proofs.lemmas.Option.{same_Some, slice_get_within}
 use Rattle.std.specs.Prelude.{slice_get, slice_index}
-use Rattle.zq_commands.specs.VecBooks.{AreWorkedOn, IsWorkedOn}
-use Rattle.zq_commands.specs.WorkedBooks.{worked_on_itself}
+use Rattle.zq_commands.specs.VecBooks.{AreRecordedOn, IsRecordedOn}
+use Rattle.zq_commands.specs.RecordedBooks.{recorded_itself}
 use Rattle.zq_history.specs.Books.{Book}
 use Rattle.zq_journal.specs.Books.{LAST_STAMP}
 use Rattle.zq_model.specs.Sets.{LAST}
@@ -29,16 +29,16 @@ get_set_other (y ∷ xs) (suc i) zero x other = refl
 get_set_other (y ∷ xs) (suc i) (suc j) x other = get_set_other xs i j x (λ same. other (ap suc same))
 
 -- one of the books was worked on, and the others were left
-pub worked_at : (books : List Book) (place : ℕ) (old new : Book) → slice_get books place ≡ Some old → IsWorkedOn old new → AreWorkedOn books (set books place new)
-worked_at books place old new is worked = record {
+pub recorded_at : (books : List Book) (place : ℕ) (old new : Book) → slice_get books place ≡ Some old → IsRecordedOn old new → AreRecordedOn books (set books place new)
+recorded_at books place old new is worked = record {
   number = length-set books place new;
   each = λ i before later was then. elim (cases_eq i place) [
     | inl same ↦
         let first : before ≡ old = same_Some before old (sym was ∙ ap (slice_get books) same ∙ is) in
         let second : new ≡ later = same_Some new later (sym (get_set books place new (slice_get_within books place old is)) ∙ ap (slice_get (set books place new)) (sym same) ∙ then) in
-        subst (λ b. IsWorkedOn b later) (sym first) (subst (IsWorkedOn old) second worked)
+        subst (λ b. IsRecordedOn b later) (sym first) (subst (IsRecordedOn old) second worked)
     | inr other ↦
-        subst (IsWorkedOn before) (same_Some before later (sym was ∙ sym (get_set_other books place i new other) ∙ then)) (worked_on_itself before)
+        subst (IsRecordedOn before) (same_Some before later (sym was ∙ sym (get_set_other books place i new other) ∙ then)) (recorded_itself before)
   ];
 }
 

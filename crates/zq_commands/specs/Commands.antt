@@ -2,7 +2,7 @@
 
 use Rattle.std.specs.Prelude.{All, Bool, false, true, ℕ}
 use Rattle.zq_commands.specs.Lending.{HasBook, Lending, queues_in}
-use Rattle.zq_commands.specs.Running.{RunsOver}
+use Rattle.zq_commands.specs.Running.{EndsOver}
 use Rattle.zq_plans.specs.Plan.{plan_of}
 use Rattle.zq_plans.specs.Run.{cut_reply, is_strict}
 use Rattle.zq_words.specs.Command.{Command, Ping, Zadd, ZaddIncr, Zcard, Zcount, Zincrby, Zrange, Zrank, Zrem, Zrevrank, Zscore}
@@ -30,7 +30,7 @@ is_reading (Zrevrank key member) = true
 is_reading (Zrange key range is_turned with_scores) = true
 is_reading command = false
 
--- the command's plan runs over the books, whole or in part
-abbrev pub IsRunOver : ℕ → ℕ → Command → Lending → Lending → Word → Type 0
-IsRunOver site stamp command old new reply =
-    RunsOver site stamp (is_strict command) (plan_of command (queues_in old)) (cut_reply command (queues_in old)) old new reply
+-- the command's plan runs over the books, whole or in part, and only what is short was cut for want of memory
+abbrev pub IsRunOver : ℕ → ℕ → Command → Lending → Lending → Word → Bool → Type 0
+IsRunOver site stamp command old new reply short =
+    EndsOver site stamp (is_strict command) (plan_of command (queues_in old)) (cut_reply command (queues_in old)) old new reply short

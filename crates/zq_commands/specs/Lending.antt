@@ -1,10 +1,11 @@
 -- The books that are lent to a command, by what rule their scores are read, and how many heaps there are.
 
-use Rattle.std.specs.Prelude.{List, ℕ, ◌≡◌, ◌≤◌}
+use Rattle.std.specs.Prelude.{List, Option, filter, map, option_map, ℕ, ◌++◌, ◌≡◌, ◌≤◌}
 use Rattle.zq_history.specs.Books.{Book}
+use Rattle.zq_model.specs.Operation.{Operation}
 use Rattle.zq_model.specs.Rule.{Rule}
 use Rattle.zq_model.specs.Sets.{IsIn}
-use Rattle.zq_moves.specs.Lent.{AreLent, HasHome, made, queues_of}
+use Rattle.zq_moves.specs.Lent.{AreLent, HasHome, is_home, made, operation_in, queues_of}
 use Rattle.zq_moves.specs.Moves.{Move, Queues}
 use Rattle.zq_plans.specs.Run.{LAST_COUNT}
 
@@ -12,6 +13,8 @@ pub record Lending : Type 0 where
   pub rule : Rule
   pub heaps : ℕ
   pub books : List Book
+  -- the operations that were made so far, the oldest first, where the books' holder keeps a list of them
+  pub told : Option (List Operation)
 
 abbrev pub queues_in : Lending → Queues
 queues_in lent = queues_of lent.rule lent.books
@@ -25,9 +28,17 @@ pub record IsLending (lent : Lending) : Type 0 where
 abbrev pub HasBook : List ℕ → List ℕ → Lending → Type 0
 HasBook key member lent = HasHome key member lent.books
 
--- the books after a move
+-- the operation that a move makes over books, which is that of the book of its heap
+abbrev pub operations_by : ℕ → Move → List Book → List Operation
+operations_by site move books = map (operation_in site move) (filter (is_home move) books)
+
+-- what is told after a move over books
+abbrev pub told_by : ℕ → Move → List Book → Option (List Operation) → Option (List Operation)
+told_by site move books told = option_map (λ before. before ++ operations_by site move books) told
+
+-- the books after a move, and what is told then
 abbrev pub lent_after : ℕ → ℕ → Move → Lending → Lending
-lent_after site stamp move lent = record lent { books = made site stamp move lent.books }
+lent_after site stamp move lent = record lent { books = made site stamp move lent.books; told = told_by site move lent.books lent.told }
 
 -- a call of this stamp may work on the books: it is in range, and none of theirs is later
 abbrev pub IsDated : ℕ → Lending → Type 0

@@ -10,6 +10,6 @@ pub mod Weaving
 pub mod Sections
 pub mod Commands
 pub mod VecBooks
-pub mod WorkedBooks
+pub mod RecordedBooks
 pub mod SiteBooks
 pub mod Beginning

@@ -1,5 +1,9 @@
 //! Why a move was not made.
 
+ghost use Rattle.std.specs.Prelude.{true, ◌≡◌};
+ghost use Rattle.zq_commands.specs.Cut.{want_of};
+ghost use Rattle.zq_plans.specs.Run.{Memory};
+
 /// Why a move was not made. Nothing has changed then.
 #[derive(Clone, Copy, Debug, PartialEq, Eq)]
 pub enum Cut {
@@ -7,4 +11,16 @@ pub enum Cut {
     Worn,
     /// A growth was refused.
     NoMemory,
+}
+
+impl Cut {
+    /// Whether it was for want of memory.
+    pub(crate) fn is_memory(self) -> bool
+        ensures { want_of self ≡ Memory → result ≡ true }
+    {
+        match self {
+            Cut::Worn => false,
+            Cut::NoMemory => true,
+        }
+    }
 }

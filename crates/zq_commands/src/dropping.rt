@@ -17,11 +17,11 @@ use std::alloc::{AllocError, Global};
 use zq_dots::{Act, SiteNo};
 use zq_moves::heading;
 
-/// A member and its score's text.
+/// A member and its score.
 #[derive(Debug, Drop)]
 pub struct Copied {
     pub member: Vec<u8>,
-    pub score: Vec<u8>,
+    pub score: i128,
 }
 
 /// A copy of the first pair of a key.
@@ -33,19 +33,10 @@ pub fn copy_top<B: Books>(books: &B, alloc: Global, key: &[u8]) -> Result<Option
     let Some((score, member)) = top_of(books, key) else {
         return Ok(None);
     };
-    match copy_pair(alloc, &score, member) {
-        Ok(copied) => Ok(Some(copied)),
+    match Vec::from_slice(alloc, member) {
+        Ok(member) => Ok(Some(Copied { member, score })),
         Err(AllocError) => Err(Cut::NoMemory),
     }
-}
-
-/// A copy of a pair.
-fn copy_pair(alloc: Global, score: &i128, member: &[u8]) -> Result<Copied, AllocError>
-    ensures { IfOk result (λ copied. copied_parts copied ≡ parts_of_pair true (score.now, member.now)) }
-{
-    let member = Vec::from_slice(alloc, member)?;
-    let score = Vec::from_slice(alloc, itoa::Buffer::new().format(*score).as_bytes())?;
-    Ok(Copied { member, score })
 }
 
 /// Drops the first pair of a key, of which this is the member.

@@ -49,18 +49,19 @@ fn push_pair(
     ensures parts { OnOk result (map reply_bytes parts.new.items ≡ map reply_bytes parts.old.items ++ map bulk (plan.parts_of_pair with_scores (lent_pair pair.now))) }
     ensures writable { IsTrue (are_writable parts.old.items) → IsTrue (are_writable parts.new.items) }
 {
-    push_text(parts, Vec::from_slice(alloc, pair.1)?)?;
+    let member = Vec::from_slice(alloc, pair.1)?;
+    push_part(parts, Reply::Bulk(member))?;
     if with_scores {
-        let score = Vec::from_slice(alloc, itoa::Buffer::new().format(pair.0).as_bytes())?;
-        push_text(parts, score)?;
+        push_part(parts, Reply::Number(pair.0))?;
     }
     Ok(())
 }
 
-fn push_text(parts: &mut Vec<Reply>, text: Vec<u8>) -> Result<(), AllocError>
-    ensures parts { OnOk result (map reply_bytes parts.new.items ≡ map reply_bytes parts.old.items ++ bulk text.items ∷ []) }
+fn push_part(parts: &mut Vec<Reply>, part: Reply) -> Result<(), AllocError>
+    requires { IsTrue (is_writable part) }
+    ensures parts { OnOk result (map reply_bytes parts.new.items ≡ map reply_bytes parts.old.items ++ reply_bytes part ∷ []) }
     ensures writable { IsTrue (are_writable parts.old.items) → IsTrue (are_writable parts.new.items) }
 {
-    parts.push(Reply::Bulk(text))?;
+    parts.push(part)?;
     Ok(())
 }

@@ -4,7 +4,7 @@ ghost use Rattle.std.specs.Prelude.{IsErrOf, IsTrue, Ok, OnErr, Some, [], false,
 ghost use Rattle.zq_commands.specs.Arrays.{are_writable, array_bytes};
 ghost use Rattle.zq_commands.specs.Cut.{want_of};
 ghost use Rattle.zq_commands.specs.Lending.{IsDated, IsLending, queues_in};
-ghost use Rattle.zq_commands.specs.Running.{RunsOver};
+ghost use Rattle.zq_commands.specs.Running.{EndsOver};
 ghost use Rattle.zq_commands.specs.FirstPairs.{PopsFirst};
 ghost use Rattle.zq_model.specs.Operation.{LONGEST};
 ghost use Rattle.zq_plans.specs.Plan as plan;
@@ -15,13 +15,14 @@ ghost use Rattle.zq_resp.specs.Reply.{is_writable, reply_bytes};
 use crate::books::Books;
 use crate::cut::Cut;
 use crate::dropping::{Copied, copy_top, drop_top};
+use crate::ran::Ran;
 use crate::replies::{array_reply, cut_reply};
 use std::alloc::Global;
 use zq_dots::SiteNo;
 use zq_resp::Reply;
 
 /// Drops the first so many pairs of a key, one after the other, and answers them with their scores. Where one is
-/// refused, it answers those before, and an error where there are none.
+/// refused, it answers those before, and an error where there are none. It is short where memory was refused.
 pub fn pop<B: Books>(
     books: &mut B,
     alloc: Global,
@@ -29,27 +30,45 @@ pub fn pop<B: Books>(
     stamp: u64,
     key: &[u8],
     count: u64,
-) -> Reply
+) -> Ran
     requires lent { IsLending (B.lent books.old) }
     requires dated { IsDated stamp (B.lent books.old) }
     requires key { length key.now ≤ LONGEST }
-    ensures ran { RunsOver site stamp false (plan.pop key.now (count) (queues_in (B.lent books.old))) (cut_pop (Some (key.now, count)) (queues_in (B.lent books.old)))
-        (B.lent books.old) (B.lent books.new) (reply_bytes result) }
+    ensures ran { EndsOver site stamp false (plan.pop key.now (count) (queues_in (B.lent books.old))) (cut_pop (Some (key.now, count)) (queues_in (B.lent books.old)))
+        (B.lent books.old) (B.lent books.new) (reply_bytes result.reply) result.is_short }
     ensures lent { IsLending (B.lent books.new) }
     ensures dated { IsDated stamp (B.lent books.new) }
     ensures keeps { B.keeps books.old books.new }
-    ensures writable { IsTrue (is_writable result) }
+    ensures writable { IsTrue (is_writable result.reply) }
 {
     let mut parts = Vec::new(alloc);
     let mut done = 0;
     while done < count {
         match pop_one(books, alloc, site, stamp, key, &mut parts) {
             Ok(true) => done += 1,
-            Ok(false) => return array_reply(parts),
-            Err(cut) => return cut_pop_reply(parts, done, cut),
+            Ok(false) => return whole(parts),
+            Err(cut) => {
+                return Ran {
+                    reply: cut_pop_reply(parts, done, cut),
+                    is_short: cut.is_memory(),
+                };
+            }
         }
     }
-    array_reply(parts)
+    whole(parts)
+}
+
+/// The pairs of a pop that was not cut.
+fn whole(parts: Vec<Reply>) -> Ran
+    requires { IsTrue (are_writable parts.items) }
+    ensures bytes { reply_bytes result.reply ≡ array_bytes (map reply_bytes parts.items) }
+    ensures writable { IsTrue (is_writable result.reply) }
+    ensures short { result.is_short ≡ false }
+{
+    Ran {
+        reply: array_reply(parts),
+        is_short: false,
+    }
 }
 
 /// The pairs that were dropped before the move that was refused.
@@ -107,6 +126,6 @@ fn pop_one<B: Books>(
     }
     let Copied { member, score } = pair;
     parts.push_reserved(Reply::Bulk(member));
-    parts.push_reserved(Reply::Bulk(score));
+    parts.push_reserved(Reply::Number(score));
     Ok(true)
 }

@@ -77,7 +77,7 @@ pub fn raise_if<B: Books>(
     raise_from(books, alloc, site, stamp, key, pair, old)
 }
 
-/// Adds to the score that the member has. The reply is made first.
+/// Adds to the score that the member has. The reply takes no memory.
 fn raise_from<B: Books>(
     books: &mut B,
     alloc: Global,
@@ -106,15 +106,9 @@ fn raise_from<B: Books>(
         };
     }
     let sum = sum_of(old, pair);
-    let Ok(text) = Vec::from_slice(alloc, itoa::Buffer::new().format(sum).as_bytes()) else {
-        return cut_reply(Cut::NoMemory, 0);
-    };
     match raise_member(books, alloc, site, stamp, key, pair, old) {
-        Ok(()) => Reply::Bulk(text),
-        Err(cut) => {
-            drop(text);
-            cut_reply(cut, 0)
-        }
+        Ok(()) => Reply::Number(sum),
+        Err(cut) => cut_reply(cut, 0),
     }
 }
 

@@ -20,15 +20,14 @@ use zq_resp::Reply;
 use zq_words::Bound;
 
 /// ZSCORE: a member's score as a text, and the null bulk where it is not there.
-pub fn read_score<B: Books>(books: &B, alloc: Global, key: &[u8], member: &[u8]) -> Reply
+pub fn read_score<B: Books>(books: &B, key: &[u8], member: &[u8]) -> Reply
     requires lent { IsLending (B.lent books.now) }
     requires home { HasBook key.now member.now (B.lent books.now) }
     requires key { length key.now ≤ LONGEST }
-    ensures read { IsRead (plan.score_reply (score_in (queues_in (B.lent books.now) key.now) member.now)) (reply_bytes result) }
+    ensures bytes { reply_bytes result ≡ plan.bytes_of (plan.score_reply (score_in (queues_in (B.lent books.now) key.now) member.now)) }
     ensures writable { IsTrue (is_writable result) }
 {
-    let score = score_of(books, key, member);
-    score_reply(alloc, score)
+    score_reply(score_of(books, key, member))
 }
 
 /// ZCARD: the number of members of a key. One that no reply holds is answered as want of memory is.

@@ -33,16 +33,13 @@ pub fn message_reply(alloc: Global, message: Option<&[u8]>) -> Reply
 }
 
 /// A score as a text, and the null bulk for none.
-pub fn score_reply(alloc: Global, score: Option<i128>) -> Reply
-    ensures read { IsRead (plan.score_reply score) (reply_bytes result) }
+pub fn score_reply(score: Option<i128>) -> Reply
+    ensures bytes { reply_bytes result ≡ plan.bytes_of (plan.score_reply score) }
     ensures writable { IsTrue (is_writable result) }
 {
     match score {
         None => Reply::NullBulk,
-        Some(score) => text_reply(Vec::from_slice(
-            alloc,
-            itoa::Buffer::new().format(score).as_bytes(),
-        )),
+        Some(score) => Reply::Number(score),
     }
 }
 

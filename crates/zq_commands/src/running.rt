@@ -1,10 +1,11 @@
 //! Commands over the books that are lent to them.
 
-ghost use Rattle.std.specs.Prelude.{IsTrue, ◌≡◌};
+ghost use Rattle.std.specs.Prelude.{IsTrue, false, true, ◌≡◌};
 ghost use Rattle.zq_commands.specs.Commands.{HasBooks, IsRunOver, is_reading};
 ghost use Rattle.zq_commands.specs.Lending.{IsDated, IsLending, queues_in};
 ghost use Rattle.zq_commands.specs.Running.{IsRead};
 ghost use Rattle.zq_plans.specs.Plan.{plan_of};
+ghost use Rattle.zq_plans.specs.Replies.{bytes_of};
 ghost use Rattle.zq_plans.specs.Run.{IsRun};
 ghost use Rattle.zq_resp.specs.Reply.{is_writable, reply_bytes};
 ghost use Rattle.zq_words.specs.Limits.{IsWithinLimits};
@@ -15,6 +16,7 @@ use crate::clearing::clear_keys;
 use crate::popping::pop;
 use crate::putting::put_pairs;
 use crate::raising::{raise, raise_if};
+use crate::ran::Ran;
 use crate::ranging::read_range;
 use crate::reading::{read_count, read_rank, read_score, read_turned_rank, read_within};
 use crate::removing::drop_members;
@@ -41,35 +43,66 @@ pub fn run<B: Books>(
     ensures ran { IsRun (B.lent books.old).rule site stamp command.now (B.lent books.old).books (B.lent books.new).books (reply_bytes result) }
     ensures rule { (B.lent books.new).rule ≡ (B.lent books.old).rule }
     ensures heaps { (B.lent books.new).heaps ≡ (B.lent books.old).heaps }
+    ensures told { IsRunOver site stamp command.now (B.lent books.old) (B.lent books.new) (reply_bytes result) true }
     ensures lent { IsLending (B.lent books.new) }
     ensures dated { IsDated stamp (B.lent books.new) }
     ensures keeps { B.keeps books.old books.new }
     ensures writable { IsTrue (is_writable result) }
+{
+    let ran = run_told(books, alloc, site, stamp, command);
+    ran.reply
+}
+
+/// The same, with whether memory was refused. What it made is told in the order of its moves, where the holder of the
+/// books keeps a list.
+pub fn run_told<B: Books>(
+    books: &mut B,
+    alloc: Global,
+    site: SiteNo,
+    stamp: u64,
+    command: &Command,
+) -> Ran
+    requires lent { IsLending (B.lent books.old) }
+    requires dated { IsDated stamp (B.lent books.old) }
+    requires homes { HasBooks command.now (B.lent books.old) }
+    ensures ran { IsRunOver site stamp command.now (B.lent books.old) (B.lent books.new) (reply_bytes result.reply) result.is_short }
+    ensures lent { IsLending (B.lent books.new) }
+    ensures dated { IsDated stamp (B.lent books.new) }
+    ensures keeps { B.keeps books.old books.new }
+    ensures writable { IsTrue (is_writable result.reply) }
 {
     run_kind(books, alloc, site, stamp, command.kind())
 }
 
 /// The same of what a command asks for.
-fn run_kind<B: Books>(books: &mut B, alloc: Global, site: SiteNo, stamp: u64, kind: &Kind) -> Reply
+fn run_kind<B: Books>(books: &mut B, alloc: Global, site: SiteNo, stamp: u64, kind: &Kind) -> Ran
     requires lent { IsLending (B.lent books.old) }
     requires dated { IsDated stamp (B.lent books.old) }
     requires homes { HasBooks (shown kind.now) (B.lent books.old) }
     requires limits { IsWithinLimits (shown kind.now) }
-    ensures ran { IsRunOver site stamp (shown kind.now) (B.lent books.old) (B.lent books.new) (reply_bytes result) }
+    ensures ran { IsRunOver site stamp (shown kind.now) (B.lent books.old) (B.lent books.new) (reply_bytes result.reply) result.is_short }
     ensures lent { IsLending (B.lent books.new) }
     ensures dated { IsDated stamp (B.lent books.new) }
     ensures keeps { B.keeps books.old books.new }
-    ensures writable { IsTrue (is_writable result) }
+    ensures writable { IsTrue (is_writable result.reply) }
 {
     match kind {
-        Kind::Zadd { key, flags, pairs } => {
-            put_pairs(books, alloc, site, stamp, key, *flags, pairs.as_slice())
-        }
+        Kind::Zadd { key, flags, pairs } => Ran::of(put_pairs(
+            books,
+            alloc,
+            site,
+            stamp,
+            key,
+            *flags,
+            pairs.as_slice(),
+        )),
         Kind::ZaddIncr { key, flags, pair } => {
-            raise_if(books, alloc, site, stamp, key, *flags, pair)
+            Ran::of(raise_if(books, alloc, site, stamp, key, *flags, pair))
         }
-        Kind::Zincrby { key, pair } => raise(books, alloc, site, stamp, key, pair),
-        Kind::Zrem { key, members } => drop_members(books, alloc, site, stamp, key, members),
+        Kind::Zincrby { key, pair } => Ran::of(raise(books, alloc, site, stamp, key, pair)),
+        Kind::Zrem { key, members } => Ran::of(drop_members(
+            books, alloc, site, stamp, key, members,
+        )),
         Kind::Zpopmin { key, count } => pop(
             books,
             alloc,
@@ -79,12 +112,23 @@ fn run_kind<B: Books>(books: &mut B, alloc: Global, site: SiteNo, stamp: u64, ki
             from_zero(*count) as u64,
         ),
         Kind::Zpopnear { key } => pop(books, alloc, site, stamp, key, 1),
-        Kind::Del { keys } => clear_keys(books, alloc, site, stamp, keys),
-        reading => read(books, alloc, reading),
+        Kind::Del { keys } => Ran::of(clear_keys(books, alloc, site, stamp, keys)),
+        reading => Ran::of(read(books, alloc, reading)),
     }
 }
 
-/// The reply of a command that makes nothing.
+/// The reply of a command that makes nothing, and whether memory was refused.
+pub fn read_told<B: Books>(books: &B, alloc: Global, command: &Command) -> Ran
+    requires lent { IsLending (B.lent books.now) }
+    requires homes { HasBooks command.now (B.lent books.now) }
+    requires reads { IsTrue (is_reading command.now) }
+    ensures read { result.is_short ≡ false → reply_bytes result.reply ≡ bytes_of (plan_of command.now (queues_in (B.lent books.now))).reply }
+    ensures writable { IsTrue (is_writable result.reply) }
+{
+    Ran::of(read(books, alloc, command.kind()))
+}
+
+/// The same reply, or an error for want of memory.
 fn read<B: Books>(books: &B, alloc: Global, kind: &Kind) -> Reply
     requires lent { IsLending (B.lent books.now) }
     requires homes { HasBooks (shown kind.now) (B.lent books.now) }
@@ -95,7 +139,7 @@ fn read<B: Books>(books: &B, alloc: Global, kind: &Kind) -> Reply
 {
     match kind {
         Kind::Ping(message) => message_reply(alloc, *message),
-        Kind::Zscore { key, member } => read_score(books, alloc, key, member),
+        Kind::Zscore { key, member } => read_score(books, key, member),
         Kind::Zcard { key } => read_count(books, key),
         Kind::Zcount { key, min, max } => read_within(books, key, min, max),
         Kind::Zrank { key, member } => read_rank(books, key, member),

@@ -4,7 +4,7 @@ ghost use Rattle.std.specs.Prelude.{IfOk, IsErrOf, IsTrue, OnErr, Some, length, 
 ghost use Rattle.zq_commands.specs.Commands.{HasBooks};
 ghost use Rattle.zq_commands.specs.Lending.{IsDated, IsLending};
 ghost use Rattle.zq_commands.specs.SiteBooks.{AreOfSite, IsKept, IsMerged, IsTaken, empty_book};
-ghost use Rattle.zq_commands.specs.VecBooks.{AreWorkedOn, lending_of, rule_in};
+ghost use Rattle.zq_commands.specs.VecBooks.{AreRecordedOn, lending_of, rule_in};
 ghost use Rattle.zq_dots.specs.Rule.{rule_of};
 ghost use Rattle.zq_history.specs.Books.{Book as Books};
 ghost use Rattle.zq_journal.specs.Books.{LAST_STAMP};
@@ -88,7 +88,7 @@ impl SiteBooks {
         requires dated { IsDated stamp (lending_of self.old) }
         ensures ran { IsRun (rule_in self.old) site stamp command.now self.old self.new (reply_bytes result) }
         ensures rule { rule_in self.new ≡ rule_in self.old }
-        ensures worked { AreWorkedOn self.old self.new }
+        ensures worked { AreRecordedOn self.old self.new }
         ensures dated { IsDated stamp (lending_of self.new) }
         ensures writable { IsTrue (is_writable result) }
     {

@@ -1,33 +1,27 @@
 //! The books of some heaps of a site in a list.
 
-ghost use Rattle.std.specs.Prelude.{IsErrOf, List, OnErr, OnOk, Some, count_by, length, map, not, slice_get, true, ◌<◌, ◌↔◌, ◌≡◌, ◌≤◌};
+ghost use Rattle.std.specs.Prelude.{List, Some, length, map, slice_get, ◌<◌, ◌≡◌};
 ghost use Rattle.zq_commands.specs.Lending.{IsLending};
-ghost use Rattle.zq_commands.specs.VecBooks.{AreWorkedOn, IsWorkedOn, lending_of, rule_in};
-ghost use Rattle.zq_dots.specs.Act.{act_of};
+ghost use Rattle.zq_commands.specs.VecBooks.{AreRecordedOn, lending_of, rule_in};
 ghost use Rattle.zq_history.specs.Books.{Book as Books};
 ghost use Rattle.zq_journal.specs.Books.{state_of};
-ghost use Rattle.zq_model.specs.Bounded.{IsBounded};
-ghost use Rattle.zq_model.specs.Operation.{LONGEST};
 ghost use Rattle.zq_model.specs.Sets.{IsIn};
-ghost use Rattle.zq_moves.specs.Lent.{is_home_of, made_in};
-ghost use Rattle.zq_plans.specs.Ranges.{is_below_limit, is_within};
-ghost use Rattle.zq_plans.specs.Run.{LAST_COUNT, is_worn};
-ghost use Rattle.zq_shard.specs.Shard.{queue_at};
 
 use crate::books::Books;
 use crate::cut::Cut;
+use crate::one_book::{count_between, make_in};
 use std::alloc::{AllocError, Global};
 use zq_dots::{Act, SiteNo, heap_of};
 use zq_journal::Book;
-use zq_shard::{MakeFault, Shard};
-use zq_words::{Bound, Limit};
+use zq_shard::Shard;
+use zq_words::Bound;
 
 impl Books for Vec<Book> {
-    ghost use Rattle.zq_commands.specs.WorkedBooks.{worked_itself, worked_through};
+    ghost use Rattle.zq_commands.specs.RecordedBooks.{recorded_books_itself, recorded_books_through};
 
     ghost lent = { λ books. lending_of books.items };
 
-    ghost keeps = { λ old new. AreWorkedOn old.items new.items };
+    ghost keeps = { λ old new. AreRecordedOn old.items new.items };
 
     fn len(&self) -> usize {
         self.as_slice().len()
@@ -94,9 +88,9 @@ impl Books for Vec<Book> {
         make_in(&mut self[place], alloc, site, stamp, key, member, act)
     }
 
-    ghost keeps_itself = { λ books. worked_itself books.items };
+    ghost keeps_itself = { λ books. recorded_books_itself books.items };
 
-    ghost keeps_through = { λ x y z. worked_through x.items y.items z.items };
+    ghost keeps_through = { λ x y z. recorded_books_through x.items y.items z.items };
 }
 
 /// The place of the book of a heap, which is one of these.
@@ -120,56 +114,4 @@ fn heap_at(books: &[Book], place: usize) -> &Shard
     ensures { (book : Books) → slice_get books.now place ≡ Some book → result.now ≡ record (state_of book) { rule = rule_in books.now } }
 {
     books[place].shard()
-}
-
-/// How many scores of a key are below a limit, or at it unless it is out.
-fn count_to(shard: &Shard, key: &[u8], is_out: bool, limit: Limit) -> usize
-    ensures { result ≡ count_by (λ pair. is_below_limit is_out limit pair.0) (queue_at shard.now key.now) }
-{
-    match limit {
-        Limit::Lowest => 0,
-        Limit::At(score) => shard.count_below(key, i128::from(score), !is_out),
-        Limit::Highest => shard.count(key),
-    }
-}
-
-/// How many scores of a key are within these bounds.
-fn count_between(shard: &Shard, key: &[u8], min: &Bound, max: &Bound) -> usize
-    ensures { result ≡ count_by (is_within min.now max.now) (queue_at shard.now key.now) }
-{
-    let below = count_to(shard, key, max.is_out, max.limit);
-    below.saturating_sub(count_to(shard, key, !min.is_out, min.limit))
-}
-
-/// Makes a site's next operation of an act in a book, which is that of the member's heap. Nothing has changed after an
-/// error.
-fn make_in(
-    book: &mut Book,
-    alloc: Global,
-    site: SiteNo,
-    stamp: u64,
-    key: &[u8],
-    member: &[u8],
-    act: Act,
-) -> Result<(), Cut>
-    requires home { is_home_of key.now member.now book.old ≡ true }
-    requires stamp { book.old.stamp ≤ stamp }
-    requires bounded { stamp ≤ LAST_COUNT }
-    requires key { length key.now ≤ LONGEST }
-    requires member { length member.now ≤ LONGEST }
-    ensures made { OnOk result (book.new ≡ made_in site stamp (record { key = key.now; member = member.now; act = act_of act }) book.old) }
-    ensures bounded { OnOk result (IsBounded book.new.heaps book.new.heap book.new.state) }
-    ensures worked { IsWorkedOn book.old book.new }
-    ensures worn { IsErrOf result Cut.Worn ↔ (is_worn site book.old ≡ true) }
-    ensures refused { OnErr result (book.new ≡ book.old) }
-{
-    match book.make(alloc, site, stamp, key, member, act) {
-        Ok(()) => {
-            let _vector = book.shard().vector();
-            Ok(())
-        }
-        Err(MakeFault::Worn) => Err(Cut::Worn),
-        Err(MakeFault::NoMemory) => Err(Cut::NoMemory),
-        Err(MakeFault::WrongHeap) => unreachable!(),
-    }
 }

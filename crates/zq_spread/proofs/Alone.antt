@@ -1,16 +1,15 @@
 -- The book of one heap, as it is lent: what a move makes of it.
 
-use Rattle.std.proofs.Common.{Bool, Some, [], ap, arith, false, inl, inr, length, refl, suc, sym, true, zero, ℕ, ◌<◌, ◌∙◌, ◌∷◌, ◌≡◌, ◌≤◌, ◌||◌, ◌⊎◌}
-use Rattle.std.proofs.lemmas.Bool.{cond-true, eq-eqb, eqb-true}
+use Rattle.std.proofs.Common.{Bool, None, Some, [], ap, arith, false, inl, inr, length, refl, suc, sym, true, zero, ℕ, ◌<◌, ◌∙◌, ◌∷◌, ◌≡◌, ◌≤◌, ◌||◌}
+use Rattle.std.proofs.lemmas.Bool.{cond-true}
 use Rattle.std.proofs.lemmas.Option.{same_Some}
 use Rattle.std.specs.List.{list_any}
-use Rattle.std.specs.Prelude.{if◌then◌else◌, slice_get, slice_index}
+use Rattle.std.specs.Prelude.{if◌then◌else◌, slice_get}
 use Rattle.zq_commands.specs.Lending.{IsDated, IsLending, lent_after}
 use Rattle.zq_commands.specs.VecBooks.{lending_of}
 use Rattle.zq_history.specs.Books.{Book}
-use Rattle.zq_journal.specs.Books.{LAST_STAMP}
 use Rattle.zq_model.specs.Bounded.{IsBounded}
-use Rattle.zq_model.specs.Sets.{IsIn, LAST}
+use Rattle.zq_model.specs.Sets.{IsIn}
 use Rattle.zq_moves.specs.Lent.{is_home, made_in}
 use Rattle.zq_moves.specs.Moves.{Move}
 use Rattle.zq_plans.specs.Run.{LAST_COUNT, is_worn}
@@ -42,35 +41,9 @@ dated stamp book last below = (last, λ b here. let same = ap (λ (x : Book). x.
 pub lent_made : (site stamp : ℕ) (move : Move) (b : Book) → is_home move b ≡ true → lending_of (made_in site stamp move b ∷ []) ≡ lent_after site stamp move (lending_of (b ∷ []))
 lent_made site stamp move b home =
     let one : made_in site stamp move b ≡ (if is_home move b then made_in site stamp move b else b) = sym (cond-true (is_home move b) (made_in site stamp move b) b home) in
-    λ i. record { rule = b.rule; heaps = b.heaps; books = one i ∷ [] }
+    λ i. record { rule = b.rule; heaps = b.heaps; books = one i ∷ []; told = None }
 
 -- ---- a number at its last value
-
-or_from : (a b : Bool) → (a || b) ≡ true → (a ≡ true) ⊎ (b ≡ true)
-or_from true b is = inl refl
-or_from false b is = inr is
-
-or_of : (a b : Bool) → (a ≡ true) ⊎ (b ≡ true) → (a || b) ≡ true
-or_of true b is = refl
-or_of false b (inl is) = absurd (cc)
-or_of false b (inr is) = is
-
--- the site's counter in a book, or the book's count, is at its last value
-abbrev AreLast : ℕ → Book → Type 0
-AreLast site b = (slice_index b.state.vector site ≡ LAST) ⊎ (b.count ≡ LAST_STAMP)
-
--- which is what the test of a command's cut says
-pub worn_from : (site : ℕ) (b : Book) → is_worn site b ≡ true → AreLast site b
-unfolding LAST_STAMP
-worn_from site b worn = elim (or_from _ _ worn) [
-  | inl is ↦ inl (eqb-true _ _ is)
-  | inr is ↦ inr (eqb-true _ _ is)
-]
-
-pub worn_of : (site : ℕ) (b : Book) → AreLast site b → is_worn site b ≡ true
-unfolding LAST_STAMP
-worn_of site b (inl is) = or_of _ _ (inl (eq-eqb _ _ is))
-worn_of site b (inr is) = or_of _ _ (inr (eq-eqb _ _ is))
 
 abbrev is_why : ℕ → Move → Book → Bool
 is_why site move b = if is_home move b then is_worn site b else false

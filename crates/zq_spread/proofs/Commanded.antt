@@ -6,7 +6,7 @@ use Rattle.std.proofs.lemmas.List.{append_cancel_left}
 use Rattle.std.specs.Prelude.{List, [], ℕ, ◌++◌, ◌∷◌, ◌≡◌}
 use Rattle.zq_commands.specs.Commands.{HasBooks}
 use Rattle.zq_commands.specs.Lending.{HasBook}
-use Rattle.zq_commands.specs.VecBooks.{lending_of}
+use Rattle.zq_commands.specs.VecBooks.{IsRecordedOn, lending_of}
 use Rattle.zq_history.specs.Books.{Book, Record, steps_of}
 use Rattle.zq_history.specs.Reach.{IsWorked}
 use Rattle.zq_model.specs.Heaps.{heap_of}
@@ -15,7 +15,6 @@ use Rattle.zq_plans.specs.Run.{IsRun}
 use Rattle.zq_spread.proofs.Twins.{AreTwins, IsTwin, begun_twin, run_twins}
 use Rattle.zq_spread.specs.Answers.{HasWorked}
 use Rattle.zq_spread.specs.Commanded.{IsAnswered, IsAppended}
-use Rattle.zq_spread.specs.Recorded.{IsRecordedOn}
 use Rattle.zq_words.specs.Command.{Command, Del, Ping, Zadd, ZaddIncr, Zcard, Zcount, Zincrby, Zpopmin, Zpopnear, Zrange, Zrank, Zrem, Zrevrank, Zscore}
 use Rattle.zq_words.specs.Heaps.{heaps_of}
 use Rattle.zq_words.specs.Words.{Word}
@@ -56,7 +55,7 @@ home_alone (Zpopnear key) h K book heap heaps is = tt
 home_alone (Del keys) h K book heap heaps is = tt
 
 -- what a twin's records are, are the steps of the book that was found
-appended : (begun found new left : Book) (records : List Record) → new.tail ≡ begun.tail ++ records → IsTwin begun.tail found.tail new left → IsAppended left found (steps_of records)
+pub appended : (begun found new left : Book) (records : List Record) → new.tail ≡ begun.tail ++ records → IsTwin begun.tail found.tail new left → IsAppended left found (steps_of records)
 appended begun found new left records tail is =
     let same : is.records ≡ records = append_cancel_left begun.tail is.records records (sym is.mine ∙ tail) in
     record { records = is.records; tail = is.theirs; recorded = ap steps_of (sym same) }

@@ -5,7 +5,7 @@ use Rattle.std.proofs.lemmas.Bool.{cases_eq}
 use Rattle.std.proofs.lemmas.List.Elements.{All-cons, All-head, All-nil, All-tail}
 use Rattle.std.proofs.lemmas.List.Sums.{sum_by-cons}
 use Rattle.std.specs.List.{AllZip}
-use Rattle.std.specs.Prelude.{All, IfSome, IsSome, List, None, Option, Some, [], length, refl, slice_get, sum, ℕ, ◌+◌, ◌≡◌, ◌≤◌, ◌∷◌}
+use Rattle.std.specs.Prelude.{All, IsSome, List, None, Option, Some, [], length, refl, slice_get, sum, ℕ, ◌+◌, ◌≡◌, ◌≤◌, ◌∷◌}
 use Rattle.zq_history.specs.Reach.{Reached}
 use Rattle.zq_journal.specs.Books.{LAST_STAMP}
 use Rattle.zq_spread.proofs.Seats.{same_some}
@@ -20,7 +20,7 @@ use Rattle.zq_spread.specs.declared.site.Site.{Site}
 use Rattle.zq_tally.specs.Words.{IsSameTotal}
 use Rattle.zq_tally.specs.declared.count.Count.{Count}
 use Rattle.zq_ticketlock.proofs.Told.{seen_some}
-use Rattle.zq_ticketlock.specs.Seats.{lock_of, id_of, seen}
+use Rattle.zq_ticketlock.specs.Seats.{seen}
 use Rattle.zq_ticketlock.specs.Steps.{FollowsSeen}
 use Rattle.zq_ticketlock.specs.declared.seat.Seat.{Seat}
 
@@ -67,7 +67,7 @@ module _ (site : Site) (heap : ℕ) (room : Room) (at : slice_get site.rooms.ite
     stamp = subst (λ n. n ≤ LAST_STAMP) (sym back.stamp) is.stamp;
   }
 
-  pub back_but : (x y : Pass) → IsCountBack room heap x y → IsPassBut site heap x → IsPassBut site heap y
+  pub back_but : (x y : Pass) → IsCountBack room heap x y → IsPassBut site (heap ∷ []) x → IsPassBut site (heap ∷ []) y
   back_but x y back is = record {
     seats = ap (λ l. length l.items) back.seats ∙ is.seats;
     counts = back.number ∙ is.counts;

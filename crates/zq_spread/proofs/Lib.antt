@@ -5,7 +5,11 @@ pub mod Twins
 pub mod Commanded
 pub mod Readings
 pub mod Alone
-pub mod ScoreBounds
 pub mod Places
 pub mod Settled
 pub mod Companies
+pub mod ManyHeaps
+pub mod Turned
+pub mod Worked
+pub mod Called
+pub mod Named

@@ -42,21 +42,21 @@ taken_at xs n i x took y long within is same some = slice_get_read xs n i x (sym
 
 -- a pass of which a seat was taken
 pub seat_out : (site : Site) (pass new : Pass) (heap : ℕ) (x : Option (Seat Kept)) → new.seats.items ≡ slice_set pass.seats.items heap x → new.counts ≡ pass.counts →
-    new.stamp ≡ pass.stamp → IsPassOf site pass → IsPassBut site heap new
+    new.stamp ≡ pass.stamp → IsPassOf site pass → IsPassBut site (heap ∷ []) new
 seat_out site pass new heap x seats counts stamp is = record {
   seats = ap length seats ∙ length-set pass.seats.items heap x ∙ is.seats;
   counts = ap (λ c. length c.items) counts ∙ is.counts;
   rooms = is.rooms;
-  seat = λ h room other at. subst (IsSeatOf room) (sym (ap (λ l. slice_get l h) seats ∙ set_other pass.seats.items heap h x other)) (is.seat h room at);
+  seat = λ h room other at. subst (IsSeatOf room) (sym (ap (λ l. slice_get l h) seats ∙ set_other pass.seats.items heap h x (λ same. other (inl (sym same))))) (is.seat h room at);
   count = λ h room at. subst (λ c. IsCountOf room (slice_get c.items h)) (sym counts) (is.count h room at);
   stamp = subst (λ n. n ≤ LAST_STAMP) (sym stamp) is.stamp;
 }
 
 -- and of which the seat was put back
-pub seat_back : (site : Site) (pass new : Pass) (heap : ℕ) (room : Room) (seat : Seat Kept) → heap < length site.rooms.items → slice_get site.rooms.items heap ≡ Some room →
+pub seat_home : (site : Site) (pass new : Pass) (heap : ℕ) (out : List ℕ) (room : Room) (seat : Seat Kept) → heap < length site.rooms.items → slice_get site.rooms.items heap ≡ Some room →
     new.seats.items ≡ slice_set pass.seats.items heap (Some seat) → new.counts ≡ pass.counts → new.stamp ≡ pass.stamp → IsSeatOf room (Some (Some seat)) →
-    IsPassBut site heap pass → IsPassOf site new
-seat_back site pass new heap room seat within at seats counts stamp fits is =
+    IsPassBut site (heap ∷ out) pass → IsPassBut site out new
+seat_home site pass new heap out room seat within at seats counts stamp fits is =
     let here : slice_get new.seats.items heap ≡ Some (Some seat) =
     ap (λ l. slice_get l heap) seats ∙ set_same pass.seats.items heap (Some seat) (subst (λ n. heap < n) (sym is.seats) within) in
     let there : (h : ℕ) → (h ≡ heap → ⊥) → slice_get new.seats.items h ≡ slice_get pass.seats.items h =
@@ -65,21 +65,37 @@ seat_back site pass new heap room seat within at seats counts stamp fits is =
       seats = ap length seats ∙ length-set pass.seats.items heap (Some seat) ∙ is.seats;
       counts = ap (λ c. length c.items) counts ∙ is.counts;
       rooms = is.rooms;
-      seat = λ h other_room at_h. elim (cases_eq h heap) [
+      seat = λ h other_room away at_h. elim (cases_eq h heap) [
         | inl same ↦ (
             let one : Some room ≡ Some other_room = sym at ∙ ap (slice_get site.rooms.items) (sym same) ∙ at_h in
             subst (λ r. IsSeatOf r (slice_get new.seats.items h)) (same_some room other_room one) (subst (IsSeatOf room) (sym (ap (slice_get new.seats.items) same ∙ here)) fits))
-        | inr other ↦ subst (IsSeatOf other_room) (sym (there h other)) (is.seat h other_room other at_h)
+        | inr other ↦ subst (IsSeatOf other_room) (sym (there h other)) (is.seat h other_room (λ here. elim here [ inl e ↦ other (sym e) | inr later ↦ away later ]) at_h)
       ];
       count = λ h room at. subst (λ c. IsCountOf room (slice_get c.items h)) (sym counts) (is.count h room at);
       stamp = subst (λ n. n ≤ LAST_STAMP) (sym stamp) is.stamp;
     }
 
+-- a pass with no seat out is one of the site's
+pub all_home : (site : Site) (pass : Pass) → IsPassBut site [] pass → IsPassOf site pass
+all_home site pass is = record {
+  seats = is.seats;
+  counts = is.counts;
+  rooms = is.rooms;
+  seat = λ h room at. is.seat h room (λ none. absurd none) at;
+  count = is.count;
+  stamp = is.stamp;
+}
+
+pub seat_back : (site : Site) (pass new : Pass) (heap : ℕ) (room : Room) (seat : Seat Kept) → heap < length site.rooms.items → slice_get site.rooms.items heap ≡ Some room →
+    new.seats.items ≡ slice_set pass.seats.items heap (Some seat) → new.counts ≡ pass.counts → new.stamp ≡ pass.stamp → IsSeatOf room (Some (Some seat)) →
+    IsPassBut site (heap ∷ []) pass → IsPassOf site new
+seat_back site pass new heap room seat within at seats counts stamp fits is = all_home site new (seat_home site pass new heap [] room seat within at seats counts stamp fits is)
+
 -- a pass of which a count was taken and put back
-pub count_back : (site : Site) (pass new : Pass) (heap : ℕ) (room : Room) (x : Option Count) (count : Count) → heap < length site.rooms.items →
+pub count_back : (site : Site) (pass new : Pass) (out : List ℕ) (heap : ℕ) (room : Room) (x : Option Count) (count : Count) → heap < length site.rooms.items →
     slice_get site.rooms.items heap ≡ Some room → new.seats ≡ pass.seats → new.counts.items ≡ slice_set (slice_set pass.counts.items heap x) heap (Some count) →
-    new.stamp ≤ LAST_STAMP → IsCountOf room (Some (Some count)) → IsPassBut site heap pass → IsPassBut site heap new
-count_back site pass new heap room x count within at seats counts stamp fits is =
+    new.stamp ≤ LAST_STAMP → IsCountOf room (Some (Some count)) → IsPassBut site out pass → IsPassBut site out new
+count_back site pass new out heap room x count within at seats counts stamp fits is =
     let long : length (slice_set pass.counts.items heap x) ≡ length site.rooms.items = length-set pass.counts.items heap x ∙ is.counts in
     let here : slice_get new.counts.items heap ≡ Some (Some count) =
     ap (λ l. slice_get l heap) counts ∙ set_same (slice_set pass.counts.items heap x) heap (Some count) (subst (λ n. heap < n) (sym long) within) in

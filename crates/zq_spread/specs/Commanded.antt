@@ -4,7 +4,7 @@ use Rattle.std.specs.Prelude.{List, [], ℕ, ◌++◌, ◌∷◌, ◌≡◌}
 use Rattle.zq_history.specs.Books.{Book, Record, Step, steps_of}
 use Rattle.zq_model.specs.Rule.{Rule}
 use Rattle.zq_plans.specs.Replies.{bytes_of}
-use Rattle.zq_plans.specs.Run.{IsRun, Number, cut_error}
+use Rattle.zq_plans.specs.Run.{IsRun, Memory, Number, cut_error}
 use Rattle.zq_words.specs.Command.{Command}
 use Rattle.zq_words.specs.Words.{Word}
 
@@ -29,3 +29,7 @@ pub record IsAnswered (rule : Rule) (site stamp : ℕ) (command : Command) (repl
 -- the reply where a lock or the stamp is at its last value
 abbrev pub worn_reply : Word
 worn_reply = bytes_of (cut_error 0 Number)
+
+-- and where there is no memory to hold more heaps than one
+abbrev pub short_reply : Word
+short_reply = bytes_of (cut_error 0 Memory)

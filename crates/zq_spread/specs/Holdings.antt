@@ -1,6 +1,6 @@
 -- A heap that a pass holds.
 
-use Rattle.std.specs.Prelude.{Some, slice_get, ℕ, ◌<◌, ◌≡◌}
+use Rattle.std.specs.Prelude.{Some, [], slice_get, ℕ, ◌<◌, ◌∷◌, ◌≡◌}
 use Rattle.zq_history.specs.Books.{Book}
 use Rattle.zq_spread.specs.Calls.{heaps_of}
 use Rattle.zq_spread.specs.Kept.{Follows, IsAtHome}
@@ -24,7 +24,7 @@ book_held holding = (kept_held holding).book
 -- the heap is one of the site's, held by one of its passes, and its value is the one that was given
 pub record IsHoldingOf (site : Site) (holding : Holding) : Type 0 where
   pub heap : holding.heap < heaps_of site
-  pub pass : IsPassBut site holding.heap holding.pass
+  pub pass : IsPassBut site (holding.heap ∷ []) holding.pass
   pub lock : (room : Room) → slice_get site.rooms.items holding.heap ≡ Some room → held_lock holding.held ≡ id_of room.lock
   pub of : (room : Room) → slice_get site.rooms.items holding.heap ≡ Some room → IsOf room (kept_held holding)
   pub home : IsAtHome (kept_held holding)

@@ -10,3 +10,6 @@ pub mod Companies
 pub mod Makers
 pub mod Grounds
 pub mod Meetings
+pub mod Drawn
+pub mod Dispatch
+pub mod Several

@@ -1,7 +1,8 @@
 -- What a pass has of a site.
 
-use Rattle.std.specs.Prelude.{IfSome, None, Option, Some, length, slice_get, ℕ, ◌≡◌, ◌≤◌}
+use Rattle.std.specs.Prelude.{IfSome, List, None, Option, Some, length, slice_get, ℕ, ◌≡◌, ◌≤◌}
 use Rattle.zq_journal.specs.Books.{LAST_STAMP}
+use Rattle.zq_model.specs.Sets.{IsIn}
 use Rattle.zq_spread.specs.Kept.{Follows}
 use Rattle.zq_spread.specs.Rooms.{IsOf}
 use Rattle.zq_spread.specs.declared.kept.Kept.{Kept}
@@ -44,12 +45,12 @@ IsCountOf room other = ⊥
 abbrev pub IsRoomAt : Site → ℕ → Room → Type 0
 IsRoomAt site h room = (room.heap ≡ h) × (room.heaps ≡ length site.rooms.items) × (room.rule ≡ site.rule)
 
--- the pass is one of the site's, and a call works in this heap, where its seat is out
-pub record IsPassBut (site : Site) (heap : ℕ) (pass : Pass) : Type 0 where
+-- the pass is one of the site's, and calls work in these heaps, where its seats are out
+pub record IsPassBut (site : Site) (out : List ℕ) (pass : Pass) : Type 0 where
   pub seats : length pass.seats.items ≡ length site.rooms.items
   pub counts : length pass.counts.items ≡ length site.rooms.items
   pub rooms : (h : ℕ) (room : Room) → slice_get site.rooms.items h ≡ Some room → IsRoomAt site h room
-  pub seat : (h : ℕ) (room : Room) → (h ≡ heap → ⊥) → slice_get site.rooms.items h ≡ Some room → IsSeatOf room (slice_get pass.seats.items h)
+  pub seat : (h : ℕ) (room : Room) → (IsIn h out → ⊥) → slice_get site.rooms.items h ≡ Some room → IsSeatOf room (slice_get pass.seats.items h)
   pub count : (h : ℕ) (room : Room) → slice_get site.rooms.items h ≡ Some room → IsCountOf room (slice_get pass.counts.items h)
   pub stamp : pass.stamp ≤ LAST_STAMP
 

@@ -3,7 +3,7 @@ ghost use Rattle.std.specs.Prelude.{◌≡◌, ◌<◌, ◌⊎◌, ◌∷◌, []
 ghost use Rattle.zq_dots.specs.Rule.{rule_of};
 ghost use Rattle.zq_resp.specs.Reply.{is_writable, reply_bytes};
 ghost use Rattle.zq_spread.specs.Calls.{IsCall, heaps_of};
-ghost use Rattle.zq_spread.specs.Commanded.{IsAnswered, worn_reply};
+ghost use Rattle.zq_spread.specs.Commanded.{IsAnswered, short_reply, worn_reply};
 ghost use Rattle.zq_spread.specs.Passes.{IsPassOf, IsStopped};
 ghost use Rattle.zq_words.specs.Heaps as named;
 ghost use Rattle.zq_words.specs.declared.heaps.Heaps.TheVariants.{One};
@@ -18,12 +18,23 @@ use zq_ticketlock::TryFault;
 use zq_words::Command;
 
 /// The reply where a lock or the stamp is at its last value.
-fn worn() -> Reply
+pub(crate) fn worn() -> Reply
     ensures bytes { reply_bytes result ≡ worn_reply }
     ensures writable { IsTrue (is_writable result) }
 {
     Reply::Error {
         text: "ERR worn after",
+        after: Some(0),
+    }
+}
+
+/// The reply where there is no memory to hold more heaps than one.
+pub(crate) fn short() -> Reply
+    ensures bytes { reply_bytes result ≡ short_reply }
+    ensures writable { IsTrue (is_writable result) }
+{
+    Reply::Error {
+        text: "OOM after",
         after: Some(0),
     }
 }

@@ -3,13 +3,19 @@
 
 mod answering;
 mod calling;
+mod calling_all;
+mod dispatching;
+mod drawing;
 mod draws;
 mod faults;
 mod ground;
 mod holding;
 mod holdings;
+mod holds;
 mod kept;
 mod lending;
+mod lending_all;
+mod locking;
 mod makers;
 mod meeting;
 mod merging;
@@ -19,10 +25,15 @@ mod reading;
 mod room;
 mod seating;
 mod settling;
+mod several;
 mod site;
+mod sought;
+mod stacking;
 mod taking;
 mod tallying;
+mod trying_all;
 mod turns;
+mod working;
 
 pub use draws::Draws;
 pub use faults::{Busy, HoldFault, ReadFault, SiteFault};

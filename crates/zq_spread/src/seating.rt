@@ -1,5 +1,5 @@
 //! How a pass's seat in a heap is taken out and put back.
-ghost use Rattle.std.specs.Prelude.{◌≡◌, ◌<◌, Some, length, slice_get};
+ghost use Rattle.std.specs.Prelude.{◌≡◌, ◌<◌, ◌∷◌, [], Some, length, slice_get};
 ghost use Rattle.zq_spread.specs.Companies.{IsSameBut};
 ghost use Rattle.zq_spread.specs.Passes.{IsPassBut, IsPassOf, IsSeatOf, seen_at};
 ghost use Rattle.zq_spread.specs.declared.room.Room.{Room};
@@ -15,7 +15,7 @@ impl Site {
     pub(crate) fn take_seat(&self, pass: &mut Pass, heap: usize) -> Seat<Kept>
         requires pass { IsPassOf self.now pass.old }
         requires heap { heap < length self.now.rooms.items }
-        ensures pass { IsPassBut self.now heap pass.new }
+        ensures pass { IsPassBut self.now (heap ∷ []) pass.new }
         ensures seat { (room : Room) → slice_get self.now.rooms.items heap ≡ Some room → IsSeatOf room (Some (Some result)) }
         ensures seen { seen result ≡ seen_at pass.old heap }
         ensures stays { IsSameBut heap pass.old pass.new }
@@ -29,7 +29,7 @@ impl Site {
 
     /// Puts a seat back.
     pub(crate) fn put_seat(&self, pass: &mut Pass, heap: usize, seat: Seat<Kept>)
-        requires pass { IsPassBut self.now heap pass.old }
+        requires pass { IsPassBut self.now (heap ∷ []) pass.old }
         requires heap { heap < length self.now.rooms.items }
         requires seat { (room : Room) → slice_get self.now.rooms.items heap ≡ Some room → IsSeatOf room (Some (Some seat)) }
         ensures pass { IsPassOf self.now pass.new }

@@ -1,4 +1,5 @@
 //! A site, its type.
+ghost use Rattle.std.specs.Prelude.{length, ◌≤◌};
 
 use crate::room::Room;
 use zq_dots::{Rule, SiteNo};
@@ -9,4 +10,6 @@ pub struct Site {
     pub(crate) number: SiteNo,
     pub(crate) rule: Rule,
     pub(crate) rooms: Vec<Room>,
+    ghost some: { 2 ≤ length rooms.items },
+    ghost most: { length rooms.items ≤ 16 },
 }

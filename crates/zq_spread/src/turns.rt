@@ -1,5 +1,5 @@
 //! How a call begins and ends in one heap.
-ghost use Rattle.std.specs.Prelude.{◌≡◌, ◌≤◌, ◌<◌, ◌+◌, IfOk, IfSome, OnErr, OnOk, Some, length, slice_get, ℕ};
+ghost use Rattle.std.specs.Prelude.{◌≡◌, ◌≤◌, ◌<◌, ◌+◌, ◌∷◌, [], List, IfOk, IfSome, OnErr, OnOk, Some, length, slice_get, ℕ};
 ghost use Rattle.zq_journal.specs.Books.{LAST_STAMP};
 ghost use Rattle.zq_spread.specs.Passes.{IsPassBut, IsPassOf, IsStopped, seen_at, steps_at};
 ghost use Rattle.zq_spread.specs.Rooms.{IsBegun, IsWorkedOn};
@@ -23,7 +23,7 @@ impl Site {
     ) -> Result<(Held<Kept>, u64), Worn>
         requires pass { IsPassOf self.now pass.old }
         requires heap { heap < length self.now.rooms.items }
-        ensures pass { OnOk result (IsPassBut self.now heap pass.new) }
+        ensures pass { OnOk result (IsPassBut self.now (heap ∷ []) pass.new) }
         ensures bounded { IfOk result (λ begun. begun.1 ≤ LAST_STAMP) }
         ensures lock { IfOk result (λ begun. (room : Room) → slice_get self.now.rooms.items heap ≡ Some room → held_lock begun.0 ≡ id_of room.lock) }
         ensures begun { IfOk result (λ begun. (room : Room) → slice_get self.now.rooms.items heap ≡ Some room →
@@ -53,7 +53,7 @@ impl Site {
     ) -> Result<(Held<Kept>, u64), TryFault>
         requires pass { IsPassOf self.now pass.old }
         requires heap { heap < length self.now.rooms.items }
-        ensures pass { OnOk result (IsPassBut self.now heap pass.new) }
+        ensures pass { OnOk result (IsPassBut self.now (heap ∷ []) pass.new) }
         ensures bounded { IfOk result (λ begun. begun.1 ≤ LAST_STAMP) }
         ensures lock { IfOk result (λ begun. (room : Room) → slice_get self.now.rooms.items heap ≡ Some room → held_lock begun.0 ≡ id_of room.lock) }
         ensures begun { IfOk result (λ begun. (room : Room) → slice_get self.now.rooms.items heap ≡ Some room →
@@ -72,15 +72,15 @@ impl Site {
         }
     }
 
-    /// Ends a call in one heap, as `Room::end` does. The pass has its seat there again, the steps that the call made, and
-    /// the call's stamp.
-    pub(crate) fn end_in(&self, pass: &mut Pass, heap: usize, held: Held<Kept>, stamp: u64)
-        requires pass { IsPassBut self.now heap pass.old }
+    /// Ends a call in one of the heaps in which the pass has no seat, as `Room::end` does. The pass has its seat there
+    /// again, the steps that the call made, and the call's stamp.
+    pub(crate) fn finish(&self, pass: &mut Pass, heap: usize, held: Held<Kept>, stamp: u64)
+        requires pass { (out : List ℕ) × IsPassBut self.now (heap ∷ out) pass.old }
         requires heap { heap < length self.now.rooms.items }
         requires stamp { stamp ≤ LAST_STAMP }
         requires lock { (room : Room) → slice_get self.now.rooms.items heap ≡ Some room → held_lock held ≡ id_of room.lock }
         requires worked { (room : Room) → slice_get self.now.rooms.items heap ≡ Some room → IfSome (given held) (IsWorkedOn room (value_of held)) }
-        ensures pass { IsPassOf self.now pass.new }
+        ensures pass { (out : List ℕ) → IsPassBut self.now (heap ∷ out) pass.old → IsPassBut self.now out pass.new }
         ensures stamp { pass.new.stamp ≡ stamp }
         ensures seen { (left : Value) × (seen_at pass.new heap ≡ Some left) × (left.book ≡ (value_of held).book) }
         ensures steps { IfSome (given held) (λ found. steps_at pass.new heap + found.book.count ≡ steps_at pass.old heap + (value_of held).book.count) }
@@ -93,5 +93,21 @@ impl Site {
         pass.counts[heap] = Some(count);
         pass.seats[heap] = Some(seat);
         pass.stamp = stamp;
+    }
+
+    /// The same where that is the only one.
+    pub(crate) fn end_in(&self, pass: &mut Pass, heap: usize, held: Held<Kept>, stamp: u64)
+        requires pass { IsPassBut self.now (heap ∷ []) pass.old }
+        requires heap { heap < length self.now.rooms.items }
+        requires stamp { stamp ≤ LAST_STAMP }
+        requires lock { (room : Room) → slice_get self.now.rooms.items heap ≡ Some room → held_lock held ≡ id_of room.lock }
+        requires worked { (room : Room) → slice_get self.now.rooms.items heap ≡ Some room → IfSome (given held) (IsWorkedOn room (value_of held)) }
+        ensures pass { IsPassOf self.now pass.new }
+        ensures stamp { pass.new.stamp ≡ stamp }
+        ensures seen { (left : Value) × (seen_at pass.new heap ≡ Some left) × (left.book ≡ (value_of held).book) }
+        ensures steps { IfSome (given held) (λ found. steps_at pass.new heap + found.book.count ≡ steps_at pass.old heap + (value_of held).book.count) }
+        ensures others { (k : ℕ) → (k ≡ heap → ⊥) → (seen_at pass.new k ≡ seen_at pass.old k) × (steps_at pass.new k ≡ steps_at pass.old k) }
+    {
+        self.finish(pass, heap, held, stamp);
     }
 }

@@ -1,9 +1,12 @@
-use Rattle.std.proofs.Common.{[], ap, map, ◌++◌, ◌∙◌, ◌∷◌, ◌≡◌}
+use Rattle.std.proofs.Common.{[], ap, map, rules, ◌++◌, ◌∙◌, ◌∷◌, ◌≡◌}
+use Rattle.std.proofs.lemmas.Int.{to_z-of_z}
+use Rattle.std.specs.Int.{w128}
 use Rattle.zq_commands.proofs.FirstPairs.{copied_first, none_copied}
 use Rattle.zq_commands.proofs.PoppedParts.{copied_bytes, copied_writable, with_copied}
 use Rattle.zq_commands.specs.Lending.{queues_in}
+use mir.Val.{SFits}
 use Rattle.zq_resp.specs.Reply.{bulk, reply_bytes}
-use Rattle.zq_resp.specs.declared.reply.Reply.{Bulk}
+use Rattle.zq_resp.specs.declared.reply.Reply.{Bulk, Number}
 use Rattle.zq_commands.proofs.popping.pop_one.Goals as goal
 
 pub returns-in-None-clause-empty : goal.returns-in-None-clause-empty
@@ -13,8 +16,9 @@ pub returns-clause-popped : goal.returns-clause-popped
 returns-clause-popped g c = λ _.
     let q = queues_in (g.B.Books.lent c.args.books.now) c.args.key.now in
     let drops = c.in-Ok.ensures.dropped in
+    let fits : SFits w128 c.in-Some.pair.score = search rules in
     let items : c.push_reserved-2.new.self.items ≡ with_copied c.args.parts.now.items c.in-Some.pair
-    = c.push_reserved-2.ensures.items ∙ ap (λ ps. ps ++ Bulk c.in-Some.pair.score ∷ []) (c.push_reserved.ensures.items ∙ ap (λ ps. ps ++ Bulk c.in-Some.pair.member ∷ []) c.reserve.ensures.items) in
+    = c.push_reserved-2.ensures.items ∙ ap (λ n. c.push_reserved.new.self.items ++ Number n ∷ []) (to_z-of_z w128 c.in-Some.pair.score fits) ∙ ap (λ ps. ps ++ Number c.in-Some.pair.score ∷ []) (c.push_reserved.ensures.items ∙ ap (λ ps. ps ++ Bulk c.in-Some.pair.member ∷ []) c.reserve.ensures.items) in
     record {
       drops = drops;
       parts =
@@ -23,5 +27,7 @@ returns-clause-popped g c = λ _.
     }
 
 pub returns-clause-writable : goal.returns-clause-writable
-returns-clause-writable g c = copied_writable c.args.parts.now.items c.push_reserved-2.new.self.items c.in-Some.pair
-    (c.push_reserved-2.ensures.items ∙ ap (λ ps. ps ++ Bulk c.in-Some.pair.score ∷ []) (c.push_reserved.ensures.items ∙ ap (λ ps. ps ++ Bulk c.in-Some.pair.member ∷ []) c.reserve.ensures.items))
+returns-clause-writable g c =
+    let fits : SFits w128 c.in-Some.pair.score = search rules in
+    copied_writable c.args.parts.now.items c.push_reserved-2.new.self.items c.in-Some.pair
+    (c.push_reserved-2.ensures.items ∙ ap (λ n. c.push_reserved.new.self.items ++ Number n ∷ []) (to_z-of_z w128 c.in-Some.pair.score fits) ∙ ap (λ ps. ps ++ Number c.in-Some.pair.score ∷ []) (c.push_reserved.ensures.items ∙ ap (λ ps. ps ++ Bulk c.in-Some.pair.member ∷ []) c.reserve.ensures.items))

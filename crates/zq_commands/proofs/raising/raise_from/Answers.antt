@@ -1,13 +1,9 @@
 use Rattle.std.proofs.Common.{Err, ap, rules, sym, true, ◌∙◌, ◌≡◌}
-use Rattle.zq_commands.proofs.RanPlans.{raise_in, ran_none, ran_refused}
+use Rattle.zq_commands.proofs.RanPlans.{raise_in, ran_refused}
 use Rattle.zq_moves.specs.Moves.{Move}
 use Rattle.zq_plans.specs.Plan as plan
 use Rattle.zq_words.specs.Words as words
 use Rattle.zq_commands.proofs.raising.raise_from.Goals as goal
-
-pub returns-in_default-clause-ran : goal.returns-in_default-clause-ran
-returns-in_default-clause-ran g c =
-    ran_none c.args.site c.args.stamp (plan.raise c.args.key.now c.args.pair.now.member.now c.args.old c.args.pair.now.score) (g.B.Books.lent c.args.books.now) _ c.cut_reply.ensures.bytes
 
 pub returns-in-Err-clause-ran : goal.returns-in-Err-clause-ran
 returns-in-Err-clause-ran g c =
@@ -16,4 +12,4 @@ returns-in-Err-clause-ran g c =
     let move : Move = record { key = c.args.key.now; member = c.args.pair.now.member.now; act = plan.raising c.args.old c.args.pair.now.score } in
     ran_refused c.args.site c.args.stamp (plan.raise c.args.key.now c.args.pair.now.member.now c.args.old c.args.pair.now.score) move c.in-Err.cut (g.B.Books.lent c.args.books.now)
     (g.B.Books.lent c.raise_member.new.books) _ (ap (λ (p : plan.Plan). p.moves) (raise_in c.args.key.now c.args.pair.now.member.now c.args.old c.args.pair.now.score within))
-    c.in-Err.ensures.refused (λ e. c.in-Err.ensures.worn (ap (λ cut. Err cut) e)) c.cut_reply-in-Err.ensures.bytes
+    c.in-Err.ensures.refused (λ e. c.in-Err.ensures.worn (ap (λ cut. Err cut) e)) c.cut_reply.ensures.bytes

@@ -1,14 +1,16 @@
-use Rattle.std.proofs.Common.{All, Some, arith, false, map, rules, subst, sym, true, ◌≡◌}
+use Rattle.std.proofs.Common.{All, Some, arith, false, map, refl, rules, subst, sym, true, ◌≡◌}
 use Rattle.std.proofs.lemmas.Int.{to_z-of_z}
-use Rattle.zq_commands.proofs.RanPlans.{ran_read}
+use Rattle.zq_commands.proofs.RanPlans.{ran_read, run_told}
 use Rattle.zq_commands.specs.Commands.{HasBooks, IsRunOver, is_reading}
 use Rattle.zq_commands.specs.Lending.{HasBook, queues_in}
-use Rattle.zq_commands.specs.Running.{RunsOver}
+use Rattle.zq_commands.specs.Running.{EndsOver, RunsOver}
 use Rattle.zq_plans.specs.Plan as plan
 use Rattle.zq_plans.specs.Ranges.{from_zero}
 use Rattle.zq_plans.specs.Run.{cut_error, cut_pop}
 use Rattle.zq_resp.specs.Reply.{reply_bytes}
-use Rattle.zq_words.specs.Shown.{pair_shown, shown}
+use Rattle.zq_words.specs.Command as command
+use Rattle.zq_words.specs.Shown.{pair_shown, pairs_shown, shown}
+use Rattle.zq_words.specs.Words.{views}
 use Rattle.zq_commands.proofs.running.run_kind.Goals as goal
 
 pub put_pairs-requires-clause-homes : goal.put_pairs-requires-clause-homes
@@ -29,40 +31,58 @@ pub returns-in-Zadd-clause-ran : goal.returns-in-Zadd-clause-ran
 returns-in-Zadd-clause-ran g c =
     let old = g.B.Books.lent c.args.books.now in
     let new = g.B.Books.lent c.put_pairs.new.books in
-    subst (λ kind. IsRunOver c.args.site c.args.stamp (shown kind) old new (reply_bytes c.put_pairs.result)) (sym c.in-Zadd.is)
+    subst (λ kind. IsRunOver c.args.site c.args.stamp (shown kind) old new (reply_bytes c.of.result.reply) c.of.result.is_short) (sym c.in-Zadd.is)
+    (run_told c.args.site c.args.stamp (command.Zadd c.in-Zadd.key.now c.in-Zadd.flags (pairs_shown c.in-Zadd.pairs)) old new c.put_pairs.result c.of.result (λ k. refl) c.of.ensures.reply c.of.ensures.short
     (subst (λ pairs. RunsOver c.args.site c.args.stamp true (plan.in_turn (plan.zadd_part c.in-Zadd.key.now c.in-Zadd.flags) (map pair_shown pairs) (queues_in old)) cut_error old new (reply_bytes c.put_pairs.result))
-    c.as_slice.ensures c.put_pairs.ensures.ran)
+    c.as_slice.ensures c.put_pairs.ensures.ran))
 
 pub returns-in-ZaddIncr-clause-ran : goal.returns-in-ZaddIncr-clause-ran
 returns-in-ZaddIncr-clause-ran g c =
-    subst (λ kind. IsRunOver c.args.site c.args.stamp (shown kind) (g.B.Books.lent c.args.books.now) (g.B.Books.lent c.raise_if.new.books) (reply_bytes c.raise_if.result)) (sym c.in-ZaddIncr.is) c.raise_if.ensures.ran
+    let old = g.B.Books.lent c.args.books.now in
+    let new = g.B.Books.lent c.raise_if.new.books in
+    subst (λ kind. IsRunOver c.args.site c.args.stamp (shown kind) old new (reply_bytes c.of-in-ZaddIncr.result.reply) c.of-in-ZaddIncr.result.is_short) (sym c.in-ZaddIncr.is)
+    (run_told c.args.site c.args.stamp (command.ZaddIncr c.in-ZaddIncr.key.now c.in-ZaddIncr.flags c.in-ZaddIncr.pair.score c.in-ZaddIncr.pair.member.now) old new c.raise_if.result c.of-in-ZaddIncr.result (λ k. refl) c.of-in-ZaddIncr.ensures.reply c.of-in-ZaddIncr.ensures.short c.raise_if.ensures.ran)
 
 pub returns-in-Zincrby-clause-ran : goal.returns-in-Zincrby-clause-ran
 returns-in-Zincrby-clause-ran g c =
-    subst (λ kind. IsRunOver c.args.site c.args.stamp (shown kind) (g.B.Books.lent c.args.books.now) (g.B.Books.lent c.raise.new.books) (reply_bytes c.raise.result)) (sym c.in-Zincrby.is) c.raise.ensures.ran
+    let old = g.B.Books.lent c.args.books.now in
+    let new = g.B.Books.lent c.raise.new.books in
+    subst (λ kind. IsRunOver c.args.site c.args.stamp (shown kind) old new (reply_bytes c.of-in-Zincrby.result.reply) c.of-in-Zincrby.result.is_short) (sym c.in-Zincrby.is)
+    (run_told c.args.site c.args.stamp (command.Zincrby c.in-Zincrby.key.now c.in-Zincrby.pair.score c.in-Zincrby.pair.member.now) old new c.raise.result c.of-in-Zincrby.result (λ k. refl) c.of-in-Zincrby.ensures.reply c.of-in-Zincrby.ensures.short c.raise.ensures.ran)
 
 pub returns-in-Zrem-clause-ran : goal.returns-in-Zrem-clause-ran
 returns-in-Zrem-clause-ran g c =
-    subst (λ kind. IsRunOver c.args.site c.args.stamp (shown kind) (g.B.Books.lent c.args.books.now) (g.B.Books.lent c.drop_members.new.books) (reply_bytes c.drop_members.result)) (sym c.in-Zrem.is) c.drop_members.ensures.ran
-
-pub returns-in-Zpopnear-clause-ran : goal.returns-in-Zpopnear-clause-ran
-returns-in-Zpopnear-clause-ran g c =
-    subst (λ kind. IsRunOver c.args.site c.args.stamp (shown kind) (g.B.Books.lent c.args.books.now) (g.B.Books.lent c.pop-in-Zpopnear.new.books) (reply_bytes c.pop-in-Zpopnear.result)) (sym c.in-Zpopnear.is) c.pop-in-Zpopnear.ensures.ran
+    let old = g.B.Books.lent c.args.books.now in
+    let new = g.B.Books.lent c.drop_members.new.books in
+    subst (λ kind. IsRunOver c.args.site c.args.stamp (shown kind) old new (reply_bytes c.of-in-Zrem.result.reply) c.of-in-Zrem.result.is_short) (sym c.in-Zrem.is)
+    (run_told c.args.site c.args.stamp (command.Zrem c.in-Zrem.key.now (views c.in-Zrem.members.now)) old new c.drop_members.result c.of-in-Zrem.result (λ k. refl) c.of-in-Zrem.ensures.reply c.of-in-Zrem.ensures.short c.drop_members.ensures.ran)
 
 pub returns-in-Del-clause-ran : goal.returns-in-Del-clause-ran
 returns-in-Del-clause-ran g c =
-    subst (λ kind. IsRunOver c.args.site c.args.stamp (shown kind) (g.B.Books.lent c.args.books.now) (g.B.Books.lent c.clear_keys.new.books) (reply_bytes c.clear_keys.result)) (sym c.in-Del.is) c.clear_keys.ensures.ran
+    let old = g.B.Books.lent c.args.books.now in
+    let new = g.B.Books.lent c.clear_keys.new.books in
+    subst (λ kind. IsRunOver c.args.site c.args.stamp (shown kind) old new (reply_bytes c.of-in-Del.result.reply) c.of-in-Del.result.is_short) (sym c.in-Del.is)
+    (run_told c.args.site c.args.stamp (command.Del (views c.in-Del.keys.now)) old new c.clear_keys.result c.of-in-Del.result (λ k. refl) c.of-in-Del.ensures.reply c.of-in-Del.ensures.short c.clear_keys.ensures.ran)
+
+pub returns-in-Zpopnear-clause-ran : goal.returns-in-Zpopnear-clause-ran
+returns-in-Zpopnear-clause-ran g c =
+    subst (λ kind. IsRunOver c.args.site c.args.stamp (shown kind) (g.B.Books.lent c.args.books.now) (g.B.Books.lent c.pop-in-Zpopnear.new.books) (reply_bytes c.pop-in-Zpopnear.result.reply) c.pop-in-Zpopnear.result.is_short)
+    (sym c.in-Zpopnear.is) c.pop-in-Zpopnear.ensures.ran
 
 pub returns-in-Zpopmin-clause-ran : goal.returns-in-Zpopmin-clause-ran
 returns-in-Zpopmin-clause-ran g c =
     let old = g.B.Books.lent c.args.books.now in
     let new = g.B.Books.lent c.pop.new.books in
     let key = c.in-Zpopmin.key.now in
+    let ran = c.pop.result in
     let same : c.from_zero.result ≡ from_zero c.in-Zpopmin.count = grind (arith, to_z-of_z, c.from_zero.ensures.value) in
-    subst (λ kind. IsRunOver c.args.site c.args.stamp (shown kind) old new (reply_bytes c.pop.result)) (sym c.in-Zpopmin.is)
-    (subst (λ n. RunsOver c.args.site c.args.stamp false (plan.pop key n (queues_in old)) (cut_pop (Some (key, n)) (queues_in old)) old new (reply_bytes c.pop.result)) same c.pop.ensures.ran)
+    subst (λ kind. IsRunOver c.args.site c.args.stamp (shown kind) old new (reply_bytes ran.reply) ran.is_short) (sym c.in-Zpopmin.is)
+    (subst (λ n. EndsOver c.args.site c.args.stamp false (plan.pop key n (queues_in old)) (cut_pop (Some (key, n)) (queues_in old)) old new (reply_bytes ran.reply) ran.is_short) same c.pop.ensures.ran)
 
 pub returns-in_default-clause-ran : goal.returns-in_default-clause-ran
 returns-in_default-clause-ran g c =
     let reads : is_reading (shown c.args.kind.now) ≡ true = search rules in
-    ran_read c.args.site c.args.stamp (shown c.args.kind.now) (g.B.Books.lent c.args.books.now) (reply_bytes c.read.result) reads c.read.ensures.read
+    let lent = g.B.Books.lent c.args.books.now in
+    let ran = c.of-in_default.result in
+    subst (λ r. IsRunOver c.args.site c.args.stamp (shown c.args.kind.now) lent lent (reply_bytes r) ran.is_short) (sym c.of-in_default.ensures.reply)
+    (ran_read c.args.site c.args.stamp (shown c.args.kind.now) lent (reply_bytes c.read.result) ran.is_short reads c.read.ensures.read (c.of-in_default.ensures.short 0))

@@ -5,7 +5,7 @@ use Rattle.std.specs.Prelude.{slice_get}
 use Rattle.std.specs.Result.{OnOk}
 use Rattle.zq_commands.proofs.BookMoves.{set_dated, set_lending, set_lent_after, why_worn, worn_why}
 use Rattle.zq_commands.proofs.OnOk.{on_both, on_ok}
-use Rattle.zq_commands.proofs.VecBooks.{worked_at}
+use Rattle.zq_commands.proofs.VecBooks.{recorded_at}
 use Rattle.zq_commands.specs.Lending.{IsDated, IsLending}
 use Rattle.zq_commands.specs.VecBooks.{lending_of}
 use Rattle.zq_dots.specs.Act.{act_of}
@@ -95,4 +95,4 @@ returns-clause-dated c =
 
 pub returns-clause-keeps : goal.returns-clause-keeps
 returns-clause-keeps c =
-    worked_at c.args.self.now.items c.args.place c.index_mut.result.now c.make_in.new.book (stands (goal.at.returns-clause-keeps c).After-index_mut) c.make_in.ensures.worked
+    recorded_at c.args.self.now.items c.args.place c.index_mut.result.now c.make_in.new.book (stands (goal.at.returns-clause-keeps c).After-index_mut) c.make_in.ensures.recorded

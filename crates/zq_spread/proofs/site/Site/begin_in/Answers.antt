@@ -1,7 +1,7 @@
 use Rattle.std.proofs.Common.{ap, subst, sym, ◌∙◌}
 use Rattle.std.proofs.lemmas.Option.{slice_get_read}
 use Rattle.std.specs.Vec as Vec
-use Rattle.std.specs.Prelude.{IfSome, None, Some, refl, length, slice_get, ℕ, ◌<◌, ◌≡◌}
+use Rattle.std.specs.Prelude.{IfSome, None, Some, [], refl, length, slice_get, ℕ, ◌<◌, ◌∷◌, ◌≡◌}
 use Rattle.zq_spread.proofs.Seats.{found_at, same_some, seat_back, seat_out, set_other, set_same, stopped, taken_at}
 use Rattle.zq_spread.proofs.site.Site.begin_in.Goals as goal
 use Rattle.zq_spread.specs.Passes.{IsPassBut, IsSeatOf, IsSeenLater, seen_at, seen_in}
@@ -64,7 +64,7 @@ returns-in-Err-clause-refused g c =
     let here : slice_get site.rooms.items heap ≡ Some c.index.result.now = slice_get_read site.rooms.items (length site.rooms.items) heap c.index.result.now refl c.requires.heap c.index.ensures in
     let there : slice_get old.seats.items heap ≡ Some (Some c.in-Some.seat) =
     taken_at old.seats.items (length site.rooms.items) heap c.index_mut.result.now c.take.result (Some c.in-Some.seat) c.requires.pass.seats c.requires.heap c.index_mut.ensures.value c.take.ensures.value c.in-Some.is in
-    let but : IsPassBut site heap mid = seat_out site old mid heap c.take.new.self refl refl refl c.requires.pass in
+    let but : IsPassBut site (heap ∷ []) mid = seat_out site old mid heap c.take.new.self refl refl refl c.requires.pass in
     let fits : IsSeatOf c.index.result.now (Some (Some c.in-Err.seat)) = (c.in-Err.ensures.refused.0, c.in-Err.ensures.refused.1) in
     let now : slice_get new.seats.items heap ≡ Some (Some c.in-Err.seat) = set_same mid.seats.items heap (Some c.in-Err.seat) (subst (λ n. heap < n) (sym but.seats) c.requires.heap) in
     let later : IsSeenLater (seen_at new heap) (seen_at old heap) =

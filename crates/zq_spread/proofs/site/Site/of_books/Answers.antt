@@ -8,14 +8,12 @@ use Rattle.zq_spread.proofs.Settled.{made}
 use Rattle.zq_spread.proofs.site.Site.of_books.Goals as goal
 use Rattle.zq_spread.specs.Grounds.{AreSettled}
 use Rattle.zq_spread.specs.Makers.{IsInBounds}
-use Rattle.zq_spread.specs.declared.site.Site.{Site}
 
 pub returns-clause-made : goal.returns-clause-made
 returns-clause-made c =
     let books = c.args.books.items in
     let rooms = c.settle-rooms.result.0 in
     let passes = c.settle-rooms.result.1.items in
-    let site : Site = record { number = c.args.number; rule = c.rule-rule.result; rooms = rooms } in
     let ground = c.in-Ok.ensures in
     let settled : AreSettled (length books) c.args.passes c.rule-rule.result books rooms.items passes =
     subst (λ r. AreSettled (length books) c.args.passes r books rooms.items passes) ground.rule_is
@@ -28,4 +26,4 @@ returns-clause-made c =
     let within : 0 < length books = omega (arith, low) in
     let first : slice_get books 0 ≡ Some c.index.result.now = slice_get_read books (length books) 0 c.index.result.now refl within c.index.ensures in
     c.rule-rule.ensures ∙ ap (λ (s : HeapImage). s.rule) c.shard.ensures.same ∙ c.requires.books.rule 0 h c.index.result.now book first at in
-    made c.args.number c.args.passes books site passes refl some ruled settled
+    made c.args.number c.args.passes books _ passes refl some ruled settled

@@ -1,0 +1,227 @@
+-- A command over the books of several heaps, from where its call began to where it ended.
+
+use Rattle.std.proofs.Common.{ap, arith, inl, inr, refl, subst, sym, ◌∙◌}
+use Rattle.std.specs.Prelude.{IfSome, List, Some, [], length, map, max, slice_get, ℕ, ◌+◌, ◌<◌, ◌∷◌, ◌≡◌, ◌≤◌}
+use Rattle.zq_commands.specs.Lending.{IsLending}
+use Rattle.zq_commands.specs.VecBooks.{lending_of, rule_in}
+use Rattle.zq_dots.specs.Rule.{rule_of}
+use Rattle.zq_history.specs.Books.{Book, Step, steps_of}
+use Rattle.zq_history.specs.Reach.{IsWorked}
+use Rattle.zq_model.specs.Bounded.{IsBounded}
+use Rattle.zq_model.specs.Sets.{IsIn}
+use Rattle.zq_moves.specs.Lent.{AreLent}
+use Rattle.zq_plans.specs.Run.{IsRun}
+use Rattle.zq_spread.proofs.Commanded.{appended}
+use Rattle.zq_spread.proofs.ManyHeaps.{seen_same, steps_same}
+use Rattle.zq_spread.proofs.Twins.{AreTwins, begun_twin, run_twins}
+use Rattle.zq_spread.specs.Calls.{AreWorkedIn, greatest_stamp, heaps_of}
+use Rattle.zq_spread.specs.Commanded.{AreAppended}
+use Rattle.zq_spread.specs.Dispatch.{IsCommandOver}
+use Rattle.zq_spread.specs.Passes.{IsRoomAt, seen_at, steps_at}
+use Rattle.zq_spread.specs.Rooms.{IsWorkedOn}
+use Rattle.zq_spread.specs.Several.{AreBegunAt, AreBooksAt, AreHeapsOf, AreHeldOn, HasEndedIn, IsBegunAt, IsHeldOn, IsSameOutside, MayEndIn, books_of}
+use Rattle.zq_spread.specs.declared.kept.Kept.{Kept}
+use Rattle.zq_spread.specs.declared.pass.Pass.{Pass}
+use Rattle.zq_spread.specs.declared.room.Room.{Room}
+use Rattle.zq_spread.specs.declared.site.Site.{Site}
+use Rattle.zq_ticketlock.specs.Seats.{value_of}
+use Rattle.zq_ticketlock.specs.declared.held.Held.{Held}
+use Rattle.zq_words.specs.Command.{Command}
+use Rattle.zq_words.specs.Words.{Word}
+
+-- ---- the books may be lent
+
+module _ (site : Site) (rooms : (h : ℕ) (room : Room) → slice_get site.rooms.items h ≡ Some room → IsRoomAt site h room) where
+  pub begun_books : (before : Pass) (stamp : ℕ) (heaps : List ℕ) (helds : List (Held Kept)) (found : List Kept) → AreBegunAt site before stamp heaps helds found → AreBooksAt site heaps (books_of helds)
+  begun_books before stamp [] [] [] are = tt
+  begun_books before stamp [] [] (x ∷ found) are = absurd are
+  begun_books before stamp [] (held ∷ helds) found are = absurd are
+  begun_books before stamp (h ∷ heaps) [] found are = absurd are
+  begun_books before stamp (h ∷ heaps) (held ∷ helds) [] are = absurd are
+  begun_books before stamp (h ∷ heaps) (held ∷ helds) (x ∷ found) are =
+      let is = are.0 in
+      let room = rooms h is.room is.at in (
+        record {
+          heap = is.worked.heap ∙ is.of.heap ∙ room.0;
+          heaps = is.worked.heaps ∙ is.of.heaps ∙ room.1;
+          rule = is.worked.rule ∙ is.of.rule ∙ ap rule_of room.2;
+          bounded = is.bounded;
+        },
+        begun_books before stamp heaps helds found are.1,
+      )
+
+  heap_in : (heaps : List ℕ) (books : List Book) (b : Book) → AreBooksAt site heaps books → IsIn b books → IsIn b.heap heaps
+  heap_in [] [] b are here = absurd here
+  heap_in [] (c ∷ books) b are here = absurd are
+  heap_in (h ∷ heaps) [] b are here = absurd here
+  heap_in (h ∷ heaps) (c ∷ books) b are (inl same) = inl (sym are.0.heap ∙ ap (λ (d : Book). d.heap) same)
+  heap_in (h ∷ heaps) (c ∷ books) b are (inr there) = inr (heap_in heaps books b are.1 there)
+
+  lent_at : (heaps : List ℕ) (books : List Book) → AreHeapsOf site heaps → AreBooksAt site heaps books → AreLent (heaps_of site) books
+  lent_at [] [] rising are = tt
+  lent_at [] (c ∷ books) rising are = absurd are
+  lent_at (h ∷ heaps) [] rising are = tt
+  lent_at (h ∷ heaps) (c ∷ books) rising are = (
+    record { heaps = are.0.heaps; bounded = subst (λ (k : ℕ). IsBounded k c.heap c.state) are.0.heaps are.0.bounded },
+    λ later there. let low = rising.1 later.heap (heap_in heaps books later are.1 there) in let is = are.0.heap in omega (arith, low, is),
+    lent_at heaps books rising.2 are.1,
+  )
+
+  ruled_at : (heaps : List ℕ) (books : List Book) (b : Book) → AreBooksAt site heaps books → IsIn b books → b.rule ≡ rule_of site.rule
+  ruled_at [] [] b are here = absurd here
+  ruled_at [] (c ∷ books) b are here = absurd are
+  ruled_at (h ∷ heaps) [] b are here = absurd here
+  ruled_at (h ∷ heaps) (c ∷ books) b are (inl same) = ap (λ (d : Book). d.rule) (sym same) ∙ are.0.rule
+  ruled_at (h ∷ heaps) (c ∷ books) b are (inr there) = ruled_at heaps books b are.1 there
+
+  pub rule_at : (heaps : List ℕ) (books : List Book) → 0 < length heaps → AreBooksAt site heaps books → rule_in books ≡ rule_of site.rule
+  rule_at [] books some are = absurd (omega (arith, some))
+  rule_at (h ∷ heaps) [] some are = absurd are
+  rule_at (h ∷ heaps) (c ∷ books) some are = are.0.rule
+
+  pub lends_at : (heaps : List ℕ) (books : List Book) → AreHeapsOf site heaps → AreBooksAt site heaps books → IsLending (lending_of books)
+  lends_at [] [] rising are = record { books = tt; ruled = λ b here. absurd here }
+  lends_at [] (c ∷ books) rising are = absurd are
+  lends_at (h ∷ heaps) [] rising are = absurd are
+  lends_at (h ∷ heaps) (c ∷ books) rising are = record {
+    books = subst (λ K. AreLent K (c ∷ books)) (sym are.0.heaps) (lent_at (h ∷ heaps) (c ∷ books) rising are);
+    ruled = λ b here. ruled_at (h ∷ heaps) (c ∷ books) b are here ∙ sym are.0.rule;
+  }
+
+-- each book has the call's stamp
+pub begun_dated : (site : Site) (before : Pass) (stamp : ℕ) (heaps : List ℕ) (helds : List (Held Kept)) (found : List Kept) (b : Book) → AreBegunAt site before stamp heaps helds found →
+    IsIn b (books_of helds) → b.stamp ≤ stamp
+begun_dated site before stamp [] [] [] b are here = absurd here
+begun_dated site before stamp [] [] (x ∷ found) b are here = absurd are
+begun_dated site before stamp [] (held ∷ helds) found b are here = absurd are
+begun_dated site before stamp (h ∷ heaps) [] found b are here = absurd are
+begun_dated site before stamp (h ∷ heaps) (held ∷ helds) [] b are here = absurd are
+begun_dated site before stamp (h ∷ heaps) (held ∷ helds) (x ∷ found) b are (inl same) =
+    let is = are.0.worked.stamp_is in let stamp_same = ap (λ (d : Book). d.stamp) same in omega (arith, is, stamp_same)
+begun_dated site before stamp (h ∷ heaps) (held ∷ helds) (x ∷ found) b are (inr there) = begun_dated site before stamp heaps helds found b are.1 there
+
+-- ---- what the command made
+
+abbrev steps_each : (olds news : List (Held Kept)) → AreHeldOn olds news → List (List Step)
+steps_each [] [] on = []
+steps_each [] (y ∷ news) on = []
+steps_each (x ∷ olds) [] on = []
+steps_each (x ∷ olds) (y ∷ news) on = steps_of on.0.kept.1.records ∷ steps_each olds news on.1
+
+module _ (site : Site) (before : Pass) (stamp : ℕ) where
+  begun_twins : (heaps : List ℕ) (helds : List (Held Kept)) (found : List Kept) → AreBegunAt site before stamp heaps helds found →
+      AreTwins (books_of helds) (map (λ (x : Kept). x.book) found) (books_of helds) (map (λ (x : Kept). x.book) found)
+  begun_twins [] [] [] are = tt
+  begun_twins [] [] (x ∷ found) are = absurd are
+  begun_twins [] (held ∷ helds) found are = absurd are
+  begun_twins (h ∷ heaps) [] found are = absurd are
+  begun_twins (h ∷ heaps) (held ∷ helds) [] are = absurd are
+  begun_twins (h ∷ heaps) (held ∷ helds) (x ∷ found) are = (begun_twin (value_of held).book x.book stamp are.0.worked, begun_twins heaps helds found are.1)
+
+  appended_each : (heaps : List ℕ) (olds news : List (Held Kept)) (found : List Kept) (left : List Book) → AreBegunAt site before stamp heaps olds found → (on : AreHeldOn olds news) →
+      AreTwins (books_of olds) (map (λ (x : Kept). x.book) found) (books_of news) left → AreAppended left (map (λ (x : Kept). x.book) found) (steps_each olds news on)
+  appended_each [] [] [] [] [] are on twins = tt
+  appended_each [] [] [] [] (l ∷ left) are on twins = absurd twins
+  appended_each [] [] news (x ∷ found) left are on twins = absurd are
+  appended_each [] [] (y ∷ news) [] left are on twins = absurd on
+  appended_each [] (held ∷ olds) news found left are on twins = absurd are
+  appended_each (h ∷ heaps) [] news found left are on twins = absurd are
+  appended_each (h ∷ heaps) (held ∷ olds) news [] left are on twins = absurd are
+  appended_each (h ∷ heaps) (held ∷ olds) [] (x ∷ found) left are on twins = absurd on
+  appended_each (h ∷ heaps) (held ∷ olds) (y ∷ news) (x ∷ found) [] are on twins = absurd twins
+  appended_each (h ∷ heaps) (held ∷ olds) (y ∷ news) (x ∷ found) (l ∷ left) are on twins = (
+    appended (value_of held).book x.book (value_of y).book l on.0.kept.1.records on.0.kept.1.tail twins.0,
+    appended_each heaps olds news found left are.1 on.1 twins.1,
+  )
+
+  -- the own work of the call in one heap
+  work_of : (h : ℕ) (held y : Held Kept) (x : Kept) → IsBegunAt site before stamp h held x → (on : IsHeldOn held y) → (value_of y).book.stamp ≤ stamp →
+      IsWorked (value_of y).book x.book stamp (steps_of on.kept.1.records)
+  work_of h held y x is on high =
+      let low = on.kept.1.stamp in
+      let dated = is.worked.stamp_is in
+      let same : (value_of y).book.stamp ≡ stamp = omega (arith, high, low, dated) in
+      subst (λ s. IsWorked (value_of y).book x.book s (steps_of on.kept.1.records)) same
+      (on.kept.1.worked x.book [] (subst (λ s. IsWorked (value_of held).book x.book s []) (sym same) is.worked))
+
+  -- a heap may be ended where the command has worked
+  pub may_end_each : (heaps : List ℕ) (olds news : List (Held Kept)) (found : List Kept) → AreBegunAt site before stamp heaps olds found → AreHeldOn olds news →
+      ((b : Book) → IsIn b (books_of news) → b.stamp ≤ stamp) → MayEndIn site heaps news
+  may_end_each [] [] [] found are on low = tt
+  may_end_each [] [] (y ∷ news) found are on low = absurd on
+  may_end_each [] (held ∷ olds) news found are on low = absurd are
+  may_end_each (h ∷ heaps) [] news found are on low = absurd are
+  may_end_each (h ∷ heaps) (held ∷ olds) news [] are on low = absurd are
+  may_end_each (h ∷ heaps) (held ∷ olds) [] (x ∷ found) are on low = absurd on
+  may_end_each (h ∷ heaps) (held ∷ olds) (y ∷ news) (x ∷ found) are on low = (
+    record {
+      room = are.0.room;
+      at = are.0.at;
+      lock = on.0.lock ∙ are.0.lock;
+      worked = subst (λ o. IfSome o (IsWorkedOn are.0.room (value_of y))) (sym (on.0.was_given ∙ are.0.was_given))
+          (record {
+            home = are.0.home;
+            of = are.0.of;
+            stamp = stamp;
+            later = are.0.later;
+            steps = steps_of on.0.kept.1.records;
+            worked = work_of h held y x are.0 on.0 (low (value_of y).book (inl refl));
+            total = on.0.kept.0 ∙ are.0.total;
+          });
+    },
+    may_end_each heaps olds news found are.1 on.1 (λ b here. low b (inr here)),
+  )
+
+  -- and where it ended, the pass has seen what the command left
+  ended_each : (mid after : Pass) (heaps : List ℕ) (olds news : List (Held Kept)) (found : List Kept) → AreBegunAt site before stamp heaps olds found → (on : AreHeldOn olds news) →
+      ((b : Book) → IsIn b (books_of news) → b.stamp ≤ stamp) → after.stamp ≡ stamp → ((k : ℕ) → steps_at mid k ≡ steps_at before k) → HasEndedIn mid after heaps news →
+      (left : List Kept) × AreWorkedIn before after heaps found left (steps_each olds news on)
+  ended_each mid after [] [] [] [] are on low dated steps ended = ([], tt)
+  ended_each mid after [] [] [] (x ∷ found) are on low dated steps ended = absurd are
+  ended_each mid after [] [] (y ∷ news) found are on low dated steps ended = absurd on
+  ended_each mid after [] (held ∷ olds) news found are on low dated steps ended = absurd are
+  ended_each mid after (h ∷ heaps) [] news found are on low dated steps ended = absurd are
+  ended_each mid after (h ∷ heaps) (held ∷ olds) news [] are on low dated steps ended = absurd are
+  ended_each mid after (h ∷ heaps) (held ∷ olds) [] (x ∷ found) are on low dated steps ended = absurd on
+  ended_each mid after (h ∷ heaps) (held ∷ olds) (y ∷ news) (x ∷ found) are on low dated steps ended =
+      let rest = ended_each mid after heaps olds news found are.1 on.1 (λ b here. low b (inr here)) dated steps ended.1 in
+      let own : List Step = steps_of on.0.kept.1.records in
+      let work : IsWorked (value_of y).book x.book stamp own = work_of h held y x are.0 on.0 (low (value_of y).book (inl refl)) in
+      let counted : steps_at after h + x.book.count ≡ steps_at mid h + (value_of y).book.count =
+      subst (λ o. IfSome o (λ (z : Kept). steps_at after h + z.book.count ≡ steps_at mid h + (value_of y).book.count)) (on.0.was_given ∙ are.0.was_given) ended.0.steps in (
+        ended.0.left ∷ rest.0,
+        (
+          record {
+            follows = are.0.follows;
+            worked = subst (λ b. IsWorked b x.book after.stamp own) (sym ended.0.book) (subst (λ n. IsWorked (value_of y).book x.book n own) (sym dated) work);
+            seen = ended.0.seen;
+            own = let made = work.count in let same = steps h in omega (arith, counted, made, same);
+          },
+          rest.1,
+        ),
+      )
+
+  -- so it is a call
+  pub called_over : (command : Command) (reply : Word) (mid after : Pass) (heaps : List ℕ) (olds news : List (Held Kept)) (found : List Kept) → AreBegunAt site before stamp heaps olds found →
+      (on : AreHeldOn olds news) → ((b : Book) → IsIn b (books_of news) → b.stamp ≤ stamp) → after.stamp ≡ stamp → IsSameOutside heaps before mid → HasEndedIn mid after heaps news →
+      ((k : ℕ) → (IsIn k heaps → ⊥) → (seen_at after k ≡ seen_at mid k) × (steps_at after k ≡ steps_at mid k)) → stamp ≡ max before.stamp (greatest_stamp found) + 1 →
+      IsRun (rule_of site.rule) site.number stamp command (books_of olds) (books_of news) reply → IsCommandOver site command reply before after heaps found
+  called_over command reply mid after heaps olds news found are on low dated outside ended others next ran =
+      let steps = λ (k : ℕ). steps_same heaps before mid k outside in
+      let each = ended_each mid after heaps olds news found are on low dated steps ended in
+      let other = run_twins (rule_of site.rule) site.number stamp command (books_of olds) (map (λ (x : Kept). x.book) found) (books_of news) reply (begun_twins heaps olds found are) ran in (
+        record {
+          found = found;
+          left = each.0;
+          steps = steps_each olds news on;
+          next = dated ∙ next;
+          worked = each.1;
+          others = λ k out. let stays = others k out in (stays.0 ∙ seen_same heaps before mid k outside out, stays.1 ∙ steps k);
+          done = record {
+            left = other.0;
+            ran = subst (λ n. IsRun (rule_of site.rule) site.number n command (map (λ (x : Kept). x.book) found) other.0 reply) (sym dated) other.1;
+            appended = appended_each heaps olds news found other.0 are on other.2;
+          };
+        },
+        refl,
+      )

@@ -1,0 +1,52 @@
+use Rattle.std.proofs.Common.{ap, subst, sym, ◌∙◌}
+use Rattle.std.proofs.lemmas.Option.{slice_get_read}
+use Rattle.std.specs.Prelude.{IfSome, Some, length, refl, slice_get, ◌≡◌}
+use Rattle.zq_spread.proofs.Counted.{of_seen}
+use Rattle.zq_spread.proofs.ManyHeaps.{back_one, changed_back}
+use Rattle.zq_spread.proofs.Seats.{same_some}
+use Rattle.zq_spread.proofs.site.Site.lock_in.Goals as goal
+use Rattle.zq_spread.specs.Kept.{Follows}
+use Rattle.zq_spread.specs.Rooms.{IsOf}
+use Rattle.zq_spread.specs.declared.room.Room.{Room}
+use Rattle.zq_ticketlock.specs.Seats.{id_of, seen}
+use Rattle.zq_ticketlock.specs.Steps.{FollowsSeen}
+
+pub lock-requires : goal.lock-requires
+lock-requires g c =
+    let at : slice_get c.args.self.now.rooms.items c.args.heap ≡ Some c.index.result.now =
+    slice_get_read c.args.self.now.rooms.items (length c.args.self.now.rooms.items) c.args.heap c.index.result.now refl c.requires.heap c.index.ensures in
+    record { own = (c.seat_out-seat.ensures.seat c.index.result.now at).0 }
+
+pub returns-in-Ok-clause-held : goal.returns-in-Ok-clause-held
+returns-in-Ok-clause-held g c =
+    let at : slice_get c.args.self.now.rooms.items c.args.heap ≡ Some c.index.result.now =
+    slice_get_read c.args.self.now.rooms.items (length c.args.self.now.rooms.items) c.args.heap c.index.result.now refl c.requires.heap c.index.ensures in
+    let fits = c.seat_out-seat.ensures.seat c.index.result.now at in
+    record {
+      room = c.index.result.now;
+      at = at;
+      lock = c.in-Ok.ensures.lock ∙ fits.0;
+      was_given = c.in-Ok.ensures.given;
+      home = c.in-Ok.ensures.holds;
+      of = of_seen c.index.result.now c.in-Ok.held.value (seen c.seat_out-seat.result) c.has_seen.ensures c.in-Ok.ensures.follows fits.1;
+    }
+
+pub returns-in-Ok-clause-follows : goal.returns-in-Ok-clause-follows
+returns-in-Ok-clause-follows g c = subst (FollowsSeen Follows c.in-Ok.held.value) c.seat_out-seat.ensures.seen c.in-Ok.ensures.follows
+
+pub seat_in-requires-clause-seat : goal.seat_in-requires-clause-seat
+seat_in-requires-clause-seat g c = λ room here.
+    let at : slice_get c.args.self.now.rooms.items c.args.heap ≡ Some c.index.result.now =
+    slice_get_read c.args.self.now.rooms.items (length c.args.self.now.rooms.items) c.args.heap c.index.result.now refl c.requires.heap c.index.ensures in
+    let one : c.index.result.now ≡ room = same_some c.index.result.now room (sym at ∙ here) in
+    let fits = c.seat_out-seat.ensures.seat c.index.result.now at in
+    let seen_is = subst (λ o. IfSome o (IsOf c.index.result.now)) (sym c.in-Err.ensures.worn.1) fits.1 in
+    (c.in-Err.ensures.worn.0 ∙ fits.0 ∙ ap (λ (r : Room). id_of r.lock) one, subst (λ (r : Room). IfSome (seen c.in-Err.seat) (IsOf r)) one seen_is)
+
+pub returns-in-Err-clause-outside : goal.returns-in-Err-clause-outside
+returns-in-Err-clause-outside g c = changed_back c.args.heap c.args.pass.now c.seat_out-seat.new.pass c.seat_in.new.pass c.seat_out-seat.ensures.outside c.seat_in.ensures.outside
+
+pub returns-in-Err-clause-back : goal.returns-in-Err-clause-back
+returns-in-Err-clause-back g c =
+    back_one c.args.self.now c.args.heap c.args.pass.now c.seat_out-seat.new.pass c.seat_in.new.pass c.seat_out-seat.ensures.outside c.seat_in.ensures.outside c.seat_in.ensures.seats
+    (c.seat_in.ensures.seen ∙ c.in-Err.ensures.worn.1 ∙ c.seat_out-seat.ensures.seen)

@@ -1,0 +1,78 @@
+-- What a command of a site comes to, by the heaps that it works in.
+
+use Rattle.std.specs.List.{range_with_len}
+use Rattle.std.specs.Prelude.{Bool, List, [], length, map, true, ℕ, ◌∷◌, ◌≡◌, ◌≤◌, ◌⊎◌}
+use Rattle.zq_dots.specs.Rule.{rule_of}
+use Rattle.zq_history.specs.Books.{Book, Step}
+use Rattle.zq_model.specs.Rule.{Rule}
+use Rattle.zq_moves.specs.Lent.{queues_of}
+use Rattle.zq_spread.specs.Calls.{IsCall, heaps_of}
+use Rattle.zq_spread.specs.Commanded.{IsAnswered, short_reply, worn_reply}
+use Rattle.zq_spread.specs.Drawn.{drawn}
+use Rattle.zq_spread.specs.Passes.{IsStopped}
+use Rattle.zq_spread.specs.declared.kept.Kept.{Kept}
+use Rattle.zq_spread.specs.declared.pass.Pass.{Pass}
+use Rattle.zq_spread.specs.declared.site.Site.{Site}
+use Rattle.zq_words.specs.Command.{Command, Zpopnear}
+use Rattle.zq_words.specs.Heaps as named
+use Rattle.zq_words.specs.Words.{Word}
+use Rattle.zq_words.specs.declared.heaps.Heaps.{Heaps}
+use Rattle.zq_words.specs.declared.heaps.Heaps.TheVariants.{All, Near, NoHeap, One}
+
+-- all heaps of the site, by rising number
+abbrev pub all_heaps : Site → List ℕ
+all_heaps site = range_with_len 0 (heaps_of site)
+
+-- refused, since a lock or the stamp is at its last value
+abbrev pub IsWornOut : Word → Pass → Pass → Type 0
+IsWornOut reply before after = (reply ≡ worn_reply) × IsStopped before after
+
+-- the same, or since there was no memory to hold more heaps than one, and then no lock was taken
+abbrev pub IsTurnedAway : Word → Pass → Pass → Type 0
+IsTurnedAway reply before after = IsWornOut reply before after ⊎ ((reply ≡ short_reply) × (after ≡ before))
+
+-- one of the books has a member of the key
+abbrev pub HasQueued : Rule → List ℕ → List Book → Type 0
+HasQueued rule key books = 1 ≤ length (queues_of rule books key)
+
+-- and of that from which ZPOPNEAR pops
+abbrev pub HasNear : Rule → Command → List Book → Type 0
+HasNear rule (Zpopnear key) books = HasQueued rule key books
+HasNear rule command books = ⊥
+
+-- what the site's command does at a stamp, with this reply, over the books that its call found
+abbrev pub DoesCommand : Site → ℕ → Command → Word → List Book → List (List Step) → Type 0
+DoesCommand site stamp command reply = IsAnswered (rule_of site.rule) site.number stamp command reply
+
+-- and what it does over two heaps that are drawn, where one of them has a member of the key
+abbrev pub DoesNear : Site → ℕ → Command → Word → List Book → List (List Step) → Type 0
+DoesNear site stamp command reply found steps = DoesCommand site stamp command reply found steps × HasNear (rule_of site.rule) command found
+
+-- a call of the command in these heaps
+abbrev pub IsCommand : Site → Command → Word → Pass → Pass → List ℕ → Type 0
+IsCommand site command reply before after heaps = IsCall (DoesCommand site after.stamp command reply) before after heaps
+
+-- such a call, which has found these values there
+abbrev pub IsCommandOver : Site → Command → Word → Pass → Pass → List ℕ → List Kept → Type 0
+IsCommandOver site command reply before after heaps found = (call : IsCommand site command reply before after heaps) × (call.found ≡ found)
+
+-- such a call, where there was enough from the first, or one of the books that it found has a member of the key
+abbrev pub HasAnswered : Site → Command → List ℕ → Bool → Word → Pass → Pass → List ℕ → Type 0
+HasAnswered site command key enough reply before after heaps = (call : IsCommand site command reply before after heaps) × ((enough ≡ true) ⊎ HasQueued (rule_of site.rule) key (map (λ (x : Kept). x.book) call.found))
+
+-- a call of ZPOPNEAR in the heaps that it drew, where one of them has a member of the key, or in all, or its refusal
+abbrev pub IsNear : Site → Command → Word → Pass → Pass → List ℕ → Type 0
+IsNear site command reply before after drawn =
+    IsCall (DoesNear site after.stamp command reply) before after drawn ⊎ (IsCommand site command reply before after (all_heaps site) ⊎ IsTurnedAway reply before after)
+
+-- a command that needs no heap is answered over no books, and leaves the pass; one of a member is a call in its heap; ZPOPNEAR is a call in the two heaps that
+-- it draws where one of them has a member of the key, or in all; any other is a call in all heaps; else it is refused
+abbrev pub IsCalledIn : Heaps → Site → Command → ℕ → ℕ → Word → Pass → Pass → Type 0
+IsCalledIn NoHeap site command w1 w2 reply before after = (after ≡ before) × DoesCommand site after.stamp command reply [] []
+IsCalledIn (One heap) site command w1 w2 reply before after = IsCommand site command reply before after (heap ∷ []) ⊎ IsWornOut reply before after
+IsCalledIn Near site command w1 w2 reply before after = IsNear site command reply before after (drawn (heaps_of site) w1 w2)
+IsCalledIn All site command w1 w2 reply before after = IsCommand site command reply before after (all_heaps site) ⊎ IsTurnedAway reply before after
+
+-- the command was called by the two words, and answered with these bytes
+abbrev pub IsCalled : Site → Command → ℕ → ℕ → Word → Pass → Pass → Type 0
+IsCalled site command w1 w2 reply before after = IsCalledIn (named.heaps_of command (heaps_of site)) site command w1 w2 reply before after

@@ -1,0 +1,175 @@
+//! Commands that work in several heaps of a site.
+ghost use Rattle.std.specs.List.{range_with_len};
+ghost use Rattle.std.specs.Prelude.{◌≡◌, ◌<◌, ◌≤◌, ◌⊎◌, [], IfOk, IsTrue, List, OnErr, length, vec_capacity};
+ghost use Rattle.zq_commands.specs.Commands.{HasBooks};
+ghost use Rattle.zq_commands.specs.VecBooks.{lending_of};
+ghost use Rattle.zq_history.specs.Books.{Book as Books};
+ghost use Rattle.zq_resp.specs.Reply.{is_writable, reply_bytes};
+ghost use Rattle.zq_spread.specs.Calls.{heaps_of};
+ghost use Rattle.zq_spread.specs.Dispatch.{HasAnswered, IsCommand, IsNear, IsTurnedAway, IsWornOut, all_heaps};
+ghost use Rattle.zq_spread.specs.Drawn.{drawn};
+ghost use Rattle.zq_spread.specs.Passes.{IsPassOf, IsStopped};
+ghost use Rattle.zq_spread.specs.Several.{AreBooksAt, AreHeapsOf, helds_of};
+ghost use Rattle.zq_words.specs.Command.{Zpopnear};
+
+use crate::calling::{short, worn};
+use crate::holds::Holds;
+use crate::pass::Pass;
+use crate::site::Site;
+use crate::sought::{Sought, Stop};
+use std::alloc::Global;
+use std::sync::Wait;
+use zq_resp::Reply;
+use zq_words::Command;
+
+/// The numbers of all heaps that a site may have.
+const EVERY: [u8; 16] = [0, 1, 2, 3, 4, 5, 6, 7, 8, 9, 10, 11, 12, 13, 14, 15];
+
+/// The numbers of so many heaps.
+pub(crate) fn every(heaps: usize) -> &'static [u8]
+    requires { heaps ≤ 16 }
+    ensures { result.now ≡ range_with_len 0 heaps }
+{
+    &EVERY[..heaps]
+}
+
+impl Site {
+    /// Runs a command in these heaps. `Nothing` where it needs a member of the key, and none of them has one. After an
+    /// error no image, book or stamp has changed.
+    fn call_in<R: Wait>(
+        &self,
+        rt: &R,
+        alloc: Global,
+        pass: &mut Pass,
+        heaps: &[u8],
+        key: &[u8],
+        is_enough: bool,
+        holds: &mut Holds,
+        command: &Command,
+    ) -> Result<Reply, Stop>
+        requires pass { IsPassOf self.now pass.old }
+        requires some { 0 < length heaps.now }
+        requires heaps { AreHeapsOf self.now heaps.now }
+        requires homes { (books : List Books) → AreBooksAt self.now heaps.now books → HasBooks command.now (lending_of books) }
+        requires empty { helds_of holds.old ≡ [] }
+        requires room { length heaps.now ≤ vec_capacity holds.old.helds }
+        ensures pass { IsPassOf self.now pass.new }
+        ensures called { IfOk result (λ reply. HasAnswered self.now command.now key.now is_enough (reply_bytes reply) pass.old pass.new heaps.now) }
+        ensures stopped { OnErr result (IsStopped pass.old pass.new) }
+        ensures writable { IfOk result (λ reply. IsTrue (is_writable reply)) }
+        ensures empty { helds_of holds.new ≡ [] }
+        ensures stays { OnErr result (vec_capacity holds.new.helds ≡ vec_capacity holds.old.helds) }
+    {
+        let sought = Sought {
+            stamp: pass.stamp,
+            is_enough,
+        };
+        match self.begin_all(rt, pass, heaps, key, sought, holds) {
+            Ok(stamp) => Ok(self.work_all(alloc, pass, heaps, holds, stamp, command)),
+            Err(stop) => Err(stop),
+        }
+    }
+
+    /// Runs a command in all heaps.
+    fn answer_all<R: Wait>(
+        &self,
+        rt: &R,
+        alloc: Global,
+        pass: &mut Pass,
+        holds: &mut Holds,
+        command: &Command,
+    ) -> Reply
+        requires pass { IsPassOf self.now pass.old }
+        requires empty { helds_of holds.old ≡ [] }
+        requires room { heaps_of self.now ≤ vec_capacity holds.old.helds }
+        ensures pass { IsPassOf self.now pass.new }
+        ensures called { IsCommand self.now command.now (reply_bytes result) pass.old pass.new (all_heaps self.now) ⊎ IsWornOut (reply_bytes result) pass.old pass.new }
+        ensures writable { IsTrue (is_writable result) }
+        ensures empty { helds_of holds.new ≡ [] }
+    {
+        let heaps = every(self.rooms.len());
+        match self.call_in(rt, alloc, pass, heaps, &[], true, holds, command) {
+            Ok(reply) => reply,
+            Err(_) => worn(),
+        }
+    }
+
+    /// Runs ZPOPNEAR in two heaps that were drawn, the lower one first, where one of them has a member of the key, and
+    /// else in all heaps.
+    fn answer_near<R: Wait>(
+        &self,
+        rt: &R,
+        alloc: Global,
+        pass: &mut Pass,
+        drawn: &[u8],
+        key: &[u8],
+        holds: &mut Holds,
+        command: &Command,
+    ) -> Reply
+        requires pass { IsPassOf self.now pass.old }
+        requires some { 0 < length drawn.now }
+        requires drawn { AreHeapsOf self.now drawn.now }
+        requires few { length drawn.now ≤ heaps_of self.now }
+        requires near { command.now ≡ Zpopnear key.now }
+        requires empty { helds_of holds.old ≡ [] }
+        requires room { heaps_of self.now ≤ vec_capacity holds.old.helds }
+        ensures pass { IsPassOf self.now pass.new }
+        ensures called { IsNear self.now command.now (reply_bytes result) pass.old pass.new drawn.now }
+        ensures writable { IsTrue (is_writable result) }
+        ensures empty { helds_of holds.new ≡ [] }
+    {
+        match self.call_in(rt, alloc, pass, drawn, key, false, holds, command) {
+            Ok(reply) => reply,
+            Err(Stop::Nothing) => self.answer_all(rt, alloc, pass, holds, command),
+            Err(_) => worn(),
+        }
+    }
+
+    /// Runs a command in all heaps, which it locks in rising order. Where memory to hold them was refused, it answers `OOM
+    /// after 0`, and no lock was taken.
+    pub(crate) fn call_all<R: Wait>(
+        &self,
+        rt: &R,
+        alloc: Global,
+        pass: &mut Pass,
+        command: &Command,
+    ) -> Reply
+        requires pass { IsPassOf self.now pass.old }
+        ensures pass { IsPassOf self.now pass.new }
+        ensures called { IsCommand self.now command.now (reply_bytes result) pass.old pass.new (all_heaps self.now) ⊎ IsTurnedAway (reply_bytes result) pass.old pass.new }
+        ensures writable { IsTrue (is_writable result) }
+    {
+        let Ok(mut holds) = Holds::with_room(alloc, self.rooms.len()) else {
+            return short();
+        };
+        let reply = self.answer_all(rt, alloc, pass, &mut holds, command);
+        holds.end();
+        reply
+    }
+
+    /// Runs ZPOPNEAR of this key by two words.
+    pub(crate) fn call_near<R: Wait>(
+        &self,
+        rt: &R,
+        alloc: Global,
+        pass: &mut Pass,
+        key: &[u8],
+        command: &Command,
+        w1: u64,
+        w2: u64,
+    ) -> Reply
+        requires pass { IsPassOf self.now pass.old }
+        requires near { command.now ≡ Zpopnear key.now }
+        ensures pass { IsPassOf self.now pass.new }
+        ensures called { IsNear self.now command.now (reply_bytes result) pass.old pass.new (drawn (heaps_of self.now) w1 w2) }
+        ensures writable { IsTrue (is_writable result) }
+    {
+        let Ok(mut holds) = Holds::with_room(alloc, self.rooms.len()) else {
+            return short();
+        };
+        let (low, high) = self.draw(w1, w2);
+        let reply = self.answer_near(rt, alloc, pass, &[low, high], key, &mut holds, command);
+        holds.end();
+        reply
+    }
+}

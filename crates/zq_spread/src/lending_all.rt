@@ -1,0 +1,156 @@
+//! How the heaps that a call holds are lent to a command.
+ghost use Rattle.std.specs.Prelude.{IsErrOf, OnErr, OnOk, Some, length, slice_get, ◌<◌, ◌↔◌, ◌≡◌, ◌≤◌, true, ℕ};
+ghost use Rattle.zq_commands.specs.Lending.{IsLending};
+ghost use Rattle.zq_commands.specs.VecBooks.{lending_of, rule_in};
+ghost use Rattle.zq_dots.specs.Act.{act_of};
+ghost use Rattle.zq_history.specs.Books.{Book as Books};
+ghost use Rattle.zq_journal.specs.Books.{state_of};
+ghost use Rattle.zq_model.specs.Operation.{LONGEST};
+ghost use Rattle.zq_moves.specs.Lent.{is_home_of, made_in};
+ghost use Rattle.zq_plans.specs.Run.{LAST_COUNT, is_worn};
+ghost use Rattle.zq_spread.specs.Several.{IsBoundedBook, IsHeldOn, books_of, helds_of};
+ghost use Rattle.zq_ticketlock.specs.Seats.{value_of};
+
+use crate::holds::Holds;
+use crate::kept::Kept;
+use std::alloc::{AllocError, Global};
+use zq_commands::{Books, Cut, count_between, make_in};
+use zq_dots::{Act, SiteNo, heap_of};
+use zq_journal::Book;
+use zq_shard::Shard;
+use zq_ticketlock::Held;
+use zq_words::Bound;
+
+impl Books for Holds {
+    ghost use Rattle.zq_spread.specs.Several.{AreHeldOn, held_on_itself, held_on_through};
+
+    ghost lent = { λ holds. lending_of (books_of (helds_of holds)) };
+
+    ghost keeps = { λ old new. AreHeldOn (helds_of old) (helds_of new) };
+
+    fn len(&self) -> usize {
+        self.helds.as_slice().len()
+    }
+
+    fn home(&self, key: &[u8], member: &[u8]) -> usize {
+        place_of(self, heap_of(key, member, book_at(self, 0).shard().heaps()))
+    }
+
+    fn score(&self, place: usize, key: &[u8], member: &[u8]) -> Option<i128> {
+        shard_at(self, place).score(key, member)
+    }
+
+    fn count(&self, place: usize, key: &[u8]) -> usize {
+        shard_at(self, place).count(key)
+    }
+
+    fn count_before(&self, place: usize, key: &[u8], score: &i128, member: &[u8]) -> usize {
+        shard_at(self, place).count_before(key, *score, member)
+    }
+
+    fn count_after(&self, place: usize, key: &[u8], score: &i128, member: &[u8]) -> usize {
+        shard_at(self, place).count_after(key, *score, member)
+    }
+
+    fn count_within(&self, place: usize, key: &[u8], min: &Bound, max: &Bound) -> usize {
+        count_between(shard_at(self, place), key, min, max)
+    }
+
+    fn top(&self, place: usize, key: &[u8]) -> Option<(i128, &[u8])> {
+        shard_at(self, place).top(key)
+    }
+
+    fn slice(
+        &self,
+        alloc: Global,
+        place: usize,
+        key: &[u8],
+        is_turned: bool,
+        from: usize,
+        to: usize,
+    ) -> Result<Vec<(i128, &[u8])>, AllocError> {
+        let shard = shard_at(self, place);
+        if is_turned {
+            shard.slice_turned(alloc, key, from, to)
+        } else {
+            shard.slice(alloc, key, from, to)
+        }
+    }
+
+    fn make(
+        &mut self,
+        alloc: Global,
+        place: usize,
+        site: SiteNo,
+        stamp: u64,
+        key: &[u8],
+        member: &[u8],
+        act: Act,
+    ) -> Result<(), Cut> {
+        let index = self.helds.as_slice().len() - 1 - place;
+        make_held(&mut self.helds[index], alloc, site, stamp, key, member, act)
+    }
+
+    ghost keeps_itself = { λ holds. held_on_itself (helds_of holds) };
+
+    ghost keeps_through = { λ x y z. held_on_through (helds_of x) (helds_of y) (helds_of z) };
+}
+
+/// The book at a place. The lowest heap is the last of the stack.
+fn book_at(holds: &Holds, place: usize) -> &Book
+    requires { place < length (helds_of holds.now) }
+    ensures { slice_get (books_of (helds_of holds.now)) place ≡ Some result.now }
+{
+    let index = holds.helds.as_slice().len() - 1 - place;
+    &holds.helds[index].value().book
+}
+
+/// The place of the book of a heap, which is one of these.
+fn place_of(holds: &Holds, heap: u8) -> usize
+    requires { (place : ℕ) × (book : Books) × (slice_get (books_of (helds_of holds.now)) place ≡ Some book) × (book.heap ≡ heap) }
+    ensures inside { result < length (books_of (helds_of holds.now)) }
+    ensures heap { (book : Books) → slice_get (books_of (helds_of holds.now)) result ≡ Some book → book.heap ≡ heap }
+{
+    for place in 0..holds.helds.as_slice().len() {
+        if book_at(holds, place).shard().heap() == heap {
+            return place;
+        }
+    }
+    unreachable!()
+}
+
+/// The heap at a place.
+fn shard_at(holds: &Holds, place: usize) -> &Shard
+    requires lent { IsLending (lending_of (books_of (helds_of holds.now))) }
+    requires inside { place < length (books_of (helds_of holds.now)) }
+    ensures { (book : Books) → slice_get (books_of (helds_of holds.now)) place ≡ Some book →
+        result.now ≡ record (state_of book) { rule = rule_in (books_of (helds_of holds.now)) } }
+{
+    book_at(holds, place).shard()
+}
+
+/// Makes a site's next operation of an act in a heap that is held, which is the member's. Nothing has changed after an
+/// error.
+fn make_held(
+    held: &mut Held<Kept>,
+    alloc: Global,
+    site: SiteNo,
+    stamp: u64,
+    key: &[u8],
+    member: &[u8],
+    act: Act,
+) -> Result<(), Cut>
+    requires home { is_home_of key.now member.now (value_of held.old).book ≡ true }
+    requires stamp { (value_of held.old).book.stamp ≤ stamp }
+    requires bounded { stamp ≤ LAST_COUNT }
+    requires key { length key.now ≤ LONGEST }
+    requires member { length member.now ≤ LONGEST }
+    ensures made { OnOk result ((value_of held.new).book ≡ made_in site stamp (record { key = key.now; member = member.now; act = act_of act }) (value_of held.old).book) }
+    ensures bounded { OnOk result (IsBoundedBook (value_of held.new).book) }
+    ensures held { IsHeldOn held.old held.new }
+    ensures worn { IsErrOf result Cut.Worn ↔ (is_worn site (value_of held.old).book ≡ true) }
+    ensures refused { OnErr result ((value_of held.new).book ≡ (value_of held.old).book) }
+{
+    let kept = held.value_mut();
+    make_in(&mut kept.book, alloc, site, stamp, key, member, act)
+}

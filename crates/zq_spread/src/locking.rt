@@ -1,0 +1,103 @@
+//! How a call locks one of several heaps, and puts it home as it was.
+ghost use Rattle.std.specs.Prelude.{◌≡◌, ◌<◌, ◌∷◌, IfOk, OnErr, Some, [], length, slice_get, ℕ};
+ghost use Rattle.zq_spread.specs.Calls.{heaps_of};
+ghost use Rattle.zq_spread.specs.Kept.{Follows};
+ghost use Rattle.zq_spread.specs.Passes.{IsSeatOf, seen_at};
+ghost use Rattle.zq_spread.specs.Several.{AreBack, HasSeatsIn, IsHeldAt, IsSameOutside};
+ghost use Rattle.zq_spread.specs.declared.room.Room.{Room as Rooms};
+ghost use Rattle.zq_ticketlock.specs.Seats.{seen, value_of};
+ghost use Rattle.zq_ticketlock.specs.Steps.{FollowsSeen};
+
+use crate::kept::Kept;
+use crate::pass::Pass;
+use crate::site::Site;
+use crate::sought::Stop;
+use std::sync::Wait;
+use zq_ticketlock::{Held, Seat, TryFault};
+
+impl Site {
+    /// Takes a seat out.
+    fn seat_out(&self, pass: &mut Pass, heap: usize) -> Seat<Kept>
+        requires seats { HasSeatsIn self.now (heap ∷ []) pass.old }
+        requires heap { heap < heaps_of self.now }
+        ensures seat { (room : Rooms) → slice_get self.now.rooms.items heap ≡ Some room → IsSeatOf room (Some (Some result)) }
+        ensures seen { seen result ≡ seen_at pass.old heap }
+        ensures outside { IsSameOutside (heap ∷ []) pass.old pass.new }
+    {
+        let Some(seat) = pass.seats[heap].take() else {
+            unreachable!()
+        };
+        seat
+    }
+
+    /// Puts a seat back.
+    fn seat_in(&self, pass: &mut Pass, heap: usize, seat: Seat<Kept>)
+        requires number { length pass.old.seats.items ≡ heaps_of self.now }
+        requires heap { heap < heaps_of self.now }
+        requires seat { (room : Rooms) → slice_get self.now.rooms.items heap ≡ Some room → IsSeatOf room (Some (Some seat)) }
+        ensures seats { HasSeatsIn self.now (heap ∷ []) pass.new }
+        ensures seen { seen_at pass.new heap ≡ seen seat }
+        ensures outside { IsSameOutside (heap ∷ []) pass.old pass.new }
+    {
+        pass.seats[heap] = Some(seat);
+    }
+
+    /// Locks a heap, and waits for it. The pass has no seat there until the heap is put home. Where the lock is worn the
+    /// pass has its seat again.
+    pub(crate) fn lock_in<R: Wait>(
+        &self,
+        rt: &R,
+        pass: &mut Pass,
+        heap: usize,
+    ) -> Result<Held<Kept>, Stop>
+        requires seats { HasSeatsIn self.now (heap ∷ []) pass.old }
+        requires heap { heap < heaps_of self.now }
+        ensures held { IfOk result (IsHeldAt self.now heap) }
+        ensures follows { IfOk result (λ held. FollowsSeen Follows (value_of held) (seen_at pass.old heap)) }
+        ensures outside { IsSameOutside (heap ∷ []) pass.old pass.new }
+        ensures back { OnErr result (AreBack self.now (heap ∷ []) pass.old pass.new) }
+    {
+        let seat = self.seat_out(pass, heap);
+        seat.has_seen();
+        match self.rooms[heap].lock.lock(rt, seat) {
+            Ok(held) => Ok(held),
+            Err((_, seat)) => {
+                self.seat_in(pass, heap, seat);
+                Err(Stop::Worn)
+            }
+        }
+    }
+
+    /// The same where nobody holds the heap or waits for it. It never waits.
+    pub(crate) fn try_lock_in(&self, pass: &mut Pass, heap: usize) -> Result<Held<Kept>, Stop>
+        requires seats { HasSeatsIn self.now (heap ∷ []) pass.old }
+        requires heap { heap < heaps_of self.now }
+        ensures held { IfOk result (IsHeldAt self.now heap) }
+        ensures follows { IfOk result (λ held. FollowsSeen Follows (value_of held) (seen_at pass.old heap)) }
+        ensures outside { IsSameOutside (heap ∷ []) pass.old pass.new }
+        ensures back { OnErr result (AreBack self.now (heap ∷ []) pass.old pass.new) }
+    {
+        let seat = self.seat_out(pass, heap);
+        seat.has_seen();
+        match self.rooms[heap].lock.try_lock(seat) {
+            Ok(held) => Ok(held),
+            Err((fault, seat)) => {
+                self.seat_in(pass, heap, seat);
+                Err(Stop::from(fault))
+            }
+        }
+    }
+
+    /// Puts a heap home as it was found.
+    pub(crate) fn let_go(&self, pass: &mut Pass, heap: usize, held: Held<Kept>)
+        requires number { length pass.old.seats.items ≡ heaps_of self.now }
+        requires heap { heap < heaps_of self.now }
+        requires held { IsHeldAt self.now heap held }
+        ensures seats { HasSeatsIn self.now (heap ∷ []) pass.new }
+        ensures seen { seen_at pass.new heap ≡ Some (value_of held) }
+        ensures outside { IsSameOutside (heap ∷ []) pass.old pass.new }
+    {
+        let seat = self.rooms[heap].lock.unlock(held);
+        self.seat_in(pass, heap, seat);
+    }
+}
