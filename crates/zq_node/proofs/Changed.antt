@@ -1,6 +1,6 @@
 -- What is parked after a change at one place.
 
-use Rattle.std.proofs.Common.{ap, arith, cond, false, get_or, inl, inr, length, refl, slice_index_or, set, subst, sym, true, Bool, List, None, Option, Some, ℕ, ◌+◌, ◌<◌, ◌≤◌, ◌≡◌, ◌∙◌, ◌⊎◌}
+use Rattle.std.proofs.Common.{ap, arith, cond, false, get_or, inl, inr, length, slice_index_or, set, subst, sym, true, Bool, List, None, Option, Some, ℕ, ◌+◌, ◌<◌, ◌≤◌, ◌≡◌, ◌∙◌, ◌⊎◌}
 use Rattle.std.proofs.lemmas.Bool.{cases_Bool, cases_eq, cond-false, cond-true}
 use Rattle.std.proofs.lemmas.Bool.Decides.{nat_tests}
 use Rattle.std.proofs.lemmas.List.{get_or-set_other, get_or-set_same}
@@ -42,7 +42,21 @@ parked_before old new p o is here =
       | inr same ↦ sym same ∙ here
     ]
 
+-- what was parked before stays, but for the one that was let go
+pub parked_still : (old new : Entries) (o p : Placed) → IsUpdated old new (place_of o) None → IsParked old o → IsParked old p → IsParked new p ⊎ (p ≡ o)
+parked_still old new o p is here there =
+    elim (changed_at old new (place_of o) None (place_of p) is) [
+      | inl gone ↦ inr (let both : Some p ≡ Some o = sym there ∙ (ap (parked_at old) (sym gone.0) ∙ here) in cc)
+      | inr same ↦ inl (same ∙ there)
+    ]
+
 -- ---- one is parked
+
+-- it is parked,
+pub parked_here : (old new : Entries) (op : Placed) → IsUpdated old new (place_of op) (Some op) → IsParked new op
+parked_here old new op is =
+    let here : is_at (place_cmp (place_of op)) (place_of op) ≡ true = grind (arith, nat_tests) in
+    is (place_of op) ∙ cond-true _ _ _ here
 
 pub placed_with : (old new : Entries) (op : Placed) → IsUpdated old new (place_of op) (Some op) → IsRanged op → ArePlaced old → ArePlaced new
 placed_with old new op is ranged are q =

@@ -1,2 +1,7 @@
 pub mod Ready
 pub mod Changed
+pub mod Called
+pub mod Works
+pub mod Nodes
+pub mod Told
+pub mod Haves

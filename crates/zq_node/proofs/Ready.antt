@@ -1,18 +1,19 @@
 -- Which of the operations that are parked are ready.
 
-use Rattle.std.proofs.Common.{arith, false, get_or, inl, inr, refl, subst, sym, true, List, None, Option, Some, ℕ, ◌+◌, ◌<◌, ◌≡◌, ◌≤◌, ◌≢◌, ◌∙◌, ◌∷◌, ap}
+use Rattle.std.proofs.Common.{Bool, arith, false, get_or, inl, inr, refl, subst, sym, true, List, None, Option, Some, ℕ, ◌+◌, ◌<◌, ◌≡◌, ◌≤◌, ◌≢◌, ◌∙◌, ◌∷◌, ap}
 use Rattle.std.proofs.lemmas.Bool.{cases_Bool, cases_lt, cond-false}
 use Rattle.std.proofs.lemmas.Bool.Decides.{nat_tests}
 use Rattle.std.specs.BTreeMap.Range.{IsInRange, IsLeBy}
 use Rattle.std.specs.List.{slice_get}
 use Rattle.std.specs.Option.{IfSome, IsSome}
+use Rattle.std.specs.Prelude.{is_some, ◌↔◌}
 use Rattle.std.specs.declared.ops.Bound.TheVariants.{Excluded, Included}
 use Rattle.zq_dots.specs.Placed.{IsRanged, Placed}
 use Rattle.zq_model.proofs.Dots.{has_not, has_not_from}
 use Rattle.zq_model.proofs.Taken.{covers_at, taken_early}
 use Rattle.zq_model.specs.Operation.{has}
 use Rattle.zq_model.specs.Sets.{Early, covers, taken_of}
-use Rattle.zq_node.specs.Parked.{ArePlaced, Entries, IsParked, IsReadyAt, IsSiteEarly, Place, parked_at, place_cmp, place_of}
+use Rattle.zq_node.specs.Parked.{ArePlaced, Entries, HasPlaceOf, IsReadyAt, IsSiteEarly, Place, parked_at, place_cmp, place_of}
 
 -- between these bounds lie a site's places up to the counter after the known ones
 abbrev pub IsNear : ℕ → ℕ → ℕ → Place → Type 0
@@ -52,6 +53,17 @@ IsPlacedAt q o = (place_of o ≡ q) × IsRanged o
 
 pub placed_at : (parked : Entries) (q : Place) (o : Placed) → ArePlaced parked → parked_at parked q ≡ Some o → IsPlacedAt q o
 placed_at parked q o are is = subst (λ x. IfSome x (IsPlacedAt q)) is (are q)
+
+-- a place that is taken has one of its heap and dot
+some_place : (parked : Entries) (o : Placed) (q : Place) (x : Option Placed) → ArePlaced parked → q ≡ place_of o → parked_at parked q ≡ x → is_some x ≡ true → HasPlaceOf parked o
+some_place parked o q (Some p) are at is some = let placed = placed_at parked q p are is in (p, ap (parked_at parked) placed.0 ∙ is, placed.0 ∙ at)
+some_place parked o q None are at is some = absurd (cc)
+
+pub place_taken : (parked : Entries) (o : Placed) (q : Place) (b : Bool) → ArePlaced parked → q ≡ place_of o → b ≡ is_some (parked_at parked q) → (b ≡ true) ↔ HasPlaceOf parked o
+place_taken parked o q b are at is = (
+  λ some. some_place parked o q (parked_at parked q) are at refl (sym is ∙ some),
+  λ taken. is ∙ ap is_some (ap (parked_at parked) (at ∙ sym taken.2) ∙ taken.1),
+)
 
 -- one that is Early has a counter past the known ones
 early_past : (parked : Entries) (v : List ℕ) (known : ℕ) (p : Place) (first : Placed) → ArePlaced parked → known ≡ get_or v p.1 0 → parked_at parked p ≡ Some first → taken_of v first.operation ≡ Early → known < p.2

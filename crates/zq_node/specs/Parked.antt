@@ -30,6 +30,10 @@ parked_at parked p = lookup (is_at (place_cmp p)) parked
 abbrev pub IsParked : Entries → Placed → Type 0
 IsParked parked o = parked_at parked (place_of o) ≡ Some o
 
+-- one of its heap and dot is parked
+abbrev pub HasPlaceOf : Entries → Placed → Type 0
+HasPlaceOf parked o = (p : Placed) × IsParked parked p × (place_of p ≡ place_of o)
+
 -- at this place there is what is given, and elsewhere what there was
 abbrev pub IsUpdated : Entries → Entries → Place → Option Placed → Type 0
 IsUpdated old new p what = (q : Place) → parked_at new q ≡ cond (is_at (place_cmp p) q) what (parked_at old q)

@@ -2,8 +2,17 @@
 //! a peer lacks.
 #![tactic(auto)]
 
+mod faults;
+mod hearing;
+mod home;
+mod node;
 mod parked;
+mod settling;
+mod taking;
+mod telling;
 
+pub use faults::NodeFault;
+pub use node::Node;
 pub use parked::{MOST_PARKED, Parked};
 
 #[cfg(test)]

@@ -3,13 +3,13 @@ ghost use Rattle.std.specs.Prelude.{◌≡◌, ◌≢◌, ◌≤◌, ◌<◌, �
 ghost use Rattle.zq_dots.specs.Placed.{IsRanged, Placed};
 ghost use Rattle.zq_model.specs.Sets as sets;
 ghost use Rattle.zq_node.specs.Parked as parked;
-ghost use Rattle.zq_node.specs.Parked.{ArePlaced, IsParked, IsReadyAt, IsSiteEarly, IsUpdated};
+ghost use Rattle.zq_node.specs.Parked.{ArePlaced, HasPlaceOf, IsParked, IsReadyAt, IsSiteEarly, IsUpdated};
 ghost use Rattle.zq_node.specs.declared.parked.TheConstants as limits;
 
 use std::alloc::{AllocError, Global};
 use std::collections::BTreeMap;
 use std::marker::Model;
-use zq_dots::{Op, SITES, SiteNo, Vector};
+use zq_dots::{Dot, Op, SITES, SiteNo, Vector};
 
 /// The most operations that are parked.
 pub const MOST_PARKED: usize = 1024;
@@ -66,6 +66,7 @@ impl Parked {
         ensures full { IfOk result (λ kept. IsTrue kept ↔ (length self.old < limits.MOST_PARKED)) }
         ensures parked { IfOk result (λ kept. IsTrue kept → IsUpdated self.old self.new (parked.place_of op) (Some op)) }
         ensures dropped { IfOk result (λ kept. kept ≡ false → self.new ≡ self.old) }
+        ensures more { IfOk result (λ _. length self.new ≤ length self.old + 1) }
         ensures refused { OnErr result (self.new ≡ self.old) }
     {
         if self.ops.len() >= MOST_PARKED {
@@ -77,18 +78,30 @@ impl Parked {
         Ok(true)
     }
 
-    /// Takes out an operation of this heap that is not Early by this vector, if there is one.
-    pub fn take_ready(&mut self, heap: u8, vector: &Vector) -> Option<Op>
-        ensures ready { IfSome result (λ o. IsParked self.old o × (o.operation.heap ≡ heap) × (sets.taken_of vector.now o.operation ≢ sets.Early)) }
-        ensures others { IfSome result (λ o. IsUpdated self.old self.new (parked.place_of o) None) }
-        ensures fewer { IfSome result (λ o. length self.new + 1 ≡ length self.old) }
-        ensures none { IfNone result ((o : Placed) → IsParked self.old o → o.operation.heap ≡ heap → sets.taken_of vector.now o.operation ≡ sets.Early) }
-        ensures kept { IfNone result (self.new ≡ self.old) }
+    /// Whether one of this operation's heap and dot is parked.
+    pub fn has_place_of(&self, op: &Op) -> bool
+        ensures { (result ≡ true) ↔ HasPlaceOf self.now op.now }
+    {
+        self.ops.contains_key(&place_of(op))
+    }
+
+    /// An operation of this heap that is not Early by this vector, if there is one.
+    pub fn ready(&self, heap: u8, vector: &Vector) -> Option<&Op>
+        ensures ready { IfSome result (λ o. IsParked self.now o.now × (o.now.operation.heap ≡ heap) × (sets.taken_of vector.now o.now.operation ≢ sets.Early)) }
+        ensures none { IfNone result ((o : Placed) → IsParked self.now o → o.operation.heap ≡ heap → sets.taken_of vector.now o.operation ≡ sets.Early) }
     {
         let place = self.ready_place(heap, vector)?;
-        let op = self.ops.remove(&place)?;
+        self.ops.get(&place)
+    }
+
+    /// Lets the operation of this heap and dot go, where one is parked. It takes no memory.
+    pub fn leave(&mut self, heap: u8, dot: Dot)
+        ensures left { IsUpdated self.old self.new (heap, dot.site, dot.n) None }
+        ensures fewer { length self.new ≤ length self.old }
+    {
+        let site = dot.site.value();
+        let _ = self.ops.remove(&(heap, site, dot.n));
         self.settle();
-        Some(op)
     }
 
     /// No site has operations here where there are none.

@@ -58,9 +58,10 @@ fn check_ready(
     site: u8,
     n: u64,
 ) -> Result<(), Fail> {
-    let op = parked.take_ready(0, vector).ok_or("an operation")?;
-    assert_eq!(rt; op.dot().site.value(), site);
-    assert_eq!(rt; op.dot().n, n);
+    let dot = parked.ready(0, vector).ok_or("an operation")?.dot();
+    assert_eq!(rt; dot.site.value(), site);
+    assert_eq!(rt; dot.n, n);
+    parked.leave(0, dot);
     Ok(())
 }
 
@@ -83,7 +84,7 @@ fn check_step(
             vector.set(site, (*n).min(2));
         }
         Step::Ready(site, n) => check_ready(rt, parked, vector, *site, *n)?,
-        Step::None => assert!(rt; parked.take_ready(0, vector).is_none()),
+        Step::None => assert!(rt; parked.ready(0, vector).is_none()),
     }
     Ok(())
 }

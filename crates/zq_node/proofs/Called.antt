@@ -1,0 +1,242 @@
+-- What the calls of a site say of the pass that made them.
+
+use Rattle.std.proofs.Common.{ap, arith, inl, inr, refl, subst, sym, ◌∙◌}
+use Rattle.std.proofs.lemmas.Bool.{cases_eq}
+use Rattle.std.specs.Prelude.{Err, IfSome, IsErrOf, List, Ok, OnErr, Result, Some, [], length, map, max, ℕ, ◌+◌, ◌++◌, ◌<◌, ◌≡◌, ◌≢◌, ◌∷◌, ◌⊎◌, ◌↔◌}
+use Rattle.zq_dots.specs.Placed.{Placed}
+use Rattle.zq_history.proofs.Reached.{reached_through, touched_reaches, worked_reaches}
+use Rattle.zq_history.specs.Books.{Book, Step, steps_image}
+use Rattle.zq_history.specs.Reach.{IsWorked, Reached}
+use Rattle.zq_journal.specs.Books.{steps_when}
+use Rattle.zq_journal.specs.declared.since.Since.{Since}
+use Rattle.zq_journal.specs.declared.faults.TakeFault.{TakeFault}
+use Rattle.zq_journal.specs.declared.faults.TakeFault.TheVariants as unheld
+use Rattle.zq_model.specs.Heaps.{heap_of}
+use Rattle.zq_model.specs.Sets as sets
+use Rattle.zq_node.specs.Calls.{AreCalled, Asked, Call, Copied, HasReached, HasTaken, IsCalled, IsEarlyTo, IsKnownTo, MadeNoStep, Merged, Saw, Took, WasTaken}
+use Rattle.zq_node.specs.Faults.{untaken}
+use Rattle.zq_node.specs.declared.faults.NodeFault.{NodeFault}
+use Rattle.zq_node.specs.declared.faults.NodeFault.TheVariants as node
+use Rattle.zq_shard.specs.Taken.{answer_of}
+use Rattle.zq_shard.specs.declared.taken.Taken.{Taken}
+use Rattle.zq_shard.specs.declared.taken.Taken.TheVariants.{Early, Known, New}
+use Rattle.zq_shard.specs.Shard.{HeapImage}
+use Rattle.zq_spread.specs.Answers.{IsAsked, IsCopied, IsShown, IsSince, IsTaken}
+use Rattle.zq_spread.specs.Calls.{AreWorkedIn, HasSeenBook, IsCall, IsOfSite, IsWorkedIn, greatest_stamp, heaps_of}
+use Rattle.zq_spread.specs.Kept.{Follows}
+use Rattle.zq_spread.specs.Passes.{IsStopped, seen_at, steps_at}
+use Rattle.zq_spread.specs.declared.faults.ReadFault.{ReadFault}
+use Rattle.zq_spread.specs.declared.faults.ReadFault.TheVariants as unread
+use Rattle.zq_spread.specs.declared.kept.Kept.{Kept}
+use Rattle.zq_spread.specs.declared.pass.Pass.{Pass}
+use Rattle.zq_spread.specs.declared.site.Site.{Site}
+
+-- ---- a call in one heap
+
+-- what it found, left and did there
+pub record IsAlone (Does : List Book → List (List Step) → Type 0) (before after : Pass) (h : ℕ) : Type 0 where
+  pub found : Kept
+  pub left : Kept
+  pub steps : List Step
+  pub worked : IsWorkedIn before after h found left steps
+  pub later : found.book.stamp < after.stamp
+  pub done : Does (found.book ∷ []) (steps ∷ [])
+
+alone_in : (Does : List Book → List (List Step) → Type 0) (before after : Pass) (h : ℕ) (found left : List Kept) (steps : List (List Step)) → AreWorkedIn before after (h ∷ []) found left steps →
+    after.stamp ≡ max before.stamp (greatest_stamp found) + 1 → Does (map (λ x. x.book) found) steps → IsAlone Does before after h
+alone_in Does before after h [] left steps worked next done = absurd worked
+alone_in Does before after h (x ∷ found) [] steps worked next done = absurd worked
+alone_in Does before after h (x ∷ found) (y ∷ left) [] worked next done = absurd worked
+alone_in Does before after h (x ∷ []) (y ∷ []) (ss ∷ []) worked next done =
+    record { found = x; left = y; steps = ss; worked = worked.0; later = omega (arith, next); done = done }
+alone_in Does before after h (x ∷ []) (y ∷ []) (ss ∷ more ∷ steps) worked next done = absurd worked.1
+alone_in Does before after h (x ∷ []) (y ∷ z ∷ left) (ss ∷ steps) worked next done = absurd worked.1
+alone_in Does before after h (x ∷ z ∷ found) (y ∷ left) (ss ∷ steps) worked next done = absurd worked.1
+
+pub alone : (Does : List Book → List (List Step) → Type 0) (before after : Pass) (h : ℕ) → IsCall Does before after (h ∷ []) → IsAlone Does before after h
+alone Does before after h is = alone_in Does before after h is.found is.left is.steps is.worked is.next is.done
+
+-- nothing changed in another heap
+pub elsewhere : (Does : List Book → List (List Step) → Type 0) (before after : Pass) (h k : ℕ) → IsCall Does before after (h ∷ []) → k ≢ h → (seen_at after k ≡ seen_at before k) × (steps_at after k ≡ steps_at before k)
+elsewhere Does before after h k is apart = is.others k (λ here. elim here [ inl same ↦ apart (sym same) | inr none ↦ absurd none ])
+
+-- a call whose own steps are none made no step
+pub no_step_by : (Does : List Book → List (List Step) → Type 0) (before after : Pass) (h : ℕ) → IsCall Does before after (h ∷ []) →
+    ((b : Book) (steps : List Step) → Does (b ∷ []) (steps ∷ []) → steps ≡ []) → MadeNoStep before after
+no_step_by Does before after h is none = λ k. elim (cases_eq k h) [
+  | inl same ↦ (
+      let one = alone Does before after h is in
+      let empty : length one.steps ≡ 0 = ap length (none one.found.book one.steps one.done) in
+      let own = one.worked.own in
+      let here : steps_at after h ≡ steps_at before h = omega (arith, own, empty) in
+      subst (λ j. steps_at after j ≡ steps_at before j) (sym same) here)
+  | inr apart ↦ (elsewhere Does before after h k is apart).1
+]
+
+-- ---- what was reached stays so
+
+reached_alone : (Does : List Book → List (List Step) → Type 0) (before after : Pass) (h : ℕ) (one : IsAlone Does before after h) (x : Kept) → seen_at before h ≡ Some x → Reached one.left.book x.book
+reached_alone Does before after h one x is =
+    let follow : Follows one.found x = subst (λ s. IfSome s (Follows one.found)) is one.worked.follows in
+    let first = follow.0 in
+    let last = worked_reaches one.left.book one.found.book after.stamp one.steps one.worked.worked one.later in
+    (first.0 ++ one.steps, reached_through one.left.book one.found.book x.book first.0 one.steps last first.1)
+
+reached_before : (P : Book → Type 0) (later earlier : Book) → Reached later earlier → (had : (b : Book) × Reached earlier b × P b) → (b : Book) × Reached later b × P b
+reached_before P later earlier reached had =
+    let first = had.1 in (had.0, (first.0 ++ reached.0, reached_through later earlier had.0 first.0 reached.0 reached.1 first.1), had.2)
+
+reached_by : (Does : List Book → List (List Step) → Type 0) (P : Book → Type 0) (before after : Pass) (h k : ℕ) → IsCall Does before after (h ∷ []) → HasReached before k P → HasReached after k P
+reached_by Does P before after h k is had = elim (cases_eq k h) [
+  | inl same ↦ (
+      let one = alone Does before after h is in
+      let seen : seen_at before h ≡ Some had.0 = ap (seen_at before) (sym same) ∙ had.1 in
+      let then = reached_before P one.left.book had.0.book (reached_alone Does before after h one had.0 seen) (had.2, had.3, had.4) in
+      (one.left, ap (seen_at after) same ∙ one.worked.seen, then.0, then.1, then.2))
+  | inr apart ↦ (had.0, (elsewhere Does before after h k is apart).0 ∙ had.1, had.2, had.3, had.4)
+]
+
+pub reached_on : (P : Book → Type 0) (site : Site) (before after : Pass) (k : ℕ) (c : Call) → IsCalled site before after c → HasReached before k P → HasReached after k P
+reached_on P site before after k (Took op answer) is had = reached_by _ P before after op.operation.heap k is.1 had
+reached_on P site before after k (Merged shard) is had = reached_by _ P before after shard.heap k is.1 had
+reached_on P site before after k (Saw heap vector) is had = reached_by _ P before after heap k is had
+reached_on P site before after k (Asked heap vector answer) is had = reached_by _ P before after heap k is.0 had
+reached_on P site before after k (Copied heap shard) is had = reached_by _ P before after heap k is had
+
+pub reached_after : (P : Book → Type 0) (site : Site) (before after : Pass) (k : ℕ) (calls : List Call) → AreCalled site before after calls → HasReached before k P → HasReached after k P
+reached_after P site before after k [] are had = subst (λ p. HasReached p k P) (sym are) had
+reached_after P site before after k (c ∷ calls) are had = reached_after P site are.0 after k calls are.2 (reached_on P site before are.0 k c are.1 had)
+
+-- ---- what was taken
+
+-- one that is Known, or New, is taken
+taken_so : (answer : Taken) (stamp : ℕ) (o : Placed) (found left : Book) (steps : List Step) → answer ≢ Early → IsWorked left found stamp steps →
+    answer_of answer ≡ sets.taken_of found.state.vector o.operation → steps ≡ steps_when (sets.taken_of found.state.vector o.operation) stamp o.operation → HasTaken o left
+taken_so New stamp o found left steps late worked is made =
+    let new : steps ≡ steps_when sets.New stamp o.operation = made ∙ ap (λ t. steps_when t stamp o.operation) (sym is) in
+    inr (found.state, sym is, worked.state ∙ ap (λ ss. steps_image ss found.state) new)
+taken_so Known stamp o found left steps late worked is made =
+    let none : steps ≡ [] = made ∙ ap (λ t. steps_when t stamp o.operation) (sym is) in
+    let state : left.state ≡ found.state = worked.state ∙ ap (λ ss. steps_image ss found.state) none in
+    inl (ap (λ a. sets.taken_of a.vector o.operation) state ∙ sym is)
+taken_so Early stamp o found left steps late worked is made = absurd (late refl)
+
+pub known_call : (site : Site) (before after : Pass) (o : Placed) (answer : Taken) → answer ≢ Early → IsCalled site before after (Took o answer) → IsKnownTo after o
+known_call site before after o answer late is =
+    let one = alone (IsTaken after.stamp o (Ok answer)) before after o.operation.heap is.1 in
+    (one.left, one.worked.seen, one.left.book, ([], touched_reaches one.left.book one.left.book.stamp (omega arith)), taken_so answer after.stamp o one.found.book one.left.book one.steps late one.worked.worked one.done.0 one.done.1)
+
+-- what was taken by one of the calls is known by what the pass has then seen
+pub known_by : (site : Site) (before after : Pass) (o : Placed) (calls : List Call) → AreCalled site before after calls → WasTaken calls o → IsKnownTo after o
+known_by site before after o [] are taken = absurd taken.2
+known_by site before after o (c ∷ calls) are taken = elim taken.2 [
+  | inl same ↦ reached_after (HasTaken o) site are.0 after o.operation.heap calls are.2 (known_call site before are.0 o taken.0 taken.1 (subst (IsCalled site before are.0) same are.1))
+  | inr more ↦ known_by site are.0 after o calls are.2 (taken.0, taken.1, more)
+]
+
+-- ---- calls one after the other
+
+pub called_on : (site : Site) (before between after : Pass) (first rest : List Call) → AreCalled site before between first → AreCalled site between after rest → AreCalled site before after (first ++ rest)
+called_on site before between after [] rest one other = subst (λ p. AreCalled site p after rest) one other
+called_on site before between after (c ∷ first) rest one other = (one.0, one.1, called_on site one.0 between after first rest one.2 other)
+
+-- ---- calls that were refused, and looks
+
+-- what holds after an error is said of the error alone
+pub on_err : {A E : Type 0} (P : Type 0) (r : Result A E) → P → OnErr r P
+on_err P (Ok x) is = tt
+on_err P (Err e) is = is
+
+-- an operation of which it is refused that it is not the site's is the site's
+pub of_site : (site : Site) (o : Placed) → ((IsOfSite site o → ⊥) → ⊥) → IsOfSite site o
+of_site site o so = record {
+  heaps = elim (cases_eq o.heaps (heaps_of site)) [ inl same ↦ same | inr other ↦ absurd (so (λ is. other is.heaps)) ];
+  placed = elim (cases_eq (heap_of o.operation.key o.operation.member o.heaps) o.operation.heap) [ inl same ↦ same | inr other ↦ absurd (so (λ is. other is.placed)) ];
+}
+
+-- what the site's call says
+pub record IsTakeOf (site : Site) (before after : Pass) (o : Placed) (r : Result Taken TakeFault) : Type 0 where
+  pub wrong_heap : IsErrOf r unheld.WrongHeap ↔ (IsOfSite site o → ⊥)
+  pub unlocked : (IsOfSite site o → ⊥) → after ≡ before
+  pub called : IsOfSite site o → IsCall (IsTaken after.stamp o r) before after (o.operation.heap ∷ []) ⊎ (IsErrOf r unheld.Worn × IsStopped before after)
+
+no_steps_taken : (stamp : ℕ) (o : Placed) (fault : TakeFault) (b : Book) (steps : List Step) → IsTaken stamp o (Err fault) (b ∷ []) (steps ∷ []) → steps ≡ []
+no_steps_taken stamp o unheld.WrongHeap b steps is = absurd is
+no_steps_taken stamp o unheld.Worn b steps is = is.2
+no_steps_taken stamp o unheld.NoMemory b steps is = is.1
+
+own_refusal : (site : Site) (before after : Pass) (o : Placed) (fault : TakeFault) → IsTakeOf site before after o (Err fault) → IsOfSite site o → MadeNoStep before after
+own_refusal site before after o fault is of = elim (is.called of) [
+  | inl call ↦ no_step_by (IsTaken after.stamp o (Err fault)) before after o.operation.heap call (no_steps_taken after.stamp o fault)
+  | inr stopped ↦ stopped.1.steps
+]
+
+same_pass : (before after : Pass) → after ≡ before → MadeNoStep before after
+same_pass before after same = λ k. ap (λ p. steps_at p k) same
+
+refused_take : (site : Site) (before after : Pass) (o : Placed) (fault : TakeFault) → IsTakeOf site before after o (Err fault) → MadeNoStep before after
+refused_take site before after o unheld.WrongHeap is = same_pass before after (is.unlocked (is.wrong_heap.0 refl))
+refused_take site before after o unheld.Worn is = own_refusal site before after o unheld.Worn is (of_site site o (λ not. let e = is.wrong_heap.1 not in absurd (cc)))
+refused_take site before after o unheld.NoMemory is = own_refusal site before after o unheld.NoMemory is (of_site site o (λ not. let e = is.wrong_heap.1 not in absurd (cc)))
+
+-- a take that was refused made no step
+pub take_stopped : (site : Site) (before after : Pass) (o : Placed) (r : Result Taken TakeFault) (fault : TakeFault) → r ≡ Err fault → IsTakeOf site before after o r → MadeNoStep before after
+take_stopped site before after o r fault is said = refused_take site before after o fault (subst (IsTakeOf site before after o) is said)
+
+taken_call : (site : Site) (before after : Pass) (o : Placed) (answer : Taken) → IsTakeOf site before after o (Ok answer) → IsCalled site before after (Took o answer)
+taken_call site before after o answer is =
+    let of = of_site site o (λ not. let e = is.wrong_heap.1 not in absurd (cc)) in
+    (of, elim (is.called of) [ inl call ↦ call | inr stopped ↦ (let e = stopped.0 in absurd (cc)) ])
+
+-- one that was answered is a call
+pub take_called : (site : Site) (before after : Pass) (o : Placed) (r : Result Taken TakeFault) (answer : Taken) → r ≡ Ok answer → IsTakeOf site before after o r → IsCalled site before after (Took o answer)
+take_called site before after o r answer is said = taken_call site before after o answer (subst (IsTakeOf site before after o) is said)
+
+-- what is Early by the vector that was shown is Early by what the pass has then seen
+pub early_shown : (before after : Pass) (heap : ℕ) (vector : List ℕ) (o : Placed) → IsCall (IsShown vector) before after (heap ∷ []) → o.operation.heap ≡ heap →
+    sets.taken_of vector o.operation ≡ sets.Early → IsEarlyTo after o
+early_shown before after heap vector o is here early =
+    let one = alone (IsShown vector) before after heap is in
+    let state : one.left.book.state ≡ one.found.book.state = one.worked.worked.state ∙ ap (λ ss. steps_image ss one.found.book.state) one.done.1 in
+    let same : one.left.book.state.vector ≡ vector = ap (λ a. a.vector) state ∙ sym one.done.0 in
+    (one.left, ap (seen_at after) here ∙ one.worked.seen, ap (λ v. sets.taken_of v o.operation) same ∙ early)
+
+-- what the node answers for it
+pub wrong_take : (site : Site) (before after : Pass) (o : Placed) (r : Result Taken TakeFault) (fault : TakeFault) (n : NodeFault) → r ≡ Err fault → n ≡ untaken fault →
+    IsTakeOf site before after o r → n ≡ node.WrongHeap → IsOfSite site o → ⊥
+wrong_take site before after o r unheld.WrongHeap n is told said wrong of = said.wrong_heap.0 is of
+wrong_take site before after o r unheld.Worn n is told said wrong of = let e : node.Worn ≡ node.WrongHeap = sym told ∙ wrong in absurd (cc)
+wrong_take site before after o r unheld.NoMemory n is told said wrong of = let e : node.NoMemory ≡ node.WrongHeap = sym told ∙ wrong in absurd (cc)
+
+pub no_rule_take : (fault : TakeFault) (n : NodeFault) → n ≡ untaken fault → n ≡ node.WrongRule → ⊥
+no_rule_take unheld.WrongHeap n told wrong = let e : node.WrongHeap ≡ node.WrongRule = sym told ∙ wrong in absurd (cc)
+no_rule_take unheld.Worn n told wrong = let e : node.Worn ≡ node.WrongRule = sym told ∙ wrong in absurd (cc)
+no_rule_take unheld.NoMemory n told wrong = let e : node.NoMemory ≡ node.WrongRule = sym told ∙ wrong in absurd (cc)
+
+-- ---- readings
+
+pub shown_no_step : (vector : List ℕ) (before after : Pass) (h : ℕ) → IsCall (IsShown vector) before after (h ∷ []) → MadeNoStep before after
+shown_no_step vector before after h is = no_step_by (IsShown vector) before after h is (λ b steps done. done.1)
+
+-- the site was asked, or refused to be
+pub since_no_step : (r : Result Since ReadFault) (before after : Pass) (h : ℕ) → IsCall (IsAsked r) before after (h ∷ []) ⊎ (IsErrOf r unread.Worn × IsStopped before after) → MadeNoStep before after
+since_no_step r before after h (inl call) = no_step_by (IsAsked r) before after h call (λ b steps done. done.1)
+since_no_step r before after h (inr stopped) = stopped.1.steps
+
+-- the heap was copied, or refused to be
+pub state_no_step : (r : Result HeapImage ReadFault) (before after : Pass) (h : ℕ) → IsCall (IsCopied r) before after (h ∷ []) ⊎ (IsErrOf r unread.Worn × IsStopped before after) → MadeNoStep before after
+state_no_step r before after h (inl call) = no_step_by (IsCopied r) before after h call (λ b steps done. done.1)
+state_no_step r before after h (inr stopped) = stopped.1.steps
+
+pub no_step_on : (a b c : Pass) → MadeNoStep a b → MadeNoStep b c → MadeNoStep a c
+no_step_on a b c first then = λ h. then h ∙ first h
+
+pub since_called : (site : Site) (before after : Pass) (h : ℕ) (theirs : List ℕ) (r : Result Since ReadFault) (answer : Since) → r ≡ Ok answer →
+    IsCall (IsAsked r) before after (h ∷ []) ⊎ (IsErrOf r unread.Worn × IsStopped before after) → HasSeenBook after h (IsSince theirs answer) → IsCalled site before after (Asked h theirs answer)
+since_called site before after h theirs r answer is (inl call) seen = (subst (λ s. IsCall (IsAsked s) before after (h ∷ [])) is call, seen)
+since_called site before after h theirs r answer is (inr stopped) seen = absurd (let e : r ≡ Err unread.Worn = stopped.0 in let f : Ok answer ≡ Err unread.Worn = sym is ∙ e in cc)
+
+pub state_called : (site : Site) (before after : Pass) (h : ℕ) (r : Result HeapImage ReadFault) (shard : HeapImage) → r ≡ Ok shard →
+    IsCall (IsCopied r) before after (h ∷ []) ⊎ (IsErrOf r unread.Worn × IsStopped before after) → IsCalled site before after (Copied h shard)
+state_called site before after h r shard is (inl call) = subst (λ s. IsCall (IsCopied s) before after (h ∷ [])) is call
+state_called site before after h r shard is (inr stopped) = absurd (let e : r ≡ Err unread.Worn = stopped.0 in let f : Ok shard ≡ Err unread.Worn = sym is ∙ e in cc)

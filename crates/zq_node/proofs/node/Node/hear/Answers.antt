@@ -1,0 +1,85 @@
+use Rattle.std.proofs.Common.{Err, ap, subst, sym, ◌≡◌, ◌⊎◌}
+use Rattle.std.specs.Prelude.{List}
+use Rattle.zq_dots.specs.Placed.{Placed}
+use Rattle.zq_frames.specs.declared.frame.Frame.TheVariants as heard
+use Rattle.zq_model.specs.Sets.{IsIn}
+use Rattle.zq_node.proofs.Called.{on_err}
+use Rattle.zq_node.proofs.Told.{if_err, ops_fault}
+use Rattle.zq_node.proofs.node.Node.hear.Goals as goal
+use Rattle.zq_node.specs.Faults.{IsOwnFault}
+use Rattle.zq_node.specs.Hearing.{AreOpsHeard, HasHeard, HasSiteRule, HasStopped, IsFaultOf, IsForSite, IsOfOneHeap, sent_of}
+use Rattle.zq_node.specs.Work.{WasStopped}
+use Rattle.zq_spread.specs.Calls.{IsOfSite}
+use Rattle.zq_spread.specs.declared.site.Site.{Site}
+
+abbrev AreOfSite : Site → List Placed → Type 0
+AreOfSite site ops = (o : Placed) → IsIn o ops → IsOfSite site o
+
+pub returns-in_ok-sent-in-Have-clause-heard : goal.returns-in_ok-sent-in-Have-clause-heard
+returns-in_ok-sent-in-Have-clause-heard g c =
+    let old = c.args.self.now in
+    let new = c.hear_have.new.self in
+    subst (λ f. HasHeard f old new (sent_of c.in_ok-sent-in-Have.sent.items)) (sym c.in-Have.is) (c.hear_have.ensures.parked, c.in_ok-sent-in-Have.ensures.answered)
+
+pub returns-in_ok-sent-in-Have-clause-right : goal.returns-in_ok-sent-in-Have-clause-right
+returns-in_ok-sent-in-Have-clause-right g c =
+    let site = c.args.self.now.home.site.now in
+    subst (λ f. IsForSite site f × HasSiteRule site f) (sym c.in-Have.is) c.in_ok-sent-in-Have.ensures.right
+
+pub returns-in_err-sent-in-Have-clause-stopped : goal.returns-in_err-sent-in-Have-clause-stopped
+returns-in_err-sent-in-Have-clause-stopped g c =
+    let old = c.args.self.now in
+    let new = c.hear_have.new.self in
+    on_err _ _ (subst (λ f. HasStopped f old new) (sym c.in-Have.is) (c.hear_have.ensures.parked, c.hear_have.ensures.no_step))
+
+pub returns-in_err-sent-in-Have-clause-fault : goal.returns-in_err-sent-in-Have-clause-fault
+returns-in_err-sent-in-Have-clause-fault g c =
+    let site = c.args.self.now.home.site.now in
+    let fault = c.in_err-sent-in-Have.field-0.0 in
+    if_err (IsFaultOf site c.args.frame.now) c.from_residual.result fault c.from_residual.ensures.1 (subst (λ f. IsFaultOf site f fault) (sym c.in-Have.is) c.in_err-sent-in-Have.ensures.fault)
+
+pub returns-in_err-sent-in-Have-clause-unheard : goal.returns-in_err-sent-in-Have-clause-unheard
+returns-in_err-sent-in-Have-clause-unheard g c =
+    if_err (λ f. IsOfOneHeap c.args.frame.now → IsOwnFault f ⊎ (c.hear_have.new.self ≡ c.args.self.now)) c.from_residual.result c.in_err-sent-in-Have.field-0.0 c.from_residual.ensures.1 (λ one. c.in_err-sent-in-Have.ensures.unheard)
+
+pub returns-in_err-take_all-in-Ops-clause-stopped : goal.returns-in_err-take_all-in-Ops-clause-stopped
+returns-in_err-take_all-in-Ops-clause-stopped g c =
+    let stopped : WasStopped c.in-Ops.ops.items c.args.self.now c.take_all.new.self = subst (λ l. WasStopped l c.args.self.now c.take_all.new.self) c.deref.ensures.value c.in_err-take_all-in-Ops.ensures.stopped in
+    on_err _ _ (subst (λ f. HasStopped f c.args.self.now c.take_all.new.self) (sym c.in-Ops.is) stopped)
+
+pub returns-in_err-take_all-in-Ops-clause-fault : goal.returns-in_err-take_all-in-Ops-clause-fault
+returns-in_err-take_all-in-Ops-clause-fault g c =
+    let site = c.args.self.now.home.site.now in
+    let fault = c.in_err-take_all-in-Ops.field-0.0 in
+    let why : IsFaultOf site (heard.Ops c.in-Ops.ops) fault =
+    ops_fault site (heard.Ops c.in-Ops.ops) fault (λ one. one) (λ e all. c.in_err-take_all-in-Ops.ensures.wrong_heap (ap (λ f. Err f) e) (subst (AreOfSite site) (sym c.deref.ensures.value) all)) (λ e. c.in_err-take_all-in-Ops.ensures.rule (ap (λ f. Err f) e)) in
+    if_err (IsFaultOf site c.args.frame.now) c.from_residual-in_err-take_all-in-Ops.result fault c.from_residual-in_err-take_all-in-Ops.ensures.1 (subst (λ f. IsFaultOf site f fault) (sym c.in-Ops.is) why)
+
+pub returns-in_err-take_all-in-Ops-clause-unheard : goal.returns-in_err-take_all-in-Ops-clause-unheard
+returns-in_err-take_all-in-Ops-clause-unheard g c =
+    if_err (λ f. IsOfOneHeap c.args.frame.now → IsOwnFault f ⊎ (c.take_all.new.self ≡ c.args.self.now)) c.from_residual-in_err-take_all-in-Ops.result c.in_err-take_all-in-Ops.field-0.0 c.from_residual-in_err-take_all-in-Ops.ensures.1
+    (λ one. absurd (subst IsOfOneHeap c.in-Ops.is one))
+
+pub returns-in_err-hear_state-in-State-clause-stopped : goal.returns-in_err-hear_state-in-State-clause-stopped
+returns-in_err-hear_state-in-State-clause-stopped g c =
+    on_err _ _ (subst (λ f. HasStopped f c.args.self.now c.hear_state.new.self) (sym c.in-State.is) c.in_err-hear_state-in-State.ensures.stopped)
+
+pub returns-in_err-hear_state-in-State-clause-fault : goal.returns-in_err-hear_state-in-State-clause-fault
+returns-in_err-hear_state-in-State-clause-fault g c =
+    let site = c.args.self.now.home.site.now in
+    let fault = c.in_err-hear_state-in-State.field-0.0 in
+    if_err (IsFaultOf site c.args.frame.now) c.from_residual-in_err-hear_state-in-State.result fault c.from_residual-in_err-hear_state-in-State.ensures.1 (subst (λ f. IsFaultOf site f fault) (sym c.in-State.is) c.in_err-hear_state-in-State.ensures.fault)
+
+pub returns-in_err-hear_state-in-State-clause-unheard : goal.returns-in_err-hear_state-in-State-clause-unheard
+returns-in_err-hear_state-in-State-clause-unheard g c =
+    if_err (λ f. IsOfOneHeap c.args.frame.now → IsOwnFault f ⊎ (c.hear_state.new.self ≡ c.args.self.now)) c.from_residual-in_err-hear_state-in-State.result c.in_err-hear_state-in-State.field-0.0 c.from_residual-in_err-hear_state-in-State.ensures.1
+    (λ one. c.in_err-hear_state-in-State.ensures.unheard)
+
+pub returns-in_ok-take_all-in-Ops-clause-heard : goal.returns-in_ok-take_all-in-Ops-clause-heard
+returns-in_ok-take_all-in-Ops-clause-heard g c =
+    subst (λ f. HasHeard f c.args.self.now c.take_all.new.self (sent_of c.new.result.items)) (sym c.in-Ops.is) (ap sent_of c.new.ensures.items, subst (λ l. AreOpsHeard l c.args.self.now c.take_all.new.self) c.deref.ensures.value c.in_ok-take_all-in-Ops.ensures.heard)
+
+pub returns-in_ok-take_all-in-Ops-clause-right : goal.returns-in_ok-take_all-in-Ops-clause-right
+returns-in_ok-take_all-in-Ops-clause-right g c =
+    let site = c.args.self.now.home.site.now in
+    subst (λ f. IsForSite site f × HasSiteRule site f) (sym c.in-Ops.is) (subst (AreOfSite site) c.deref.ensures.value c.in_ok-take_all-in-Ops.ensures.for_site, tt)

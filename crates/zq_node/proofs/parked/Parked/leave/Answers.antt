@@ -1,0 +1,24 @@
+use Rattle.std.proofs.Common.{arith, subst, sym, None, ◌≡◌}
+use Rattle.zq_node.proofs.Changed.{parked_before, placed_without}
+use Rattle.zq_node.specs.Parked.{IsUpdated, Place}
+use Rattle.zq_node.proofs.parked.Parked.leave.Goals as goal
+
+pub invariant_of-self : goal.invariant_of-self
+invariant_of-self c =
+    let place : Place = (c.args.heap, c.value-site.result, c.args.dot.n) in
+    record {
+      placed = placed_without c.self.inside.ops.entries c.remove.new.self.entries place c.remove.ensures.updates.0 c.self.invariant.placed;
+      sites = λ o here. c.self.invariant.sites o (parked_before c.self.inside.ops.entries c.remove.new.self.entries place o c.remove.ensures.updates.0 here);
+      few = let all = c.self.invariant.few in omega (arith, c.remove.ensures.len);
+    }
+
+pub returns-clause-left : goal.returns-clause-left
+returns-clause-left c =
+    let old = c.self.inside.ops.entries in
+    let new = c.remove.new.self.entries in
+    let place : Place = (c.args.heap, c.value-site.result, c.args.dot.n) in
+    let named : Place = (c.args.heap, c.args.dot.site, c.args.dot.n) in
+    let same : place ≡ named = λ i. (c.args.heap, c.value-site.ensures.same i, c.args.dot.n) in
+    let changed : IsUpdated old new named None = subst (λ p. IsUpdated old new p None) same c.remove.ensures.updates.0 in
+    let then : IsUpdated old c.settle.new.self named None = subst (λ e. IsUpdated old e named None) (sym c.settle.ensures) changed in
+    subst (λ e. IsUpdated e c.settle.new.self named None) c.self.view_is then

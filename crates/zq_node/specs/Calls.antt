@@ -1,0 +1,63 @@
+-- The calls of its site that a node makes with its pass.
+
+use Rattle.std.specs.Prelude.{List, Ok, Some, [], ℕ, ◌≡◌, ◌≢◌, ◌∷◌, ◌⊎◌}
+use Rattle.zq_dots.specs.Placed.{Placed}
+use Rattle.zq_history.specs.Books.{Book}
+use Rattle.zq_history.specs.Reach.{Reached}
+use Rattle.zq_journal.specs.declared.since.Since.{Since}
+use Rattle.zq_model.specs.Image.{Image, image_after}
+use Rattle.zq_model.specs.Sets as sets
+use Rattle.zq_shard.specs.Shard.{HeapImage}
+use Rattle.zq_shard.specs.declared.taken.Taken.{Taken}
+use Rattle.zq_shard.specs.declared.taken.Taken.TheVariants as taken
+use Rattle.zq_spread.specs.Answers.{IsAsked, IsCopied, IsMerged, IsShown, IsSince, IsTaken}
+use Rattle.zq_spread.specs.Calls.{HasSeenBook, IsCall, IsLikeSite, IsOfSite}
+use Rattle.zq_spread.specs.Passes.{seen_at, steps_at}
+use Rattle.zq_spread.specs.declared.kept.Kept.{Kept}
+use Rattle.zq_spread.specs.declared.pass.Pass.{Pass}
+use Rattle.zq_spread.specs.declared.site.Site.{Site}
+
+-- a call that the site answered: it took an operation, merged a heap, showed the vector of a heap, said what a peer of a vector lacks, or copied a heap
+pub data Call : Type 0 where
+  Took : (op : Placed) (answer : Taken) → Call
+  Merged : (shard : HeapImage) → Call
+  Saw : (heap : ℕ) (vector : List ℕ) → Call
+  Asked : (heap : ℕ) (vector : List ℕ) (answer : Since) → Call
+  Copied : (heap : ℕ) (shard : HeapImage) → Call
+
+-- the pass made this call of the site, and it was answered so
+abbrev pub IsCalled : Site → Pass → Pass → Call → Type 0
+IsCalled site before after (Took op answer) = IsOfSite site op × IsCall (IsTaken after.stamp op (Ok answer)) before after (op.operation.heap ∷ [])
+IsCalled site before after (Merged shard) = IsLikeSite site shard × IsCall (IsMerged after.stamp shard (Ok tt)) before after (shard.heap ∷ [])
+IsCalled site before after (Saw heap vector) = IsCall (IsShown vector) before after (heap ∷ [])
+IsCalled site before after (Asked heap vector answer) = IsCall (IsAsked (Ok answer)) before after (heap ∷ []) × HasSeenBook after heap (IsSince vector answer)
+IsCalled site before after (Copied heap shard) = IsCall (IsCopied (Ok shard)) before after (heap ∷ [])
+
+-- the pass made these calls, one after the other, and no others
+abbrev pub AreCalled : Site → Pass → Pass → List Call → Type 0
+AreCalled site before after [] = after ≡ before
+AreCalled site before after (c ∷ calls) = (next : Pass) × IsCalled site before next c × AreCalled site next after calls
+
+-- by one of these calls the operation was taken, or it was known
+abbrev pub WasTaken : List Call → Placed → Type 0
+WasTaken calls o = (answer : Taken) × (answer ≢ taken.Early) × sets.IsIn (Took o answer) calls
+
+-- nothing was recorded and nothing merged by the pass
+abbrev pub MadeNoStep : Pass → Pass → Type 0
+MadeNoStep before after = (h : ℕ) → steps_at after h ≡ steps_at before h
+
+-- the pass has seen a book of this heap that had this property, or was reached from one that had it
+abbrev pub HasReached : Pass → ℕ → (Book → Type 0) → Type 0
+HasReached pass h P = (x : Kept) × (seen_at pass h ≡ Some x) × (b : Book) × Reached x.book b × P b
+
+-- the operation is Known by the book, or was New when the book took it
+abbrev pub HasTaken : Placed → Book → Type 0
+HasTaken o b = (sets.taken_of b.state.vector o.operation ≡ sets.Known) ⊎ ((a : Image) × (sets.taken_of a.vector o.operation ≡ sets.New) × (b.state ≡ image_after o.operation a))
+
+-- the site has the operation, by what the pass has seen of its heap
+abbrev pub IsKnownTo : Pass → Placed → Type 0
+IsKnownTo pass o = HasReached pass o.operation.heap (HasTaken o)
+
+-- the operation is Early by what the pass has seen of its heap
+abbrev pub IsEarlyTo : Pass → Placed → Type 0
+IsEarlyTo pass o = HasSeenBook pass o.operation.heap (λ b. sets.taken_of b.state.vector o.operation ≡ sets.Early)

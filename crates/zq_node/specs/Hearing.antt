@@ -1,0 +1,157 @@
+-- What hearing a frame does, and what is sent then.
+
+use Rattle.std.specs.Prelude.{List, MatchBool, None, Option, Some, [], if◌then◌else◌, length, map, option_to_list, take, true, ℕ, ◌+◌, ◌++◌, ◌<◌, ◌∷◌, ◌≡◌, ◌≢◌, ◌⊎◌}
+use Rattle.zq_dots.specs.Placed.{Placed}
+use Rattle.zq_dots.specs.Rule.{rule_of}
+use Rattle.zq_frames.specs.Frame.{Frame, Have, OfHave, OfOps, OfState, frame_of, have_of}
+use Rattle.zq_frames.specs.declared.frame.Frame as code
+use Rattle.zq_frames.specs.declared.frame.Frame.TheVariants as heard
+use Rattle.zq_journal.specs.declared.since.Since.{Since}
+use Rattle.zq_journal.specs.declared.since.Since.TheVariants.{Ops, TooOld}
+use Rattle.zq_model.specs.Rule.{Rule}
+use Rattle.zq_model.specs.Sets.{IsIn, covers}
+use Rattle.zq_node.specs.Calls.{AreCalled, Asked, Call, Copied, HasReached, IsCalled, MadeNoStep, Merged, Saw}
+use Rattle.zq_node.specs.Node.{parked_of, pass_of, site_of}
+use Rattle.zq_node.specs.Work.{AllWait, HasWorked, IsHeard, IsWork, WasStopped}
+use Rattle.zq_node.specs.declared.faults.NodeFault.{NodeFault}
+use Rattle.zq_node.specs.declared.faults.NodeFault.TheVariants as fault
+use Rattle.zq_node.specs.declared.node.Node.{Node}
+use Rattle.zq_node.specs.declared.telling.TheConstants.{MOST_TOLD}
+use Rattle.zq_shard.specs.Shard.{HeapImage}
+use Rattle.zq_spread.specs.Calls.{IsOfSite, heaps_of}
+use Rattle.zq_spread.specs.declared.pass.Pass.{Pass}
+use Rattle.zq_spread.specs.declared.site.Site.{Site}
+
+-- ---- whether a frame is for this site
+
+-- it is one of the site's heaps, among as many
+abbrev pub IsHeapOf : Site → ℕ → ℕ → Type 0
+IsHeapOf site heap heaps = (heaps ≡ heaps_of site) × (heap < heaps_of site)
+
+-- it names a heap of the site, or operations that lie in such
+abbrev pub IsForSite : Site → code.Frame → Type 0
+IsForSite site (heard.Have h) = IsHeapOf site h.heap h.heaps
+IsForSite site (heard.Ops ops) = (o : Placed) → IsIn o ops.items → IsOfSite site o
+IsForSite site (heard.State s) = IsHeapOf site s.heap s.heaps
+
+-- its rule is the site's; operations have none
+abbrev pub HasSiteRule : Site → code.Frame → Type 0
+HasSiteRule site (heard.Have h) = rule_of h.rule ≡ rule_of site.rule
+HasSiteRule site (heard.Ops ops) = Unit {0}
+HasSiteRule site (heard.State s) = s.rule ≡ rule_of site.rule
+
+-- it is of one heap, and judged before anything is done
+abbrev pub IsOfOneHeap : code.Frame → Type 0
+IsOfOneHeap (heard.Have h) = Unit {0}
+IsOfOneHeap (heard.Ops ops) = ⊥
+IsOfOneHeap (heard.State s) = Unit {0}
+
+-- why a frame was refused: WrongHeap where it is not for the site, WrongRule where it is and its rule is another; else it is the site's own fault
+abbrev pub IsFaultOf : Site → code.Frame → NodeFault → Type 0
+IsFaultOf site frame fault.WrongHeap = IsForSite site frame → ⊥
+IsFaultOf site frame fault.WrongRule = IsForSite site frame × (HasSiteRule site frame → ⊥)
+IsFaultOf site frame fault.Worn = IsOfOneHeap frame → IsForSite site frame × HasSiteRule site frame
+IsFaultOf site frame fault.NoMemory = IsOfOneHeap frame → IsForSite site frame × HasSiteRule site frame
+
+-- why a heap of this number, among so many, with this rule is refused
+abbrev pub IsNotFor : Site → ℕ → ℕ → Rule → NodeFault → Type 0
+IsNotFor site heap heaps rule fault.WrongHeap = IsHeapOf site heap heaps → ⊥
+IsNotFor site heap heaps rule fault.WrongRule = IsHeapOf site heap heaps × (rule ≢ rule_of site.rule)
+IsNotFor site heap heaps rule fault.Worn = ⊥
+IsNotFor site heap heaps rule fault.NoMemory = ⊥
+
+-- ---- what is sent
+
+-- by the site's answer to what a peer lacks: these operations, or the whole heap
+abbrev pub IsSince : Site → Pass → Pass → ℕ → Since → Frame → Type 0
+IsSince site before after heap (Ops ops) frame = (after ≡ before) × (frame ≡ OfOps (take MOST_TOLD ops.items))
+IsSince site before after heap TooOld frame = (shard : HeapImage) × IsCalled site before after (Copied heap shard) × (frame ≡ OfState shard)
+
+-- the site was asked what a peer of this vector lacks of the heap, and this frame tells it
+pub record IsTold (site : Site) (before after : Pass) (heap : ℕ) (theirs : List ℕ) (frame : Frame) : Type 0 where
+  pub answer : Since
+  pub asked : Pass
+  pub called : IsCalled site before asked (Asked heap theirs answer)
+  pub told : IsSince site asked after heap answer frame
+
+-- a peer that has all of the vector is told nothing, and the site is not asked; another is told what it lacks
+abbrev pub IsToldOf : Site → Pass → Pass → ℕ → List ℕ → List ℕ → Option Frame → Type 0
+IsToldOf site before after heap theirs vector told =
+    MatchBool (covers theirs vector) ((after ≡ before) × (told ≡ None)) ((frame : Frame) × (told ≡ Some frame) × IsTold site before after heap theirs frame)
+
+-- what the site has of one of its heaps
+abbrev pub have_at : Site → ℕ → List ℕ → Have
+have_at site heap vector = record { from = site.number; heap = heap; heaps = heaps_of site; rule = rule_of site.rule; vector = vector }
+
+-- which is sent where it lacks something that the peer has
+abbrev pub own_have : Site → ℕ → List ℕ → List ℕ → Option Frame
+own_have site heap theirs vector = if covers vector theirs then None else Some (OfHave (have_at site heap vector))
+
+-- the frames, each to this site
+abbrev pub sent_to : ℕ → List Frame → List (ℕ × Frame)
+sent_to to frames = map (λ f. (to, f)) frames
+
+-- what is sent, apart from how the code has it
+abbrev pub sent_of : List (ℕ × code.Frame) → List (ℕ × Frame)
+sent_of sent = map (λ s. (s.0, frame_of s.1)) sent
+
+-- the site showed its vector of the heap; then the peer is told what it lacks of that, and after it the site's vector where it lacks some of the peer's, and nothing else
+-- is sent
+pub record IsHaveHeard (site : Site) (h : Have) (before after : Pass) (sent : List (ℕ × Frame)) : Type 0 where
+  pub vector : List ℕ
+  pub shown : Pass
+  pub saw : IsCalled site before shown (Saw h.heap vector)
+  pub told : Option Frame
+  pub told_is : IsToldOf site shown after h.heap h.vector vector told
+  pub sent_is : sent ≡ sent_to h.from (option_to_list told ++ option_to_list (own_have site h.heap h.vector vector))
+
+-- the work with these operations, after which each of them is known, parked or dropped, and those that are parked wait
+pub record AreOpsHeard (ops : List Placed) (old new : Node) : Type 0 where
+  pub work : HasWorked ops old new
+  pub each : (o : Placed) → IsIn o ops → IsHeard new (length (parked_of old) + length ops) o
+  pub wait : AllWait new
+
+-- the heap was merged, so that the pass has seen all that it has, and those that are parked wait
+pub record IsStateHeard (s : HeapImage) (old new : Node) : Type 0 where
+  pub merged : Pass
+  pub called : IsCalled (site_of old) (pass_of old) merged (Merged s)
+  pub work : IsWork (site_of old) [] (parked_of old) (parked_of new) merged (pass_of new)
+  pub covered : HasReached (pass_of new) s.heap (λ b. covers b.state.vector s.image.vector ≡ true)
+  pub wait : AllWait new
+
+-- what hearing the frame does where it is heard to its end, and what is sent
+abbrev pub HasHeard : code.Frame → Node → Node → List (ℕ × Frame) → Type 0
+HasHeard (heard.Have h) old new sent = (parked_of new ≡ parked_of old) × IsHaveHeard (site_of old) (have_of h) (pass_of old) (pass_of new) sent
+HasHeard (heard.Ops ops) old new sent = (sent ≡ []) × AreOpsHeard ops.items old new
+HasHeard (heard.State s) old new sent = (sent ≡ []) × IsStateHeard s old new
+
+-- the merge was refused, or what came after it
+abbrev pub IsStateStopped : HeapImage → Node → Node → Type 0
+IsStateStopped s old new =
+    ((parked_of new ≡ parked_of old) × MadeNoStep (pass_of old) (pass_of new)) ⊎
+    ((merged : Pass) × IsCalled (site_of old) (pass_of old) merged (Merged s) ×
+    ((mid : Pass) × IsWork (site_of old) [] (parked_of old) (parked_of new) merged mid × MadeNoStep mid (pass_of new)))
+
+-- what stands where it is not heard to its end: what was parked or taken before stays so
+abbrev pub HasStopped : code.Frame → Node → Node → Type 0
+HasStopped (heard.Have h) old new = (parked_of new ≡ parked_of old) × MadeNoStep (pass_of old) (pass_of new)
+HasStopped (heard.Ops ops) old new = WasStopped ops.items old new
+HasStopped (heard.State s) old new = IsStateStopped s old new
+
+-- ---- what is sent to each peer in turn
+
+-- the vectors of the heaps from this one on were shown
+abbrev pub shown_from : ℕ → List (List ℕ) → List Call
+shown_from h [] = []
+shown_from h (vector ∷ vectors) = Saw h vector ∷ shown_from (h + 1) vectors
+
+abbrev pub haves_from : Site → ℕ → List (List ℕ) → List Frame
+haves_from site h [] = []
+haves_from site h (vector ∷ vectors) = OfHave (have_at site h vector) ∷ haves_from site (h + 1) vectors
+
+-- the site showed the vector of each of its heaps, in rising order, and these frames say what it has there
+pub record AreHaves (site : Site) (before after : Pass) (frames : List Frame) : Type 0 where
+  pub vectors : List (List ℕ)
+  pub each : length vectors ≡ heaps_of site
+  pub called : AreCalled site before after (shown_from 0 vectors)
+  pub frames_are : frames ≡ haves_from site 0 vectors

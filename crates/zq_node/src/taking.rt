@@ -1,0 +1,123 @@
+//! How operations are heard.
+ghost use Rattle.std.specs.Prelude.{◌≡◌, ◌≤◌, ◌<◌, ◌+◌, ◌∷◌, ◌⊎◌, IfOk, IsErrOf, OnOk, OnErr, [], length};
+ghost use Rattle.zq_dots.specs.Placed.{Placed};
+ghost use Rattle.zq_model.specs.Sets.{IsIn};
+ghost use Rattle.zq_node.specs.Calls.{IsCalled, MadeNoStep, Took};
+ghost use Rattle.zq_node.specs.Hearing.{AreOpsHeard};
+ghost use Rattle.zq_node.specs.Node.{IsNode, IsSameHome, parked_of, pass_of, site_of};
+ghost use Rattle.zq_node.specs.Parked.{HasPlaceOf, IsParked};
+ghost use Rattle.zq_node.specs.Work.{HasWorked, IsHeard, WasStopped};
+ghost use Rattle.zq_node.specs.declared.parked.TheConstants as limits;
+ghost use Rattle.zq_spread.specs.Calls.{IsOfSite, heaps_of};
+
+use crate::faults::NodeFault;
+use crate::node::Node;
+use crate::parked::Parked;
+use std::alloc::{AllocError, Global};
+use std::sync::Wait;
+use zq_dots::Op;
+use zq_shard::Taken;
+
+/// Parks a copy of an operation, unless one of its heap and dot is parked. Where as many are parked as there may be, it is
+/// dropped, as if it had been lost.
+fn keep(parked: &mut Parked, alloc: Global, op: &Op) -> Result<(), AllocError>
+    ensures kept { (o : Placed) → IsParked parked.old o → IsParked parked.new o }
+    ensures found { (o : Placed) → IsParked parked.new o → IsParked parked.old o ⊎ (op.now ≡ o) }
+    ensures here { OnOk result (HasPlaceOf parked.new op.now ⊎ (limits.MOST_PARKED ≤ length parked.old)) }
+    ensures more { length parked.new ≤ length parked.old + 1 }
+{
+    if parked.has_place_of(op) {
+        return Ok(());
+    }
+    let copy = op.copy(alloc)?;
+    let _ = parked.park(copy)?;
+    Ok(())
+}
+
+impl Node<'_> {
+    /// Hands the site an operation.
+    fn hand<R: Wait>(&mut self, rt: &R, alloc: Global, op: &Op) -> Result<Taken, NodeFault>
+        requires node { IsNode self.old }
+        ensures node { IsNode self.new }
+        ensures home { IsSameHome self.old self.new }
+        ensures parked { parked_of self.new ≡ parked_of self.old }
+        ensures called { IfOk result (λ taken. IsCalled (site_of self.old) (pass_of self.old) (pass_of self.new) (Took op.now taken)) }
+        ensures within { OnOk result (op.now.operation.heap < heaps_of (site_of self.old)) }
+        ensures stopped { OnErr result (MadeNoStep (pass_of self.old) (pass_of self.new)) }
+        ensures wrong_heap { IsErrOf result NodeFault.WrongHeap → IsOfSite (site_of self.old) op.now → ⊥ }
+        ensures rule { IsErrOf result NodeFault.WrongRule → ⊥ }
+    {
+        let _heap = op.heap();
+        match self.home.site.take(rt, alloc, &mut self.pass, op) {
+            Ok(taken) => Ok(taken),
+            Err(fault) => Err(NodeFault::from(fault)),
+        }
+    }
+
+    /// Hands the site an operation. One that is Early is parked, and after one that is New those that are parked in its heap
+    /// are tried again.
+    fn take<R: Wait>(&mut self, rt: &R, alloc: Global, op: &Op) -> Result<(), NodeFault>
+        requires node { IsNode self.old }
+        ensures node { IsNode self.new }
+        ensures home { IsSameHome self.old self.new }
+        ensures work { OnOk result (HasWorked (op.now ∷ []) self.old self.new) }
+        ensures stopped { OnErr result (WasStopped (op.now ∷ []) self.old self.new) }
+        ensures heard { OnOk result (IsHeard self.new (length (parked_of self.old) + 1) op.now) }
+        ensures more { length (parked_of self.new) ≤ length (parked_of self.old) + 1 }
+        ensures for_site { OnOk result (IsOfSite (site_of self.old) op.now) }
+        ensures wrong_heap { IsErrOf result NodeFault.WrongHeap → IsOfSite (site_of self.old) op.now → ⊥ }
+        ensures rule { IsErrOf result NodeFault.WrongRule → ⊥ }
+    {
+        let taken = self.hand(rt, alloc, op)?;
+        match taken {
+            Taken::New => {
+                self.settle(rt, alloc, op.heap())?;
+                Ok(())
+            }
+            Taken::Known => Ok(()),
+            Taken::Early => {
+                keep(&mut self.parked, alloc, op)?;
+                Ok(())
+            }
+        }
+    }
+
+    /// Hands the site each operation in turn, and then tries all that is parked.
+    pub(crate) fn take_all<R: Wait>(
+        &mut self,
+        rt: &R,
+        alloc: Global,
+        ops: &[Op],
+    ) -> Result<(), NodeFault>
+        requires node { IsNode self.old }
+        ensures node { IsNode self.new }
+        ensures home { IsSameHome self.old self.new }
+        ensures heard { OnOk result (AreOpsHeard ops.now self.old self.new) }
+        ensures stopped { OnErr result (WasStopped ops.now self.old self.new) }
+        ensures for_site { OnOk result ((o : Placed) → IsIn o ops.now → IsOfSite (site_of self.old) o) }
+        ensures wrong_heap { IsErrOf result NodeFault.WrongHeap → ((o : Placed) → IsIn o ops.now → IsOfSite (site_of self.old) o) → ⊥ }
+        ensures rule { IsErrOf result NodeFault.WrongRule → ⊥ }
+    {
+        self.take_each(rt, alloc, ops)?;
+        self.settle_all(rt, alloc)?;
+        Ok(())
+    }
+
+    /// Hands the site each operation in turn.
+    fn take_each<R: Wait>(&mut self, rt: &R, alloc: Global, ops: &[Op]) -> Result<(), NodeFault>
+        requires node { IsNode self.old }
+        ensures node { IsNode self.new }
+        ensures home { IsSameHome self.old self.new }
+        ensures work { OnOk result (HasWorked ops.now self.old self.new) }
+        ensures stopped { OnErr result (WasStopped ops.now self.old self.new) }
+        ensures heard { OnOk result ((o : Placed) → IsIn o ops.now → IsHeard self.new (length (parked_of self.old) + length ops.now) o) }
+        ensures for_site { OnOk result ((o : Placed) → IsIn o ops.now → IsOfSite (site_of self.old) o) }
+        ensures wrong_heap { IsErrOf result NodeFault.WrongHeap → ((o : Placed) → IsIn o ops.now → IsOfSite (site_of self.old) o) → ⊥ }
+        ensures rule { IsErrOf result NodeFault.WrongRule → ⊥ }
+    {
+        for op in ops {
+            self.take(rt, alloc, op)?;
+        }
+        Ok(())
+    }
+}
