@@ -2,5 +2,6 @@ pub mod KnownBytes
 pub mod Runs
 pub mod Served
 pub mod Streams
+pub mod Refused
 pub mod OneHeap
 mod OfSets

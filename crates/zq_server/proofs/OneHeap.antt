@@ -7,7 +7,7 @@ use Rattle.std.specs.Prelude.{Err, Ok, codes, false, slice_get}
 use Rattle.zq_commands.proofs.Begun.{rule_begun}
 use Rattle.zq_commands.specs.Beginning.{HasStamp, IsNextStamp, begun}
 use Rattle.zq_commands.specs.SiteBooks.{empty_book}
-use Rattle.zq_commands.specs.VecBooks.{AreWorkedOn, rule_in}
+use Rattle.zq_commands.specs.VecBooks.{AreRecordedOn, rule_in}
 use Rattle.zq_history.specs.Books.{Book}
 use Rattle.zq_journal.specs.Books.{LAST_STAMP}
 use Rattle.zq_model.specs.Rule.{Greatest}
@@ -15,6 +15,7 @@ use Rattle.zq_model.specs.Sets.{IsIn}
 use Rattle.zq_plans.specs.Replies.{bytes_of}
 use Rattle.zq_plans.specs.Run.{IsRun, Memory, Number, cut_error}
 use Rattle.zq_resp.specs.Reply.{line}
+use Rattle.zq_server.specs.Refusals.{IsRefused}
 use Rattle.zq_server.specs.Plain.{IsOfOneHeap, RunsCommand, RunsReading, SITE, is_ping, no_keys, runs, stamp_in, unread, worn}
 use Rattle.zq_words.specs.Command.{Command, Reading}
 use Rattle.zq_words.specs.Refused.{refused_text}
@@ -47,7 +48,7 @@ begun_heap stamp old mid are begins = record {
   ruled = ap rule_in begins ∙ rule_begun stamp old ∙ are.ruled;
 }
 
-pub ran_heap : (mid new : List Book) → IsOfOneHeap mid → rule_in new ≡ rule_in mid → AreWorkedOn mid new → IsOfOneHeap new
+pub ran_heap : (mid new : List Book) → IsOfOneHeap mid → rule_in new ≡ rule_in mid → AreRecordedOn mid new → IsOfOneHeap new
 ran_heap mid new are same worked = record { number = worked.number ∙ are.number; ruled = same ∙ are.ruled }
 
 -- ---- a command
@@ -73,22 +74,6 @@ module _ (old : List Book) (are : IsOfOneHeap old) (command : Command) (apart : 
 
 -- ---- a refusal
 
-no_memory : 45 ∷ line (codes "OOM after 0") ≡ bytes_of (cut_error 0 Memory)
-unfolding digits
-no_memory = refl
-
-differ : false ≡ true → ⊥
-differ e = cc
-
-pub refusal_runs : (why : Refused) (reading : Reading) (s : List Book) (bytes : Word) → IsRefusal why reading → bytes ≡ 45 ∷ line (refused_text why) → RunsReading s reading s bytes
-refusal_runs Unknown reading s bytes is says = subst (λ r. RunsReading s r s bytes) (sym is) (refl, says)
-refusal_runs Words reading s bytes is says = subst (λ r. RunsReading s r s bytes) (sym is) (refl, says)
-refusal_runs Syntax reading s bytes is says = subst (λ r. RunsReading s r s bytes) (sym is) (refl, says)
-refusal_runs Flags reading s bytes is says = subst (λ r. RunsReading s r s bytes) (sym is) (refl, says)
-refusal_runs OnePair reading s bytes is says = subst (λ r. RunsReading s r s bytes) (sym is) (refl, says)
-refusal_runs Score reading s bytes is says = subst (λ r. RunsReading s r s bytes) (sym is) (refl, says)
-refusal_runs Whole reading s bytes is says = subst (λ r. RunsReading s r s bytes) (sym is) (refl, says)
-refusal_runs Negative reading s bytes is says = subst (λ r. RunsReading s r s bytes) (sym is) (refl, says)
-refusal_runs Bound reading s bytes is says = subst (λ r. RunsReading s r s bytes) (sym is) (refl, says)
-refusal_runs NoMemory (Ok command) s bytes is says = unread is refl (says ∙ no_memory)
-refusal_runs NoMemory (Err why) s bytes is says = absurd (differ is)
+pub refusal_runs : (reading : Reading) (s : List Book) (bytes : Word) → IsRefused reading bytes → RunsReading s reading s bytes
+refusal_runs (Ok command) s bytes is = unread is.0 refl is.1
+refusal_runs (Err refused) s bytes is = (refl, is)

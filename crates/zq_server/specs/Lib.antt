@@ -3,3 +3,6 @@ pub mod Session
 pub mod Plain
 pub mod Meaning
 pub mod Piped
+pub mod Refusals
+pub mod Passing
+pub mod PassFacts

@@ -3,6 +3,9 @@
 
 mod meanings;
 mod outcome;
+mod passing;
+#[cfg(test)]
+mod passing_tests;
 mod plain;
 #[cfg(test)]
 mod plain_tests;
@@ -14,6 +17,7 @@ mod transfer;
 
 pub use meanings::meaning;
 pub use outcome::{End, SessionFault, status};
+pub use passing::Passing;
 pub use plain::Plain;
 pub use serving::Answers;
 pub use stream::session;

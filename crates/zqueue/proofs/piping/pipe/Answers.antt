@@ -4,7 +4,7 @@ use Rattle.zq_server.proofs.Served.{serves-nothing}
 use Rattle.zq_server.specs.Plain.{AnswersByPlan, no_keys}
 use Rattle.zq_server.specs.Session.{Serves}
 use Rattle.zq_server.specs.declared.outcome.SessionFault.TheVariants.{NoMemory}
-use Rattle.zqueue.proofs.pipe.Goals as goal
+use Rattle.zqueue.proofs.piping.pipe.Goals as goal
 
 pub returns-in_default-clause-serves : goal.returns-in_default-clause-serves
 returns-in_default-clause-serves g c = ([], [], consumes-none _, appends-none _, (Err NoMemory, no_keys, serves-nothing AnswersByPlan no_keys, c.status.ensures))

@@ -1,0 +1,70 @@
+//! Serving all sites.
+
+use crate::announcing::announce;
+use crate::fault::ServeFault;
+use crate::opening::{draw_hasher, open_all};
+use crate::worker::Worker;
+use log::Log;
+use std::alloc::Global;
+use std::io::Write;
+use std::net::{Net, TcpListener, TcpStream};
+use std::random::RandomSource;
+use std::sync::{Mutex, Wait};
+use std::thread;
+use std::thread::Threads;
+use zq_settings::Settings;
+
+/// Serves the sites of the settings in this process, each on its port on loopback: `workers` connections of a site at
+/// once, the others as these end. When all ports are listened on it writes `site N port P` for each site to `out`, and
+/// only then accepts. It ends when each port has accepted and served as many connections as `connections` says.
+///
+/// A connection that breaks the protocol, or whose device fails, ends alone, and is warned of in the log as
+/// `site N protocol fault` or `site N device fault`. One for which there is no memory ends alone too, with no warning.
+///
+/// # Errors
+///
+/// `Device` or `NoMemory`, before any connection was accepted.
+pub fn serve<L, W>(
+    log: &L,
+    alloc: Global,
+    settings: &Settings,
+    out: &mut W,
+) -> Result<(), ServeFault>
+where
+    L: Log + Net<Listener = TcpListener, Stream = TcpStream> + RandomSource + Threads + Wait + Sync,
+    W: Write,
+{
+    let hasher = draw_hasher(log)?;
+    let workers = open_all(log, alloc, settings, hasher)?;
+    announce(settings.ports.as_slice(), out)?;
+    run_all(log, alloc, workers, settings.seed.value())
+}
+
+/// Runs each worker in a thread of its own, and waits for all. No worker begins before all threads have started: where
+/// one does not start, none serves.
+fn run_all<L: Log + Threads + Wait + Sync>(
+    log: &L,
+    alloc: Global,
+    workers: Vec<Worker>,
+    seed: u64,
+) -> Result<(), ServeFault> {
+    let gate = Mutex::new(false);
+    let gate = &gate;
+    thread::scope(
+        thread::scope_env(),
+        log,
+        move |scope| -> Result<(), ServeFault> {
+            let mut open = gate.lock(log);
+            for worker in workers {
+                if scope
+                    .spawn(move || worker.run(log, alloc, gate, seed))
+                    .is_err()
+                {
+                    return Err(ServeFault::Device);
+                }
+            }
+            *open = true;
+            Ok(())
+        },
+    )
+}

@@ -1,0 +1,56 @@
+//! A site that is served.
+
+ghost use Rattle.std.specs.Prelude.{List};
+ghost use Rattle.zq_serve.specs.Talks.{AreTalks, IsTalk, Talk};
+
+use crate::connection::{converse, warn_of};
+use crate::turns::Turns;
+use crate::warning::Fault;
+use log::Log;
+use std::alloc::Global;
+use std::net::{TcpListener, TcpStream};
+use std::sync::{Mutex, Wait};
+use zq_dots::SiteNo;
+use zq_server::Answers;
+use zq_spread::Site;
+
+/// A site and the port on which it is served.
+#[derive(Drop)]
+pub struct Station {
+    pub(crate) number: SiteNo,
+    pub(crate) site: Site,
+    pub(crate) listener: TcpListener,
+    pub(crate) turns: Mutex<Turns>,
+}
+
+impl Station {
+    /// Serves the port's connections, one after the other, until none is left. It waits for clients.
+    pub(crate) fn attend<A: Answers, L: Log + Wait>(&self, log: &L, alloc: Global, answerer: &mut A)
+        ensures { (talks : List Talk) × AreTalks A.answers answerer.old answerer.new talks }
+    {
+        for _ in log.forever() {
+            if !self.turns.lock(log).take() {
+                break;
+            }
+            match self.listener.accept() {
+                Ok((stream, _)) => self.serve(log, alloc, answerer, &stream),
+                Err(_) => warn_of(log, self.number, Fault::Device),
+            }
+        }
+    }
+
+    /// Serves one connection, whose replies are sent as soon as they are written.
+    fn serve<A: Answers, L: Log>(
+        &self,
+        log: &L,
+        alloc: Global,
+        answerer: &mut A,
+        stream: &TcpStream,
+    )
+        ensures { (talk : Talk) × IsTalk A.answers answerer.old answerer.new talk }
+    {
+        let _ = stream.set_nodelay(true);
+        let (mut reader, mut writer) = (stream, stream);
+        converse(log, alloc, self.number, answerer, &mut reader, &mut writer);
+    }
+}

@@ -1,0 +1,41 @@
+//! Settings from the bytes of a file.
+
+ghost use Rattle.std.specs.Prelude.{IfErr, IfOk};
+ghost use Rattle.zq_settings.specs.Texts.{HasSettings};
+ghost use Rattle.zqueue.specs.Configured.{IsUnsettled};
+
+use std::alloc::Global;
+use std::{fmt, str};
+use zq_settings::{Settings, SettingsFault, settings};
+
+/// Why bytes give no settings.
+#[derive(Debug, Drop)]
+pub enum Unsettled {
+    /// They are not UTF-8.
+    NotText,
+    /// The text that they are breaks a rule, or there was no memory to read it.
+    Fault(SettingsFault),
+}
+
+impl fmt::Display for Unsettled {
+    fn fmt<W: fmt::Write>(&self, f: &mut fmt::Formatter<W>) -> fmt::Result {
+        match self {
+            Unsettled::NotText => f.write_str("the file is not UTF-8"),
+            Unsettled::Fault(fault) => write!(f, "{fault}"),
+        }
+    }
+}
+
+/// The settings that the bytes write, or the first reason for which they write none.
+pub fn configured(alloc: Global, bytes: &[u8]) -> Result<Settings, Unsettled>
+    ensures given { IfOk result (HasSettings bytes.now) }
+    ensures refused { IfErr result (IsUnsettled bytes.now) }
+{
+    match str::from_utf8(bytes) {
+        Ok(text) => match settings(alloc, text) {
+            Ok(settings) => Ok(settings),
+            Err(fault) => Err(Unsettled::Fault(fault)),
+        },
+        Err(_) => Err(Unsettled::NotText),
+    }
+}

@@ -1,0 +1,60 @@
+//! How the program says that it did not do what it was asked.
+
+ghost use Rattle.std.specs.Io.KnownBytes.{Appends};
+ghost use Rattle.std.specs.Prelude.{◌≡◌, ◌⊎◌};
+ghost use Rattle.zqueue.specs.Refusal.{line_of, status_of};
+
+use std::io::Write;
+
+/// The status where the arguments or the settings are wrong.
+const USAGE: u8 = 3;
+
+/// The status where a device or memory failed.
+pub const DEVICE: u8 = 4;
+
+/// Why the program did not do what it was asked.
+#[derive(Clone, Copy, Debug, PartialEq, Eq)]
+pub enum Refusal {
+    /// The command line names no command.
+    Usage,
+    /// The settings break a rule.
+    Settings,
+    /// A file, a port, a thread or a stream failed.
+    Device,
+    /// There was no memory.
+    Memory,
+}
+
+impl Refusal {
+    /// The line that standard output gets.
+    fn line(self) -> &'static [u8]
+        ensures { result.now ≡ line_of self }
+    {
+        match self {
+            Refusal::Usage => b"zqueue: usage\n",
+            Refusal::Settings => b"zqueue: settings\n",
+            Refusal::Device => b"zqueue: device\n",
+            Refusal::Memory => b"zqueue: memory\n",
+        }
+    }
+
+    /// The program's status.
+    fn status(self) -> u8
+        ensures { result ≡ status_of self }
+    {
+        match self {
+            Refusal::Usage | Refusal::Settings => USAGE,
+            Refusal::Device | Refusal::Memory => DEVICE,
+        }
+    }
+}
+
+/// Writes the line of the refusal, and answers its status; where the line cannot be written, that of a device.
+pub fn refuse<W: Write>(refusal: Refusal, writer: &mut W) -> u8
+    ensures { (Appends (W.contents writer.old) (W.contents writer.new) (line_of refusal) × (result ≡ status_of refusal)) ⊎ (result ≡ DEVICE) }
+{
+    match writer.write_all(refusal.line()) {
+        Ok(()) => refusal.status(),
+        Err(_) => DEVICE,
+    }
+}

@@ -1,0 +1,110 @@
+//! What command lines and settings come to.
+
+use crate::asked::{Command, asked};
+use crate::configured::{Unsettled, configured};
+use crate::piping::pipe;
+use crate::refusal::{Refusal, refuse};
+use std::env::{Env, FillError};
+use std::test::Fail;
+use zq_settings::{SettingsFault, Why};
+
+// A command line of these words.
+#[derive(Drop)]
+struct Line<'a> {
+    words: &'a [&'a [u8]],
+}
+
+impl Env for Line<'_> {
+    fn arg(&self, at: usize, out: &mut [u8]) -> Result<usize, FillError> {
+        let Some(word) = self.words.get(at) else {
+            return Err(FillError::NotPresent);
+        };
+        if word.len() > out.len() {
+            return Err(FillError::TooLong);
+        }
+        out[..word.len()].copy_from_slice(word);
+        Ok(word.len())
+    }
+
+    fn var(&self, _name: &str, _out: &mut [u8]) -> Result<usize, FillError> {
+        Err(FillError::NotPresent)
+    }
+
+    fn var_at(&self, _at: usize, _out: &mut [u8]) -> Result<usize, FillError> {
+        Err(FillError::NotPresent)
+    }
+}
+
+/// The words of a command, joined by spaces.
+fn words_of(command: &Option<Command>) -> (&str, &str) {
+    match command {
+        None => ("none", ""),
+        Some(Command::Pipe) => ("pipe", ""),
+        Some(Command::Serve(path)) => ("serve", path.as_str()),
+    }
+}
+
+#[test]
+fn a_command_has_its_words_and_no_others(rt: HostRuntime) -> Result<(), Fail> {
+    let rows: [(&[&[u8]], (&str, &str)); 9] = [
+        (&[b"zqueue", b"pipe"], ("pipe", "")),
+        (&[b"zqueue"], ("none", "")),
+        (&[b"zqueue", b"PIPE"], ("none", "")),
+        (&[b"zqueue", b"pipe", b"pipe"], ("none", "")),
+        (&[b"zqueue", b"pi\xffpe"], ("none", "")),
+        (&[b"zqueue", b"serve", b"two.toml"], ("serve", "two.toml")),
+        (&[b"zqueue", b"serve"], ("none", "")),
+        (&[b"zqueue", b"serve", b"a", b"b"], ("none", "")),
+        (&[b"zqueue", b"two.toml", b"serve"], ("none", "")),
+    ];
+    for (words, named) in rows {
+        let command = asked(&(Line { words }, rt.alloc()))?;
+        assert!(rt; words_of(&command) == named);
+    }
+    Ok(())
+}
+
+#[test]
+fn each_refusal_has_its_line_and_status(rt: HostRuntime) {
+    let rows: [(Refusal, &[u8], u8); 4] = [
+        (Refusal::Usage, b"zqueue: usage\n", 3),
+        (Refusal::Settings, b"zqueue: settings\n", 3),
+        (Refusal::Device, b"zqueue: device\n", 4),
+        (Refusal::Memory, b"zqueue: memory\n", 4),
+    ];
+    for (refusal, line, status) in rows {
+        let mut written = Vec::new(rt.alloc());
+        assert_eq!(rt; refuse(refusal, &mut written), status);
+        assert_eq!(rt; written.as_slice(), line);
+    }
+}
+
+/// How the bytes of a settings file are read.
+fn reading(settings: Result<zq_settings::Settings, Unsettled>) -> &'static str {
+    match settings {
+        Ok(_) => "settings",
+        Err(Unsettled::NotText) => "no text",
+        Err(Unsettled::Fault(SettingsFault::Refused(Why::NoPorts))) => "no ports",
+        Err(Unsettled::Fault(_)) => "a fault",
+    }
+}
+
+#[test]
+fn bytes_are_settings_or_are_refused(rt: HostRuntime) {
+    let rows: [(&[u8], &str); 3] = [
+        (b"ports = [7001]", "settings"),
+        (b"heaps = 2", "no ports"),
+        (b"ports = [7001] # \xff", "no text"),
+    ];
+    for (bytes, says) in rows {
+        assert_eq!(rt; reading(configured(rt.alloc(), bytes)), says);
+    }
+}
+
+#[test]
+fn input_that_ends_inside_a_request_is_a_status_of_its_own(rt: HostRuntime) {
+    let mut asked = b"*1\r\n$4\r\nPING\r\n*1\r\n".as_slice();
+    let mut written = Vec::new(rt.alloc());
+    assert_eq!(rt; pipe(rt.alloc(), &mut asked, &mut written), 2);
+    assert_eq!(rt; written.as_slice(), b"+PONG\r\n".as_slice());
+}
