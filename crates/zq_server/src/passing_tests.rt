@@ -40,11 +40,7 @@ const ADD: &[u8] = b"*4\r\n$4\r\nZADD\r\n$1\r\nq\r\n$1\r\n3\r\n$1\r\na\r\n";
 const ASK: &[u8] = b"*3\r\n$6\r\nZSCORE\r\n$1\r\nq\r\n$1\r\na\r\n";
 
 /// What two passes of a site answer, each to one of the requests, in their order.
-fn answered_by_two<R: Wait>(
-    rt: &R,
-    alloc: Global,
-    requests: [&[u8]; 2],
-) -> Result<Vec<u8>, Fail> {
+fn answered_by_two<R: Wait>(rt: &R, alloc: Global, requests: [&[u8]; 2]) -> Result<Vec<u8>, Fail> {
     let (site, passes) = opened(alloc, 2)?;
     let mut all = Vec::new(alloc);
     let mut rest = requests.as_slice();
