@@ -23,15 +23,13 @@ pub mod MeantQueues
 pub mod MeantScores
 pub mod Membership
 pub mod NewOperation
+pub mod OfHeaps
 pub mod Outcomes
 pub mod Places
 pub mod Preferred
 pub mod Queued
 pub mod Rising
-pub mod KeptRuns
 pub mod RowLists
-pub mod RunMeanings
-pub mod RunSites
 pub mod Same
 pub mod SetTests
 pub mod Sites

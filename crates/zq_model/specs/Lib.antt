@@ -12,8 +12,6 @@ pub mod Tail
 pub mod Sparse
 pub mod Rows
 pub mod Bounded
-pub mod Runs
 pub mod Codes
 pub mod Examples
 pub mod Cases
-pub mod WorkedRun

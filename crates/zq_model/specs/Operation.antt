@@ -1,7 +1,7 @@
 -- Operations, and what a vector says of a dot.
 
 use Rattle.std.specs.Cmp.Lexicographic.{pointwise}
-use Rattle.std.specs.Prelude.{Bool, List, false, nat_eq, nat_le, nat_lt, neg_ℤ, pos, slice_index, true, ℕ, ℤ, ◌&&◌, ◌==◌, ◌≤ℤ◌}
+use Rattle.std.specs.Prelude.{Bool, List, false, nat_eq, nat_le, nat_lt, neg_ℤ, pos, slice_index, true, ℕ, ℤ, ◌&&◌, ◌+◌, ◌==◌, ◌≤ℤ◌}
 
 -- what an operation does to its member
 pub data Act : Type 0 where
@@ -18,6 +18,18 @@ pub record Operation : Type 0 where
   pub key : List ℕ
   pub member : List ℕ
   pub act : Act
+
+-- the operation of an act by a site whose image of the heap has this vector
+abbrev pub operation_over : ℕ → List ℕ → ℕ → List ℕ → List ℕ → Act → Operation
+operation_over heap vector site key member act = record {
+  heap = heap;
+  site = site;
+  n = slice_index vector site + 1;
+  seen = vector;
+  key = key;
+  member = member;
+  act = act;
+}
 
 -- whether the dot (s, n) is in the vector
 abbrev pub has : List ℕ → ℕ → ℕ → Bool

@@ -1,7 +1,7 @@
 -- Sets of operations. A set is a list: order and repeats say nothing.
 
 use Rattle.std.specs.List.{range_with_len, list_all}
-use Rattle.std.specs.Prelude.{Bool, List, Option, [], find, if◌then◌else◌, length, map, max, nat_le, slice_index, true, ℕ, ◌&&◌, ◌+◌, ◌<◌, ◌==◌, ◌∷◌, ◌≡◌, ◌≤◌, ◌⊎◌}
+use Rattle.std.specs.Prelude.{Bool, List, Option, [], filter, find, if◌then◌else◌, length, map, max, nat_le, slice_index, true, ℕ, ◌&&◌, ◌+◌, ◌<◌, ◌==◌, ◌∷◌, ◌≡◌, ◌≤◌, ◌⊎◌}
 use Rattle.zq_model.specs.Heaps.{heap_of}
 use Rattle.zq_model.specs.Operation.{IsAct, Operation, has}
 
@@ -83,6 +83,9 @@ pub record IsNew (S : List Operation) (o : Operation) : Type 0 where
 pub record AreSame (S T : List Operation) : Type 0 where
   pub forth : (o : Operation) → IsIn o S → IsIn o T
   pub back : (o : Operation) → IsIn o T → IsIn o S
+
+abbrev pub in_heap : ℕ → List Operation → List Operation
+in_heap heap S = filter (λ o. o.heap == heap) S
 
 -- whether u is covered by v
 abbrev pub covers : List ℕ → List ℕ → Bool

@@ -1,14 +1,12 @@
 //! What merging does, by example. Two sites act on members of a key that lie in two heaps.
 //! Each row is told twice: of the sites 0 and 1, and of the sites 7 and 63.
 
-ghost use Rattle.std.specs.Prelude.{[], neg_ℤ, pos, ◌++◌, ◌∷◌, ◌≡◌};
-ghost use Rattle.zq_model.specs.Examples.{AreMade, HEAPS, far, near, put_a, put_apart, put_by, put_y};
+ghost use Rattle.std.specs.Prelude.{[], neg_ℤ, pos, ◌∷◌, ◌≡◌};
+ghost use Rattle.zq_model.specs.Examples.{AreMade, far, near, put_a, put_y};
 ghost use Rattle.zq_model.specs.Image.{image_of, join};
 ghost use Rattle.zq_model.specs.Rule.{Greatest, Least};
-ghost use Rattle.zq_model.specs.Runs.{sites_after};
 ghost use Rattle.zq_model.specs.Sets.{Early, Known, New, taken_of, vector_of};
 ghost use Rattle.zq_model.specs.Cases.{AreInTurn, Holds, bumps, drop_and_bump, drop_and_put, greatest_bumps, puts_apart, second_drops, second_puts, two_drops};
-ghost use Rattle.zq_model.specs.WorkedRun.{both_put, bump, then_bumped, then_delivered};
 
 /// Each operation of the examples is what its site makes over what it has.
 pub fn operations_are_made()
@@ -77,17 +75,4 @@ pub fn sums_pass_the_greatest_score()
 pub fn both_drop()
     ensures greatest { Holds Greatest two_drops }
     ensures least { Holds Least two_drops }
-{}
-
-/// Two sites put x apart. The first merges what the second had before it put x, which is nothing, and then what it has. It
-/// adds -6 to both Puts. The second is handed this too early, then the first's Put twice, and then this again, and both
-/// have taken the same.
-pub fn sites_run()
-    ensures apart { (sites_after HEAPS (both_put near)).taken 1 ≡ put_by near 1 (pos 9) }
-    ensures merged { (sites_after HEAPS (both_put near)).taken 0 ≡ put_apart near (pos 5) (pos 9) }
-    ensures early { (sites_after HEAPS (then_bumped near)).taken 1 ≡ put_by near 0 (pos 5) ++ put_by near 1 (pos 9) }
-    ensures first { (sites_after HEAPS (then_delivered near)).taken 0 ≡ bump near ∷ put_apart near (pos 5) (pos 9) }
-    ensures second { (sites_after HEAPS (then_delivered near)).taken 1 ≡ bump near ∷ put_apart near (pos 5) (pos 9) }
-    ensures far_first { (sites_after HEAPS (then_delivered far)).taken 7 ≡ bump far ∷ put_apart far (pos 5) (pos 9) }
-    ensures far_second { (sites_after HEAPS (then_delivered far)).taken 63 ≡ bump far ∷ put_apart far (pos 5) (pos 9) }
 {}

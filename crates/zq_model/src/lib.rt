@@ -1,5 +1,5 @@
 //! The model of the replicated queue: sets of operations, what a set means, the images that replicas keep with their rows
-//! and their bounds, the join of images, and runs of several sites.
+//! and their bounds, and the join of images.
 //!
 //! The definitions are in `specs/`. Each law of them is the contract of a public function with an empty body.
 #![tactic(auto)]
@@ -12,7 +12,6 @@ pub mod joins;
 pub mod merges;
 pub mod queues;
 pub mod rows;
-pub mod runs;
 pub mod scores;
 pub mod steps;
 pub mod tails;

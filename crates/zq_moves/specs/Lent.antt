@@ -5,10 +5,9 @@ use Rattle.zq_history.specs.Books.{Book, Made, recorded}
 use Rattle.zq_model.specs.Bounded.{IsBounded}
 use Rattle.zq_model.specs.Heaps.{heap_of}
 use Rattle.zq_model.specs.Image.{image_of}
-use Rattle.zq_model.specs.Operation.{IsAct, LONGEST, Operation}
+use Rattle.zq_model.specs.Operation.{IsAct, LONGEST, Operation, operation_over}
 use Rattle.zq_model.specs.Queue.{queue_of}
 use Rattle.zq_model.specs.Rule.{Rule}
-use Rattle.zq_model.specs.Runs.{operation_over}
 use Rattle.zq_model.specs.Sets.{IsIn, LAST}
 use Rattle.zq_moves.specs.Moves.{Move, Queues}
 

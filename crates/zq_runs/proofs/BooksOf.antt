@@ -7,17 +7,16 @@ use Rattle.std.specs.Prelude.{slice_get, slice_set}
 use Rattle.zq_history.specs.Books.{Book, Took, merged, recorded}
 use Rattle.zq_model.proofs.JoinImages.{join-union}
 use Rattle.zq_model.proofs.Membership.{in_left, in_right, in_union}
-use Rattle.zq_model.proofs.RunSites.{image_elsewhere, in_heap_closed, in_heap_image, of_heap}
+use Rattle.zq_model.proofs.OfHeaps.{image_elsewhere, in_heap_closed, in_heap_image, of_heap}
 use Rattle.zq_model.proofs.StepImages.{image_of-step}
 use Rattle.zq_model.proofs.Taken.{taking_new}
 use Rattle.zq_model.proofs.Worlds.{vector_is, world_part}
 use Rattle.zq_model.specs.Image.{Image, image_after, image_of, join}
 use Rattle.zq_model.specs.Operation.{Operation}
 use Rattle.zq_model.specs.Rule.{Rule}
-use Rattle.zq_model.specs.Runs.{in_heap, with_at}
-use Rattle.zq_model.specs.Sets.{IsClosed, IsIn, IsNew, IsWorld, New, taken_of, vector_of}
+use Rattle.zq_model.specs.Sets.{IsClosed, IsIn, IsNew, IsWorld, New, in_heap, taken_of, vector_of}
 use Rattle.zq_runs.specs.Books.{AreBooksOf, IsBookOf}
-use Rattle.zq_runs.specs.State.{Numbers, State, counted, with_number}
+use Rattle.zq_runs.specs.State.{Numbers, State, counted, with_at, with_number}
 
 -- ---- values at places
 

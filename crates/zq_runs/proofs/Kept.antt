@@ -5,14 +5,21 @@ use Rattle.zq_model.proofs.Dots.{last_above}
 use Rattle.zq_model.proofs.Made.{made_new, made_operation, making_closed}
 use Rattle.zq_model.proofs.Membership.{in_left, in_right, in_union}
 use Rattle.zq_model.proofs.NewOperation.{closed_after, new_has_seen}
-use Rattle.zq_model.proofs.RunSites.{at_each, in_heap_closed, of_heap}
+use Rattle.zq_model.proofs.OfHeaps.{in_heap_closed, of_heap}
 use Rattle.zq_model.proofs.Taken.{taking_new}
 use Rattle.zq_model.proofs.Worlds.{closed_union, vector_is, world_part}
 use Rattle.zq_model.specs.Bounded.{HasShortNames}
 use Rattle.zq_model.specs.Operation.{Operation}
-use Rattle.zq_model.specs.Runs.{in_heap, with_at}
-use Rattle.zq_model.specs.Sets.{IsClosed, IsIn, IsMade, IsNew, IsOperation, IsWorld, New, last, taken_of, vector_of}
-use Rattle.zq_runs.specs.State.{Sets, State, after_making, counted}
+use Rattle.zq_model.specs.Sets.{IsClosed, IsIn, IsMade, IsNew, IsOperation, IsWorld, New, in_heap, last, taken_of, vector_of}
+use Rattle.zq_runs.specs.State.{Sets, State, after_making, counted, with_at}
+
+-- what holds of each value holds where one is new
+pub at_each : {X : Type 0} (P : ℕ → X → Type 0) (f : ℕ → X) (i : ℕ) (x : X) → ((j : ℕ) → P j (f j)) → P i x → (j : ℕ) → P j (with_at f i x j)
+at_each P f i x old new j =
+    elim (j == i) as (λ b. (j == i) ≡ b → P j (cond b x (f j))) [
+      | true ↦ λ e. subst (λ t. P t x) (sym (eqb-true j i e)) new
+      | false ↦ λ e. old j
+    ] refl
 
 -- each site has a closed set of what was made
 pub record AreOf (W : List Operation) (sets : Sets) : Type 0 where

@@ -12,8 +12,7 @@ use Rattle.zq_model.proofs.Worlds.{world_part}
 use Rattle.zq_model.specs.Bounded.{HasShortNames}
 use Rattle.zq_model.specs.Operation.{LONGEST, Operation}
 use Rattle.zq_model.specs.Rule.{Rule}
-use Rattle.zq_model.specs.Runs.{in_heap}
-use Rattle.zq_model.specs.Sets.{Early, IsClosed, IsHeaps, IsIn, IsMade, IsWorld, Known, LAST, New, SITES, Taken, vector_of}
+use Rattle.zq_model.specs.Sets.{Early, IsClosed, IsHeaps, IsIn, IsMade, IsWorld, Known, LAST, New, SITES, Taken, in_heap, vector_of}
 use Rattle.zq_moves.specs.Moves.{Move, Queues}
 use Rattle.zq_plans.specs.Plan.{is_there, plan_of}
 use Rattle.zq_resp.specs.Request.{IsRequest}

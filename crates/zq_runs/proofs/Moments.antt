@@ -5,17 +5,15 @@ use Rattle.std.proofs.lemmas.List.{length_push}
 use Rattle.std.specs.Prelude.{if◌then◌else◌, slice_get, take}
 use Rattle.zq_model.proofs.Dots.{counter_positive, has_from, last_above}
 use Rattle.zq_model.proofs.Membership.{in_left}
-use Rattle.zq_model.proofs.RunSites.{at_each}
 use Rattle.zq_model.proofs.Taken.{known_here}
 use Rattle.zq_model.proofs.Worlds.{vector_is, world_part}
 use Rattle.zq_model.specs.Operation.{Operation, has}
 use Rattle.zq_model.specs.Rule.{Rule}
-use Rattle.zq_model.specs.Runs.{in_heap}
-use Rattle.zq_model.specs.Sets.{AreSame, Early, IsIn, IsWorld, Known, New, Taken, last, vector_of}
+use Rattle.zq_model.specs.Sets.{AreSame, Early, IsIn, IsWorld, Known, New, Taken, in_heap, last, vector_of}
 use Rattle.zq_moves.proofs.Lists.{in_filter, in_filter_from}
 use Rattle.zq_moves.specs.Moves.{Move}
 use Rattle.zq_plans.specs.Plan.{plan_of}
-use Rattle.zq_runs.proofs.Kept.{IsKept, world_of}
+use Rattle.zq_runs.proofs.Kept.{IsKept, at_each, world_of}
 use Rattle.zq_runs.proofs.KeptRuns.{either_done}
 use Rattle.zq_runs.specs.Doing.{done, is_ping, queues_for}
 use Rattle.zq_runs.specs.Events.{Do, Event, Merge, Run, Take, after_taken, after_take, is_blocked, judged, set_at, set_in, state_after}

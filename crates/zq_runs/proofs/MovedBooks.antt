@@ -13,9 +13,8 @@ use Rattle.zq_model.proofs.Membership.{any_some, in_left}
 use Rattle.zq_model.proofs.Sites.{length-by_site}
 use Rattle.zq_model.specs.Heaps.{heap_of}
 use Rattle.zq_model.specs.Image.{Image, image_after, image_of}
-use Rattle.zq_model.specs.Operation.{Operation}
+use Rattle.zq_model.specs.Operation.{Operation, operation_over}
 use Rattle.zq_model.specs.Rule.{Rule}
-use Rattle.zq_model.specs.Runs.{operation_over}
 use Rattle.zq_model.specs.Sets.{IsClosed, IsHeaps, IsIn, IsMade, IsWorld, LAST, SITES, last, vector_of}
 use Rattle.zq_moves.specs.Lent.{books_after, is_home, made, made_in}
 use Rattle.zq_moves.specs.Moves.{Move}

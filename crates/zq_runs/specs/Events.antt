@@ -3,8 +3,7 @@
 use Rattle.std.specs.Prelude.{Bool, List, None, Option, Some, [], if◌then◌else◌, length, nat_lt, slice_get, ℕ, ◌&&◌, ◌++◌, ◌∷◌, ◌||◌}
 use Rattle.zq_model.specs.Operation.{Operation}
 use Rattle.zq_model.specs.Rule.{Rule}
-use Rattle.zq_model.specs.Runs.{in_heap}
-use Rattle.zq_model.specs.Sets.{Early, Known, New, Taken, taken_of, vector_of}
+use Rattle.zq_model.specs.Sets.{Early, Known, New, Taken, in_heap, taken_of, vector_of}
 use Rattle.zq_runs.specs.Doing.{done}
 use Rattle.zq_runs.specs.State.{Sets, State, counted, is_full, is_worn, next_stamp}
 use Rattle.zq_words.specs.Command.{command_of}

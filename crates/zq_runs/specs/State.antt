@@ -1,9 +1,8 @@
 -- What the sites of a world have: the set of operations that each has taken, and of each of its heaps the stamp and the count.
 
-use Rattle.std.specs.Prelude.{Bool, List, [], if◌then◌else◌, max, nat_le, slice_index, suc, zero, ℕ, ◌+◌, ◌++◌, ◌∷◌, ◌||◌}
+use Rattle.std.specs.Prelude.{Bool, List, [], if◌then◌else◌, max, nat_le, slice_index, suc, zero, ℕ, ◌+◌, ◌++◌, ◌==◌, ◌∷◌, ◌||◌}
 use Rattle.zq_model.specs.Heaps.{heap_of}
-use Rattle.zq_model.specs.Operation.{Operation}
-use Rattle.zq_model.specs.Runs.{operation_over, with_at}
+use Rattle.zq_model.specs.Operation.{Operation, operation_over}
 use Rattle.zq_model.specs.Sets.{LAST, vector_of}
 use Rattle.zq_moves.specs.Moves.{Move}
 use Rattle.zq_plans.specs.Run.{LAST_COUNT}
@@ -22,6 +21,10 @@ pub record State : Type 0 where
   pub sets : Sets
   pub stamps : Numbers
   pub counts : Numbers
+
+-- f, with x at i
+abbrev pub with_at : {X : Type 0} → (ℕ → X) → ℕ → X → ℕ → X
+with_at f i x j = if j == i then x else f j
 
 abbrev pub with_number : Numbers → ℕ → ℕ → ℕ → Numbers
 with_number f site heap n = with_at f site (with_at (f site) heap n)

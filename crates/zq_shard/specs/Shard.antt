@@ -8,10 +8,9 @@ use Rattle.zq_model.specs.Codes.{image_code}
 use Rattle.zq_model.specs.Heaps.{heap_of}
 use Rattle.zq_model.specs.Image.{Entry, Image, Place, image_of, put_entry}
 use Rattle.zq_model.specs.Meaning.{IsQueue, Scored}
-use Rattle.zq_model.specs.Operation.{Act, Operation}
+use Rattle.zq_model.specs.Operation.{Act, Operation, operation_over}
 use Rattle.zq_model.specs.Queue.{queue_of}
 use Rattle.zq_model.specs.Rule.{Rule}
-use Rattle.zq_model.specs.Runs.{operation_over}
 use Rattle.zq_model.specs.Sets.{IsClosed, IsHeaps, IsWorld}
 use Rattle.zq_queue.specs.Codes.{rule_code}
 

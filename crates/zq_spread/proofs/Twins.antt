@@ -8,9 +8,9 @@ use Rattle.zq_history.specs.Books.{Book, Made, Record}
 use Rattle.zq_history.specs.Reach.{IsWorked}
 use Rattle.zq_model.specs.Heaps.{heap_of}
 use Rattle.zq_model.specs.Image.{image_after}
+use Rattle.zq_model.specs.Operation.{operation_over}
 use Rattle.zq_model.specs.Queue.{queue_of}
 use Rattle.zq_model.specs.Rule.{Rule}
-use Rattle.zq_model.specs.Runs.{operation_over}
 use Rattle.zq_model.specs.Sets.{LAST}
 use Rattle.zq_moves.specs.Lent.{books_after, is_home, made, made_in, operation_in, queues_of}
 use Rattle.zq_moves.specs.Moves.{Move, Queues}

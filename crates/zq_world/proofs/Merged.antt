@@ -7,8 +7,7 @@ use Rattle.zq_history.specs.Books.{Book, merged}
 use Rattle.zq_model.specs.Image.{Image, image_of}
 use Rattle.zq_model.specs.Operation.{Operation}
 use Rattle.zq_model.specs.Rule.{Rule}
-use Rattle.zq_model.specs.Runs.{in_heap}
-use Rattle.zq_model.specs.Sets.{IsClosed, IsWorld}
+use Rattle.zq_model.specs.Sets.{IsClosed, IsWorld, in_heap}
 use Rattle.zq_plans.specs.Run.{LAST_COUNT}
 use Rattle.zq_runs.proofs.BooksOf.{books_merged}
 use Rattle.zq_runs.specs.Books.{AreBooksOf, greatest_stamp}

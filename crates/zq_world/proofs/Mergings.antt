@@ -8,8 +8,7 @@ use Rattle.zq_model.proofs.Membership.{in_union}
 use Rattle.zq_model.proofs.Worlds.{world_part}
 use Rattle.zq_model.specs.Operation.{Operation}
 use Rattle.zq_model.specs.Rule.{Rule}
-use Rattle.zq_model.specs.Runs.{in_heap}
-use Rattle.zq_model.specs.Sets.{IsClosed, IsWorld}
+use Rattle.zq_model.specs.Sets.{IsClosed, IsWorld, in_heap}
 use Rattle.zq_runs.proofs.BooksOf.{books_of_others}
 use Rattle.zq_runs.proofs.Kept.{AreOf, IsKept}
 use Rattle.zq_runs.proofs.KeptRuns.{had, kept_always}

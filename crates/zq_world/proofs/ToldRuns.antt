@@ -9,9 +9,8 @@ use Rattle.zq_commands.specs.Running.{told_after}
 use Rattle.zq_dots.specs.Placed.{Placed}
 use Rattle.zq_history.specs.Books.{Book}
 use Rattle.zq_model.specs.Heaps.{heap_of}
-use Rattle.zq_model.specs.Operation.{Operation}
+use Rattle.zq_model.specs.Operation.{Operation, operation_over}
 use Rattle.zq_model.specs.Rule.{Rule}
-use Rattle.zq_model.specs.Runs.{operation_over}
 use Rattle.zq_model.specs.Sets.{IsClosed, IsHeaps, IsWorld, SITES}
 use Rattle.zq_moves.specs.Lent.{is_home, made, operation_in}
 use Rattle.zq_moves.specs.Moves.{Move}

@@ -7,8 +7,7 @@ use Rattle.zq_journal.specs.Books.{state_of}
 use Rattle.zq_merge.specs.State.{state_at}
 use Rattle.zq_model.specs.Operation.{Operation}
 use Rattle.zq_model.specs.Rule.{Rule}
-use Rattle.zq_model.specs.Runs.{in_heap}
-use Rattle.zq_model.specs.Sets.{IsClosed, IsWorld}
+use Rattle.zq_model.specs.Sets.{IsClosed, IsWorld, in_heap}
 use Rattle.zq_runs.specs.Books.{AreBooksOf}
 use Rattle.zq_runs.specs.Events.{Do, Event, Merge, Take, after_taken, answer_taken, is_blocked, judged}
 use Rattle.zq_runs.specs.State.{State, counted, next_stamp}
