@@ -1,9 +1,10 @@
 -- The newest record of a book, and the vector of its state.
 
-use Rattle.std.proofs.Common.{List, Some, [], ap, arith, false, get_or, length, refl, slice_set, suc, sym, take, true, zero, ℕ, ◌+◌, ◌++◌, ◌-◌, ◌<◌, ◌∙◌, ◌∷◌, ◌≡◌, ◌≤◌}
+use Rattle.std.proofs.Common.{List, Some, [], ap, arith, false, get_or, length, refl, slice_set, subst, suc, sym, take, true, zero, ℕ, ◌+◌, ◌++◌, ◌-◌, ◌<◌, ◌∙◌, ◌∷◌, ◌≡◌, ◌≤◌}
 use Rattle.std.proofs.lemmas.List.{set-get_or, take_all, take_more}
 use Rattle.std.proofs.lemmas.Option.{get_or_from_slice_get, slice_get_read, slice_get_within}
-use Rattle.std.specs.Prelude.{slice_get}
+use Rattle.std.specs.Borrow.{Bor}
+use Rattle.std.specs.Prelude.{IfSome, IsSome, Option, is_some, slice_get, ◌↔◌}
 use Rattle.zq_history.specs.Books.{IsBook, operations_of, replayed}
 use Rattle.zq_journal.proofs.Replays.{length_written, new_next, operation_at}
 use Rattle.zq_journal.proofs.Wholes.{at_over, length_over, more_over, taken_over, vector_after, vector_more}
@@ -16,6 +17,7 @@ use Rattle.zq_model.proofs.Taken.{covers_at, taken_new}
 use Rattle.zq_model.specs.Image.{Image}
 use Rattle.zq_model.specs.Operation.{Operation, has}
 use Rattle.zq_model.specs.Sets.{New, covers, taken_of}
+use Rattle.zq_posheap.proofs.Lists.{read_at}
 use Rattle.zq_shard.specs.Shard.{HeapImage}
 
 -- the vector of the state is that of the base after the records
@@ -35,6 +37,15 @@ longer_is s t base tail after r stamp count is heap heaps longer =
     ∙ ap (records_in s base) longer
     ∙ more_over s.heap s.heaps base tail r
     ∙ ap (λ v. records_in s base tail ++ full_of s.heap s.heaps v r ∷ []) (sym (state_vector s base tail stamp count is))
+
+-- what lends the back of a queue lends its last element
+pub last_lent : {X : Type 0} (items : List X) (len : ℕ) (lent : Option (Bor X)) (last : Bor X) → len ≡ length items → lent ≡ Some last → (IsSome lent ↔ (0 < len)) →
+    IfSome lent (λ x. x.now ≡ get_or items (len - 1) x.now) → slice_get items (length items - 1) ≡ Some last.now
+last_lent items len lent last long is filled read =
+    let some : 0 < len = filled.0 (ap is_some is) in
+    let end : len - 1 ≡ length items - 1 = ap (λ n. n - 1) long in
+    let here : last.now ≡ get_or items (len - 1) last.now = subst (λ o. IfSome o (λ x. x.now ≡ get_or items (len - 1) x.now)) is read in
+    read_at items (length items - 1) last.now (omega (arith, some, long)) (here ∙ ap (λ n. get_or items n last.now) end)
 
 set_twice : (l : List ℕ) (i a b : ℕ) → slice_set (slice_set l i a) i b ≡ slice_set l i b
 set_twice [] i a b = refl

@@ -9,6 +9,7 @@ ghost use Rattle.zq_shard.specs.Shard.{with_vector};
 use crate::book::Book;
 use crate::records::Record;
 use std::alloc::{AllocError, Global};
+use std::collections::VecDeque;
 use zq_dots::Vector;
 use zq_entry::Entry;
 use zq_shard::Shard;
@@ -33,14 +34,19 @@ impl Book {
 
 /// Gives each record's member back what it had before it, the newest record first, and the heap the
 /// vector that it had before them.
-fn undo(alloc: Global, shard: &mut Shard, base: &Vector, tail: &[Record]) -> Result<(), AllocError>
-    requires each { All (IsRecord shard.old.heap shard.old.heaps) (records_in shard.old base.now tail.now) }
-    requires bounded { (i : ℕ) → IsBounded shard.old.heaps shard.old.heap (undone_at (drop i (records_in shard.old base.now tail.now)) shard.old.image) }
-    requires base { IsBounded shard.old.heaps shard.old.heap (with_vector base.now (undone_at (records_in shard.old base.now tail.now) shard.old.image)) }
+fn undo(
+    alloc: Global,
+    shard: &mut Shard,
+    base: &Vector,
+    tail: &VecDeque<Record>,
+) -> Result<(), AllocError>
+    requires each { All (IsRecord shard.old.heap shard.old.heaps) (records_in shard.old base.now tail.now.items) }
+    requires bounded { (i : ℕ) → IsBounded shard.old.heaps shard.old.heap (undone_at (drop i (records_in shard.old base.now tail.now.items)) shard.old.image) }
+    requires base { IsBounded shard.old.heaps shard.old.heap (with_vector base.now (undone_at (records_in shard.old base.now tail.now.items) shard.old.image)) }
     ensures heap { shard.new.heap ≡ shard.old.heap }
     ensures heaps { shard.new.heaps ≡ shard.old.heaps }
     ensures rule { shard.new.rule ≡ shard.old.rule }
-    ensures image { OnOk result (shard.new.image ≡ with_vector base.now (undone_at (records_in shard.old base.now tail.now) shard.old.image)) }
+    ensures image { OnOk result (shard.new.image ≡ with_vector base.now (undone_at (records_in shard.old base.now tail.now.items) shard.old.image)) }
 {
     for newer in 0..tail.len() {
         let record = &tail[tail.len() - 1 - newer];
@@ -52,16 +58,16 @@ fn undo(alloc: Global, shard: &mut Shard, base: &Vector, tail: &[Record]) -> Res
 }
 
 /// Takes the records' operations, the oldest first.
-fn replay(alloc: Global, shard: &mut Shard, tail: &[Record]) -> Result<(), AllocError>
-    requires each { All (IsRecord shard.old.heap shard.old.heaps) (records_in shard.old shard.old.image.vector tail.now) }
-    requires over { are_steps_over shard.old.heap shard.old.image (steps_of (written_in (records_in shard.old shard.old.image.vector tail.now))) ≡ true }
+fn replay(alloc: Global, shard: &mut Shard, tail: &VecDeque<Record>) -> Result<(), AllocError>
+    requires each { All (IsRecord shard.old.heap shard.old.heaps) (records_in shard.old shard.old.image.vector tail.now.items) }
+    requires over { are_steps_over shard.old.heap shard.old.image (steps_of (written_in (records_in shard.old shard.old.image.vector tail.now.items))) ≡ true }
     ensures heap { shard.new.heap ≡ shard.old.heap }
     ensures heaps { shard.new.heaps ≡ shard.old.heaps }
     ensures rule { shard.new.rule ≡ shard.old.rule }
-    ensures image { OnOk result (shard.new.image ≡ replayed (written_in (records_in shard.old shard.old.image.vector tail.now)) shard.old.image) }
+    ensures image { OnOk result (shard.new.image ≡ replayed (written_in (records_in shard.old shard.old.image.vector tail.now.items)) shard.old.image) }
 {
-    for record in tail {
-        drop(record.what.put_in(alloc, shard)?);
+    for place in 0..tail.len() {
+        drop(tail[place].what.put_in(alloc, shard)?);
     }
     Ok(())
 }

@@ -10,6 +10,7 @@ ghost use Rattle.zq_model.specs.Tail.{tail_set};
 
 use crate::records::Record;
 use std::alloc::{AllocError, Global};
+use std::collections::VecDeque;
 use std::marker::Model;
 use zq_dots::{Op, Vector};
 use zq_history::{keeping, reaching, telling};
@@ -24,11 +25,12 @@ pub(crate) const LAST: u64 = 4_611_686_018_427_387_904;
 ///
 /// The base is not kept: each record has what its member had before it, so that undoing the records
 /// from the newest to the oldest gives the base's members. Its vector is kept.
+/// The records lie in a ring, so that a cut of the oldest moves none that stay.
 #[derive(Drop)]
 pub struct Book {
     pub(crate) shard: Shard,
     pub(crate) vector: Vector,
-    pub(crate) tail: Vec<Record>,
+    pub(crate) tail: VecDeque<Record>,
     pub(crate) stamp: u64,
     pub(crate) count: u64,
 }
@@ -66,7 +68,7 @@ impl Book {
         Book {
             shard,
             vector,
-            tail: Vec::new(alloc),
+            tail: VecDeque::new(alloc),
             stamp,
             count,
         }
@@ -115,7 +117,7 @@ impl Book {
         ensures placed { IfOk result (λ newest. IfSome newest (λ op. op ≡ placed_at self.now.heaps op.operation)) }
         ensures asked { IsErr result → 0 < length self.now.tail }
     {
-        let Some(record) = self.tail.last() else {
+        let Some(record) = self.tail.back() else {
             return Ok(None);
         };
         // What it had seen is the state's vector with its site's counter one lower.

@@ -1,5 +1,5 @@
 //! How a book's base moves on: by a merge to the state, by a cut over the oldest records.
-ghost use Rattle.std.specs.Prelude.{◌≡◌, ◌≢◌, ◌≤◌, ◌↔◌, ◌++◌, ◌∷◌, [], IsErrOf, IsOk, List, OnErr, OnOk, length, ℕ};
+ghost use Rattle.std.specs.Prelude.{◌≡◌, ◌≢◌, ◌≤◌, ◌↔◌, ◌++◌, ◌∷◌, [], IsErrOf, IsOk, List, OnErr, OnOk, length, take, ℕ};
 ghost use Rattle.zq_history.specs.Books.{Book as Books, Merged, Step, advanced, merged};
 ghost use Rattle.zq_history.specs.Reach.{IsReachedBy, IsWorked, cut_of};
 ghost use Rattle.zq_journal.specs.Books.{LAST_STAMP, state_of};
@@ -10,6 +10,7 @@ use crate::book::{Book, LAST};
 use crate::faults::{Advanced, MergeFault};
 use crate::records::Record;
 use std::alloc::Global;
+use std::collections::VecDeque;
 use zq_dots::Vector;
 use zq_history::{keeping, reaching, undoing, working};
 use zq_shard::Shard;
@@ -71,18 +72,19 @@ impl Book {
         undoing();
         // and a book that was cut as far as a cut takes is reached.
         reaching();
-        move_over(&mut self.vector, &self.tail[..records]);
+        move_over(&mut self.vector, &self.tail, records);
         self.tail.drain(..records);
         Ok(())
     }
 }
 
-/// Moves a vector over the records.
-fn move_over(vector: &mut Vector, records: &[Record])
-    ensures { (h K : ℕ) → vector.new ≡ vector_over h K vector.old records.now }
+/// Moves a vector over the first so many of the records.
+fn move_over(vector: &mut Vector, tail: &VecDeque<Record>, records: usize)
+    requires { records ≤ length tail.now.items }
+    ensures { (h K : ℕ) → vector.new ≡ vector_over h K vector.old (take records tail.now.items) }
 {
-    for record in records {
-        let dot = record.what.dot();
+    for place in 0..records {
+        let dot = tail[place].what.dot();
         vector.set(dot.site, dot.n);
     }
 }

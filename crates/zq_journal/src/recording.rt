@@ -136,7 +136,7 @@ impl Book {
         working();
         self.tail.reserve(1)?;
         let before = what.put_in(alloc, &mut self.shard)?;
-        self.tail.push_reserved(Record {
+        self.tail.push_back_reserved(Record {
             stamp: at,
             what,
             before,

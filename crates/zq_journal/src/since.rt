@@ -14,6 +14,7 @@ ghost use Rattle.zq_shard.specs.Shard.{IsOfHeap};
 use crate::book::Book;
 use crate::records::Record;
 use std::alloc::{AllocError, Global};
+use std::collections::VecDeque;
 use zq_dots::{Op, Vector};
 use zq_history::telling;
 
@@ -55,15 +56,16 @@ fn missing(
     heap: u8,
     heaps: u8,
     base: &Vector,
-    tail: &[Record],
+    tail: &VecDeque<Record>,
     vector: &Vector,
 ) -> Result<Vec<Op>, AllocError>
-    requires { All (IsRecord heap heaps) (records_over heap heaps base.now tail.now) }
-    ensures { IfOk result (λ ops. ops.items ≡ missing_of vector.now (records_over heap heaps base.now tail.now)) }
+    requires { All (IsRecord heap heaps) (records_over heap heaps base.now tail.now.items) }
+    ensures { IfOk result (λ ops. ops.items ≡ missing_of vector.now (records_over heap heaps base.now tail.now.items)) }
 {
     let mut ops = Vec::new(alloc);
     let mut seen = *base;
-    for record in tail {
+    for place in 0..tail.len() {
+        let record = &tail[place];
         let dot = record.what.dot();
         if !vector.has(dot) {
             ops.push(record.what.op(alloc, heap, heaps, &seen)?)?;

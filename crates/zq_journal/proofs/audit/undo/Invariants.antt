@@ -7,5 +7,5 @@ invariant-loop-newer l = record {
   heap : l.shard.heap ≡ l.initial.shard.heap;
   heaps : l.shard.heaps ≡ l.initial.shard.heaps;
   rule : l.shard.rule ≡ l.initial.shard.rule;
-  image : l.shard.image ≡ undone_at (drop (length l.tail - l.newer) (records_in l.initial.shard l.base l.tail)) l.initial.shard.image;
+  image : l.shard.image ≡ undone_at (drop (length l.tail.items - l.newer) (records_in l.initial.shard l.base l.tail.items)) l.initial.shard.image;
 }

@@ -9,17 +9,17 @@ use Rattle.zq_journal.proofs.since.missing.Goals.{then-not-has+in_ok-op+in_ok-pu
 
 pub op-requires : goal.op-requires
 op-requires c =
-    own_at c.args.heap c.args.heaps c.args.vector.now c.args.base.now c.loop-record.seen c.args.tail.now c.loop-record.record-index c.record-item.result (omega arith) c.record-item.is
-    c.loop-record.invariant.rest c.requires
+    own_at c.args.heap c.args.heaps c.args.vector.now c.args.base.now c.loop-place.seen c.args.tail.now.items c.loop-place.place c.index-record.result.now (omega arith) c.index-record.ensures
+    c.loop-place.invariant.rest c.requires
 
-pub loop-record-preserved : goal.loop-record-preserved
-loop-record-preserved c =
+pub loop-place-preserved : goal.loop-place-preserved
+loop-place-preserved c =
     let h : ℕ = c.args.heap in
     let K : ℕ = c.args.heaps in
-    let i : ℕ = c.loop-record.record-index in
-    let first : List Placed = missing_of c.args.vector.now (take i (records_over h K c.args.base.now c.args.tail.now)) in
+    let i : ℕ = c.loop-place.place in
+    let first : List Placed = missing_of c.args.vector.now (take i (records_over h K c.args.base.now c.args.tail.now.items)) in
     let more =
-    missing_at h K c.args.vector.now c.args.base.now c.loop-record.seen c.args.tail.now i c.record-item.result (omega arith) c.record-item.is c.loop-record.invariant.rest c.dot-dot.result.site
+    missing_at h K c.args.vector.now c.args.base.now c.loop-place.seen c.args.tail.now.items i c.index-record.result.now (omega arith) c.index-record.ensures c.loop-place.invariant.rest c.dot-dot.result.site
     c.dot-dot.result.n in
     record {
       ops =
@@ -27,22 +27,22 @@ loop-record-preserved c =
             | then-not-has+in_ok-op+in_ok-push w ↦
                 ap (λ l. l.items) w.ops-is
                 ∙ w.in_ok-push.ensures.items
-                ∙ ap (λ xs. xs ++ w.in_ok-op.field-0 ∷ []) c.loop-record.invariant.ops
+                ∙ ap (λ xs. xs ++ w.in_ok-op.field-0 ∷ []) c.loop-place.invariant.ops
                 ∙ ap (λ (p : Placed). first ++ p ∷ []) w.in_ok-op.ensures
-                ∙ sym (more false (c.dot-dot.ensures.site h K c.loop-record.seen) (c.dot-dot.ensures.n h K c.loop-record.seen) (sym c.has.ensures ∙ w.if-not-has.true))
+                ∙ sym (more false (c.dot-dot.ensures.site h K c.loop-place.seen) (c.dot-dot.ensures.n h K c.loop-place.seen) (sym c.has.ensures ∙ w.if-not-has.true))
             | else-not-has w ↦
                 ap (λ l. l.items) w.ops-is
-                ∙ c.loop-record.invariant.ops
+                ∙ c.loop-place.invariant.ops
                 ∙ sym (append-nil first)
-                ∙ sym (more true (c.dot-dot.ensures.site h K c.loop-record.seen) (c.dot-dot.ensures.n h K c.loop-record.seen) (sym c.has.ensures ∙ w.if-not-has.false))
+                ∙ sym (more true (c.dot-dot.ensures.site h K c.loop-place.seen) (c.dot-dot.ensures.n h K c.loop-place.seen) (sym c.has.ensures ∙ w.if-not-has.false))
           ];
       rest =
-          rest_at h K c.args.vector.now c.args.base.now c.loop-record.seen c.args.tail.now i c.record-item.result (omega arith) c.record-item.is c.loop-record.invariant.rest
-          c.dot-dot.result.site c.dot-dot.result.n c.set.new.self (c.dot-dot.ensures.site h K c.loop-record.seen) (c.dot-dot.ensures.n h K c.loop-record.seen) c.set.ensures;
+          rest_at h K c.args.vector.now c.args.base.now c.loop-place.seen c.args.tail.now.items i c.index-record.result.now (omega arith) c.index-record.ensures c.loop-place.invariant.rest
+          c.dot-dot.result.site c.dot-dot.result.n c.set.new.self (c.dot-dot.ensures.site h K c.loop-place.seen) (c.dot-dot.ensures.n h K c.loop-place.seen) c.set.ensures;
     }
 
 pub returns : goal.returns
 returns c =
-    let all : List Record = records_over c.args.heap c.args.heaps c.args.base.now c.args.tail.now in
-    let long : length all ≤ c.loop-record.record-index = omega (arith, c.loop-record-test.false, length_over c.args.heap c.args.heaps c.args.base.now c.args.tail.now) in
-    c.loop-record.invariant.ops ∙ ap (missing_of c.args.vector.now) (take_all c.loop-record.record-index all long)
+    let all : List Record = records_over c.args.heap c.args.heaps c.args.base.now c.args.tail.now.items in
+    let long : length all ≤ c.loop-place.place = omega (arith, c.loop-place-test.false, length_over c.args.heap c.args.heaps c.args.base.now c.args.tail.now.items) in
+    c.loop-place.invariant.ops ∙ ap (missing_of c.args.vector.now) (take_all c.loop-place.place all long)

@@ -1,5 +1,4 @@
 use Rattle.std.proofs.Common.{List, [], ap, arith, drop, length, refl, subst, sym, take, ℕ, ◌∙◌, ◌≡◌}
-use Rattle.std.proofs.lemmas.List.{length-take-le}
 use Rattle.zq_history.specs.Books.{Book, advanced, replayed}
 use Rattle.zq_history.specs.Reach.{IsReachedBy}
 use Rattle.zq_journal.proofs.CutOff.{IsMoved, cut_is, cut_stands}
@@ -12,12 +11,11 @@ use Rattle.zq_model.specs.Image.{Image}
 use Rattle.zq_shard.specs.Shard.{HeapImage}
 use Rattle.zq_journal.proofs.book.Book.advance.Goals as goal
 
-pub slice_bounds-move_over-end : goal.slice_bounds-move_over-end
-slice_bounds-move_over-end c =
+pub move_over-requires : goal.move_over-requires
+move_over-requires c =
     let long : length c.self.inside.tail.items ≡ length c.args.self.now.tail =
     sym (length_tail c.self.inside.shard c.self.inside.vector c.self.inside.tail.items) ∙ ap (λ (b : Book). length b.tail) c.self.view_is in
-    let all : length c.deref.result.now ≡ length c.self.inside.tail.items = ap (λ xs. length xs) c.deref.ensures.value in
-    sym (length-take-le c.args.records c.deref.result.now (omega (arith, long, all, c.requires)))
+    omega (arith, long, c.requires)
 
 pub drain-requires-clause-in_bounds : goal.drain-requires-clause-in_bounds
 drain-requires-clause-in_bounds c =
@@ -27,9 +25,7 @@ drain-requires-clause-in_bounds c =
 
 -- the vector that the base moves to
 over_is : (c : goal.After-drop-drain) → c.move_over.new.vector ≡ vector_over c.self.inside.shard.heap c.self.inside.shard.heaps c.self.inside.vector (take c.args.records c.self.inside.tail.items)
-over_is c =
-    let s : HeapImage = c.self.inside.shard in
-    c.move_over.ensures s.heap s.heaps ∙ ap (λ rs. vector_over s.heap s.heaps c.self.inside.vector (take c.args.records rs)) c.deref.ensures.value
+over_is c = c.move_over.ensures c.self.inside.shard.heap c.self.inside.shard.heaps
 
 moved_is : (c : goal.After-drop-drain) → IsMoved c.args.records c.self.inside.shard c.self.inside.vector c.move_over.new.vector (records_of c.self.inside)
 moved_is c =

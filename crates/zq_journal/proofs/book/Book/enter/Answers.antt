@@ -52,11 +52,11 @@ invariant_of-self-2 c =
       had = c.in_ok-before.ensures.before;
       bounded = bounded_state s c.self.inside.vector (records_of c.self.inside) c.self.inside.stamp c.self.inside.count c.self.invariant;
     } in
-    let after : List Record = records_in c.put_in.new.shard c.self.inside.vector c.push_reserved.new.self.items in
+    let after : List Record = records_in c.put_in.new.shard c.self.inside.vector c.push_back_reserved.new.self.items in
     let pushed : code.Record = record { stamp = c.args.at; what = c.args.what; before = c.in_ok-before.before } in
     let longer : after ≡ records_of c.self.inside ++ r ∷ [] =
-    longer_is s c.put_in.new.shard c.self.inside.vector c.self.inside.tail.items c.push_reserved.new.self.items pushed c.self.inside.stamp c.self.inside.count c.self.invariant.book
-    c.in_ok-before.ensures.heap c.in_ok-before.ensures.heaps (c.push_reserved.ensures.items ∙ ap (λ xs. xs ++ pushed ∷ []) c.in_ok-reserve.ensures.items) in
+    longer_is s c.put_in.new.shard c.self.inside.vector c.self.inside.tail.items c.push_back_reserved.new.self.items pushed c.self.inside.stamp c.self.inside.count c.self.invariant.book
+    c.in_ok-before.ensures.heap c.in_ok-before.ensures.heaps (c.push_back_reserved.ensures.items ∙ ap (λ xs. xs ++ pushed ∷ []) c.in_ok-reserve.ensures.items) in
     let stamp_is : b.stamp ≡ c.args.self.now.stamp = ap (λ q. q.stamp) c.self.view_is in
     let count_is : b.count ≡ c.args.self.now.count = ap (λ q. q.count) c.self.view_is in
     let rises : b.stamp ≤ c.args.at = omega (arith, stamp_is, c.requires.stamp) in
@@ -79,11 +79,11 @@ returns-clause-recorded c =
       had = c.in_ok-before.ensures.before;
       bounded = bounded_state s c.self.inside.vector (records_of c.self.inside) c.self.inside.stamp c.self.inside.count c.self.invariant;
     } in
-    let after : List Record = records_in c.put_in.new.shard c.self.inside.vector c.push_reserved.new.self.items in
+    let after : List Record = records_in c.put_in.new.shard c.self.inside.vector c.push_back_reserved.new.self.items in
     let pushed : code.Record = record { stamp = c.args.at; what = c.args.what; before = c.in_ok-before.before } in
     let longer : after ≡ records_of c.self.inside ++ r ∷ [] =
-    longer_is s c.put_in.new.shard c.self.inside.vector c.self.inside.tail.items c.push_reserved.new.self.items pushed c.self.inside.stamp c.self.inside.count c.self.invariant.book
-    c.in_ok-before.ensures.heap c.in_ok-before.ensures.heaps (c.push_reserved.ensures.items ∙ ap (λ xs. xs ++ pushed ∷ []) c.in_ok-reserve.ensures.items) in
+    longer_is s c.put_in.new.shard c.self.inside.vector c.self.inside.tail.items c.push_back_reserved.new.self.items pushed c.self.inside.stamp c.self.inside.count c.self.invariant.book
+    c.in_ok-before.ensures.heap c.in_ok-before.ensures.heaps (c.push_back_reserved.ensures.items ∙ ap (λ xs. xs ++ pushed ∷ []) c.in_ok-reserve.ensures.items) in
     entered_is s c.put_in.new.shard c.self.inside.vector (records_of c.self.inside) after r c.self.inside.stamp c.self.inside.count (next_from s c.put_in.new.shard r (placed_in change) put) longer
     ∙ ap (λ (q : Book). recorded q c.args.at (change_of (whole q.heap q.heaps q.state.vector c.args.what))) c.self.view_is
 

@@ -1,9 +1,8 @@
 use Rattle.std.proofs.Common.{List, Some, ap, arith, length, subst, sym, ℕ, ◌-◌, ◌<◌, ◌∙◌, ◌≡◌}
-use Rattle.std.specs.Option.{option_copied}
 use Rattle.std.specs.Prelude.{slice_get}
 use Rattle.zq_dots.specs.Placed.{Placed}
 use Rattle.zq_history.specs.Books.{Book, operations_of}
-use Rattle.zq_journal.proofs.Lasts.{length_tail, newest_asked, newest_at, newest_full, newest_recordable, newest_within, vector_before}
+use Rattle.zq_journal.proofs.Lasts.{last_lent, length_tail, newest_asked, newest_at, newest_full, newest_recordable, newest_within, vector_before}
 use Rattle.zq_journal.specs.Records.{Change, IsRecordable, Record, placed_at, placed_in, whole}
 use Rattle.zq_journal.specs.declared.records.Record as code
 use Rattle.zq_shard.specs.Shard.{HeapImage}
@@ -15,7 +14,7 @@ op-requires c =
     let base : List ℕ = c.self.inside.vector in
     let tail : List code.Record = c.self.inside.tail.items in
     let r : code.Record = c.in-Some.record.now in
-    let at : slice_get tail (length tail - 1) ≡ Some r = sym (ap (λ xs. slice_get xs (length xs - 1)) c.deref.ensures.value) ∙ sym c.last.ensures.value ∙ ap option_copied c.in-Some.is in
+    let at : slice_get tail (length tail - 1) ≡ Some r = last_lent tail c.self.inside.tail.len c.back.result c.in-Some.record c.self.inside.tail.ok.0 c.in-Some.is c.back.ensures.variant c.back.ensures.lookup in
     let before : List ℕ = vector_before s base tail c.self.inside.stamp c.self.inside.count c.self.invariant r at in
     let full : Record = newest_full s base tail c.self.inside.stamp c.self.inside.count c.self.invariant r at in
     let asked : whole c.heap.result c.heaps.result c.set.new.self r.what ≡ full.what =
@@ -28,8 +27,7 @@ op-requires c =
 pub returns-in_err-op-clause-asked : goal.returns-in_err-op-clause-asked
 returns-in_err-op-clause-asked c = λ err.
     let tail : List code.Record = c.self.inside.tail.items in
-    let at : slice_get tail (length tail - 1) ≡ Some c.in-Some.record.now =
-    sym (ap (λ xs. slice_get xs (length xs - 1)) c.deref.ensures.value) ∙ sym c.last.ensures.value ∙ ap option_copied c.in-Some.is in
+    let at : slice_get tail (length tail - 1) ≡ Some c.in-Some.record.now = last_lent tail c.self.inside.tail.len c.back.result c.in-Some.record c.self.inside.tail.ok.0 c.in-Some.is c.back.ensures.variant c.back.ensures.lookup in
     let within : length tail - 1 < length tail =
     newest_within c.self.inside.shard c.self.inside.vector tail c.self.inside.stamp c.self.inside.count c.self.invariant c.in-Some.record.now at in
     let long : length c.args.self.now.tail ≡ length tail = sym (ap (λ (b : Book). length b.tail) c.self.view_is) ∙ length_tail c.self.inside.shard c.self.inside.vector tail in
@@ -41,7 +39,7 @@ returns-clause-newest c =
     let base : List ℕ = c.self.inside.vector in
     let tail : List code.Record = c.self.inside.tail.items in
     let r : code.Record = c.in-Some.record.now in
-    let at : slice_get tail (length tail - 1) ≡ Some r = sym (ap (λ xs. slice_get xs (length xs - 1)) c.deref.ensures.value) ∙ sym c.last.ensures.value ∙ ap option_copied c.in-Some.is in
+    let at : slice_get tail (length tail - 1) ≡ Some r = last_lent tail c.self.inside.tail.len c.back.result c.in-Some.record c.self.inside.tail.ok.0 c.in-Some.is c.back.ensures.variant c.back.ensures.lookup in
     let before : List ℕ = vector_before s base tail c.self.inside.stamp c.self.inside.count c.self.invariant r at in
     let full : Record = newest_full s base tail c.self.inside.stamp c.self.inside.count c.self.invariant r at in
     let asked : whole c.heap.result c.heaps.result c.set.new.self r.what ≡ full.what =
@@ -56,7 +54,7 @@ returns-clause-placed c =
     let base : List ℕ = c.self.inside.vector in
     let tail : List code.Record = c.self.inside.tail.items in
     let r : code.Record = c.in-Some.record.now in
-    let at : slice_get tail (length tail - 1) ≡ Some r = sym (ap (λ xs. slice_get xs (length xs - 1)) c.deref.ensures.value) ∙ sym c.last.ensures.value ∙ ap option_copied c.in-Some.is in
+    let at : slice_get tail (length tail - 1) ≡ Some r = last_lent tail c.self.inside.tail.len c.back.result c.in-Some.record c.self.inside.tail.ok.0 c.in-Some.is c.back.ensures.variant c.back.ensures.lookup in
     let before : List ℕ = vector_before s base tail c.self.inside.stamp c.self.inside.count c.self.invariant r at in
     let full : Record = newest_full s base tail c.self.inside.stamp c.self.inside.count c.self.invariant r at in
     let asked : whole c.heap.result c.heaps.result c.set.new.self r.what ≡ full.what =

@@ -7,7 +7,7 @@ use Rattle.zq_history.specs.Books.{Book, IsBook, operations_of}
 use Rattle.zq_journal.proofs.Missing.{missing_is, operations-placed}
 use Rattle.zq_journal.specs.BookView.{book_of, records_of}
 use Rattle.zq_journal.specs.Books.{base_of}
-use Rattle.zq_journal.specs.Records.{IsRecord, missing_of, placed_at, placed_in, records_in, records_over}
+use Rattle.zq_journal.specs.Records.{IsRecord, missing_of, placed_at, placed_in, records_over}
 use Rattle.zq_model.specs.Operation.{has}
 use Rattle.zq_model.specs.Sets.{covers, vector_of}
 use Rattle.zq_model.specs.Tail.{lacking}
@@ -15,11 +15,10 @@ use Rattle.zq_shard.specs.Shard.{IsOfHeap}
 use Rattle.zq_journal.proofs.book.Book.since.Goals as goal
 
 -- what was asked of are the book's records
-same_records : (c : goal.In_ok-ops) → missing_of c.args.vector.now (records_over c.heap-heap.result c.heaps-heaps.result c.self.inside.vector c.deref.result.now) ≡ missing_of c.args.vector.now (records_of c.self.inside)
+same_records : (c : goal.In_ok-ops) → missing_of c.args.vector.now (records_over c.heap-heap.result c.heaps-heaps.result c.self.inside.vector c.self.inside.tail.items) ≡ missing_of c.args.vector.now (records_of c.self.inside)
 same_records c =
-    ap (λ h. missing_of c.args.vector.now (records_over h c.heaps-heaps.result c.self.inside.vector c.deref.result.now)) c.heap-heap.ensures.same
-    ∙ ap (λ K. missing_of c.args.vector.now (records_over c.self.inside.shard.heap K c.self.inside.vector c.deref.result.now)) c.heaps-heaps.ensures.same
-    ∙ ap (λ rs. missing_of c.args.vector.now (records_in c.self.inside.shard c.self.inside.vector rs)) c.deref.ensures.value
+    ap (λ h. missing_of c.args.vector.now (records_over h c.heaps-heaps.result c.self.inside.vector c.self.inside.tail.items)) c.heap-heap.ensures.same
+    ∙ ap (λ K. missing_of c.args.vector.now (records_over c.self.inside.shard.heap K c.self.inside.vector c.self.inside.tail.items)) c.heaps-heaps.ensures.same
 
 pub returns-clause-ops : goal.returns-clause-ops
 returns-clause-ops c =
