@@ -5,8 +5,10 @@
     words   long streams in which words of requests are changed: numbers, flags and names that are none, words left out
     bytes   short streams of which bytes are changed, left out, put in or cut off
 
-Usage: bench/fuzz.py [--seed N] [--requests N] [--sessions N]. It prints how much was tried. Where a stream is answered
-otherwise than by the model it is kept in fuzz-SEED-PART.bin, and the status is 1.
+Usage: bench/fuzz.py [--seed N] [--requests N] [--sessions N]
+       bench/fuzz.py --serve [--seed N] [--sessions N] [--program PATH]
+It prints how much was tried. Where a stream is answered otherwise than by the model it is kept in fuzz-SEED-PART.bin, and
+the status is 1. With --serve the short streams go to `zqueue serve`, beside clients of all manners (crowd.py).
 """
 import argparse
 import multiprocessing
@@ -16,7 +18,9 @@ import subprocess
 import sys
 import time
 
+import crowd
 import plain_model
+import served
 import streams
 
 ROOT = pathlib.Path(__file__).resolve().parent.parent
@@ -59,9 +63,9 @@ def drawn_pairs(draw):
     return [word for _ in range(1 + draw.randrange(3)) for word in (drawn_score(draw), drawn_member(draw))]
 
 
-def drawn_words(draw):
+def drawn_words(draw, keys=KEYS):
     """The words of a request, most of them of one that is served."""
-    key = draw.choice(KEYS)
+    key = draw.choice(keys)
     name = draw.choice([b"ZADD"] * 8 + [b"ZINCRBY", b"ZREM", b"ZSCORE", b"ZCARD", b"ZCOUNT", b"ZRANK", b"ZREVRANK", b"ZRANGE", b"ZRANGE",
                                         b"ZPOPMIN", b"ZPOPNEAR", b"DEL", b"PING"])
     rest = {
@@ -76,7 +80,7 @@ def drawn_words(draw):
         b"ZRANGE": lambda: [key, *drawn_range(draw)],
         b"ZPOPMIN": lambda: [key] + [drawn_score(draw)] * draw.randrange(2),
         b"ZPOPNEAR": lambda: [key],
-        b"DEL": lambda: [draw.choice(KEYS) for _ in range(1 + draw.randrange(2))] if draw.randrange(8) == 0 else [b"none"],
+        b"DEL": lambda: [draw.choice(keys) for _ in range(1 + draw.randrange(2))] if draw.randrange(8) == 0 else [b"none"],
         b"PING": lambda: [drawn_member(draw)] * draw.randrange(3),
     }[name]()
     return [draw.choice([name, name.lower()]), *rest]
@@ -140,12 +144,45 @@ def tried(part):
     return len(data), path.name
 
 
+def own_words(draw, prefix):
+    """The words of a request of which every key begins so, with ZPOPMIN for ZPOPNEAR, whose draws a model does not know."""
+    words = drawn_words(draw, [prefix + key for key in KEYS])
+    for each in (mutated_words(draw, words), words):
+        name = each[0].upper() if each else b"ZPOPNEAR"
+        keys = each[1:] if name == b"DEL" else each[1:2]
+        if name != b"ZPOPNEAR" and (name == b"PING" or all(key.startswith(prefix) for key in keys)):
+            return each
+    return [b"ZPOPMIN", prefix]
+
+
+def own_stream(draw, prefix):
+    """A short stream with keys of its own, of which bytes are mutated."""
+    requests = (streams.request(*own_words(draw, prefix)) for _ in range(1 + draw.randrange(20)))
+    return mutated_bytes(draw, b"".join(requests))
+
+
+def served_to_a_crowd(asked):
+    """The status of a run of crowd.py, whose lines it prints."""
+    program = asked.program.resolve() if asked.program else served.built()
+    told, kept = crowd.run(program, asked.seed, asked.sessions, own_words, own_stream)
+    for name, data in kept:
+        path = ROOT / f"fuzz-{asked.seed}-{name}.bin"
+        path.write_bytes(data)
+        print(f"fuzz: otherwise than the model: {path.name}", file=sys.stderr)
+    print(f"{told}: {len(kept)} answered otherwise")
+    return 1 if kept else 0
+
+
 def main():
     words = argparse.ArgumentParser(description=__doc__, formatter_class=argparse.RawDescriptionHelpFormatter)
     words.add_argument("--seed", type=int, default=1)
     words.add_argument("--requests", type=int, default=1000000, help="in long streams (1,000,000)")
     words.add_argument("--sessions", type=int, default=2000, help="short streams (2,000)")
+    words.add_argument("--serve", action="store_true")
+    words.add_argument("--program", type=pathlib.Path, help="that serves, in place of the one that is built here")
     asked = words.parse_args()
+    if asked.serve:
+        return served_to_a_crowd(asked)
     started = time.monotonic()
     longs = [min(STREAM, asked.requests - first) for first in range(0, asked.requests, STREAM)]
     parts = [(asked.seed, number, requests) for number, requests in enumerate(longs + [0] * asked.sessions)]
