@@ -5,3 +5,4 @@ pub mod Works
 pub mod Nodes
 pub mod Told
 pub mod Haves
+pub mod Opened

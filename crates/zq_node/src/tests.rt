@@ -1,8 +1,21 @@
-use crate::{MOST_PARKED, Parked};
+mod behind;
+mod making;
+mod meeting;
+mod nodes;
+mod refusing;
+mod twice;
+mod waiting;
+
+use crate::{MOST_PARKED, Node, Parked};
+use behind::check_behind;
+use meeting::check_meeting;
+use nodes::opened;
 use std::alloc::Global;
 use std::process::Abort;
+use std::sync::Wait;
 use std::test::Fail;
-use zq_dots::{Act, Dot, Op, SiteNo, Vector};
+use twice::check_twice;
+use zq_dots::{Act, Dot, Op, Rule, SiteNo, Vector};
 
 /// The operation of this dot in heap 0 of 1, which has seen those of its site before it and this many of site 9.
 #[tactic(auto, unfolding(zq_model::specs::Sets::LAST))]
@@ -111,4 +124,44 @@ fn one_too_many_is_not_parked(rt: HostRuntime) -> Result<(), Fail> {
     assert!(rt; !parked.park(op)?);
     assert_eq!(rt; parked.len(), MOST_PARKED);
     Ok(())
+}
+
+/// What two nodes are looked at for.
+#[derive(Clone, Copy)]
+enum Pair {
+    Meeting,
+    Behind,
+    Twice,
+}
+
+/// Looks at the nodes of sites 0 and 1, which have done nothing.
+fn check_pair<R: Wait + Abort>(rt: &R, alloc: Global, pair: Pair) -> Result<(), Fail> {
+    let numbers = [
+        SiteNo::new(0).ok_or("a site")?,
+        SiteNo::new(1).ok_or("a site")?,
+    ];
+    let (first, pass) = opened(alloc, numbers[0])?;
+    let mut zero = Node::new(alloc, &first, numbers[0], 2, Rule::High, pass);
+    let (second, pass) = opened(alloc, numbers[1])?;
+    let mut one = Node::new(alloc, &second, numbers[1], 2, Rule::High, pass);
+    match pair {
+        Pair::Meeting => check_meeting(rt, alloc, &mut zero, &mut one),
+        Pair::Behind => check_behind(rt, alloc, &mut zero, &mut one),
+        Pair::Twice => check_twice(rt, alloc, &mut zero, &mut one),
+    }
+}
+
+#[test]
+fn two_nodes_tell_what_the_other_lacks_and_no_more(rt: HostRuntime) -> Result<(), Fail> {
+    check_pair(&rt, rt.alloc(), Pair::Meeting)
+}
+
+#[test]
+fn a_peer_too_far_behind_is_told_the_whole_heap(rt: HostRuntime) -> Result<(), Fail> {
+    check_pair(&rt, rt.alloc(), Pair::Behind)
+}
+
+#[test]
+fn frames_heard_twice_do_what_they_do_once(rt: HostRuntime) -> Result<(), Fail> {
+    check_pair(&rt, rt.alloc(), Pair::Twice)
 }
