@@ -6,3 +6,4 @@ pub mod Nodes
 pub mod Told
 pub mod Haves
 pub mod Opened
+pub mod Workers

@@ -5,3 +5,5 @@ pub mod Node
 pub mod Work
 pub mod Faults
 pub mod Hearing
+pub mod Workers
+pub mod Duties
