@@ -2,7 +2,7 @@
 
 use crate::announcing::announce;
 use crate::fault::ServeFault;
-use crate::opening::{draw_hasher, open_all};
+use crate::opening::{Crew, draw_hasher, open_all, open_mailboxes};
 use crate::worker::Worker;
 use log::Log;
 use std::alloc::Global;
@@ -12,11 +12,17 @@ use std::random::RandomSource;
 use std::sync::{Mutex, Wait};
 use std::thread;
 use std::thread::Threads;
+use zq_peers::Mailbox;
+use zq_posheap::Seeded;
 use zq_settings::Settings;
 
 /// Serves the sites of the settings in this process, each on its port on loopback: `workers` connections of a site at
 /// once, the others as these end. When all ports are listened on it writes `site N port P` for each site to `out`, and
 /// only then accepts. It ends when each port has accepted and served as many connections as `connections` says.
+///
+/// Where there are several sites they are linked: after each call of a connection its site's link thread tells the other
+/// sites what it has, and those that lack something are sent it. Calls that were made while it did so are told of
+/// together. When all connections are done the link threads are told to stop, and are waited for.
 ///
 /// A connection that breaks the protocol, or whose device fails, ends alone, and is warned of in the log as
 /// `site N protocol fault` or `site N device fault`. One for which there is no memory ends alone too, with no warning.
@@ -35,17 +41,54 @@ where
     W: Write,
 {
     let hasher = draw_hasher(log)?;
-    let workers = open_all(log, alloc, settings, hasher)?;
+    let crew = open_all(log, alloc, settings, hasher)?;
+    let mailboxes = open_mailboxes(alloc, settings)?;
     announce(settings.ports.as_slice(), out)?;
-    run_all(log, alloc, workers, settings.seed.value())
+    run_all(log, alloc, crew, &mailboxes, hasher, settings.seed.value())
+}
+
+/// Runs each linker and each worker in a thread of its own. When all workers are done it sends Stop to each mailbox, and
+/// waits for the linkers.
+fn run_all<L: Log + Threads + Wait + Sync>(
+    log: &L,
+    alloc: Global,
+    crew: Crew,
+    mailboxes: &[Mailbox],
+    hasher: Seeded,
+    seed: u64,
+) -> Result<(), ServeFault> {
+    let Crew { workers, linkers } = crew;
+    thread::scope(
+        thread::scope_env(),
+        log,
+        move |scope| -> Result<(), ServeFault> {
+            let mut ended = Ok(());
+            for linker in linkers {
+                if scope
+                    .spawn(move || linker.run(log, alloc, mailboxes, hasher))
+                    .is_err()
+                {
+                    ended = Err(ServeFault::Device);
+                }
+            }
+            if ended.is_ok() {
+                ended = run_workers(log, alloc, workers, mailboxes, seed);
+            }
+            for mailbox in mailboxes {
+                mailbox.stop(log);
+            }
+            ended
+        },
+    )
 }
 
 /// Runs each worker in a thread of its own, and waits for all. No worker begins before all threads have started: where
 /// one does not start, none serves.
-fn run_all<L: Log + Threads + Wait + Sync>(
+fn run_workers<L: Log + Threads + Wait + Sync>(
     log: &L,
     alloc: Global,
     workers: Vec<Worker>,
+    mailboxes: &[Mailbox],
     seed: u64,
 ) -> Result<(), ServeFault> {
     let gate = Mutex::new(false);
@@ -57,7 +100,7 @@ fn run_all<L: Log + Threads + Wait + Sync>(
             let mut open = gate.lock(log);
             for worker in workers {
                 if scope
-                    .spawn(move || worker.run(log, alloc, gate, seed))
+                    .spawn(move || worker.run(log, alloc, gate, mailboxes, seed))
                     .is_err()
                 {
                     return Err(ServeFault::Device);

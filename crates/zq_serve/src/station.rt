@@ -1,6 +1,7 @@
 //! A site that is served.
 
-ghost use Rattle.std.specs.Prelude.{List};
+ghost use Rattle.std.specs.Prelude.{List, ◌≡◌};
+ghost use Rattle.zq_spread.specs.Calls.{heaps_of};
 ghost use Rattle.zq_serve.specs.Talks.{AreTalks, IsTalk, Talk};
 
 use crate::connection::{converse, warn_of};
@@ -10,17 +11,22 @@ use log::Log;
 use std::alloc::Global;
 use std::net::{TcpListener, TcpStream};
 use std::sync::{Mutex, Wait};
-use zq_dots::SiteNo;
+use zq_dots::{Rule, SiteNo};
 use zq_server::Answers;
 use zq_spread::Site;
 
-/// A site and the port on which it is served.
+/// A site, with its number, the number of its heaps and its rule, and the port on which it is served.
 #[derive(Drop)]
 pub struct Station {
     pub(crate) number: SiteNo,
+    pub(crate) heaps: u8,
+    pub(crate) rule: Rule,
     pub(crate) site: Site,
     pub(crate) listener: TcpListener,
     pub(crate) turns: Mutex<Turns>,
+    ghost number_is: { number ≡ site.number },
+    ghost heaps_are: { heaps ≡ heaps_of site },
+    ghost rule_is: { rule ≡ site.rule },
 }
 
 impl Station {

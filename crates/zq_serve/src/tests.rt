@@ -60,6 +60,34 @@ const ADD: &[u8] = b"*4\r\n$4\r\nZADD\r\n$1\r\nq\r\n$1\r\n3\r\n$1\r\na\r\n";
 
 const PING: &[u8] = b"*1\r\n$4\r\nPING\r\n";
 
+const CARD: &[u8] = b"*2\r\n$5\r\nZCARD\r\n$1\r\nq\r\n";
+
+const RANGE: &[u8] = b"*4\r\n$6\r\nZRANGE\r\n$1\r\nq\r\n$1\r\n0\r\n$2\r\n-1\r\n";
+
+/// The reply to these bytes, which is so long.
+fn replied<const N: usize>(stream: &mut TcpStream, bytes: &[u8]) -> Result<[u8; N], Fail> {
+    stream.write_all(bytes)?;
+    let mut reply = [0u8; N];
+    stream.read_exact(&mut reply)?;
+    Ok(reply)
+}
+
+/// The members of the key at the port's site, once it has one.
+fn awaited<R: Net<Listener = TcpListener, Stream = TcpStream> + Clock>(
+    rt: &R,
+    port: u16,
+) -> Result<[u8; 11], Fail> {
+    let mut stream = connect(rt, port)?;
+    for _try in 0..4000 {
+        let count: [u8; 4] = replied(&mut stream, CARD)?;
+        if count.as_slice() == b":1\r\n".as_slice() {
+            return replied(&mut stream, RANGE);
+        }
+        let _ = thread::sleep(rt, Duration::from_millis(5));
+    }
+    Err("the sites do not meet".into())
+}
+
 /// What clients are answered, each at the port of its site, while the sites are served, and what is written and logged.
 #[derive(Drop)]
 struct Served {
@@ -120,6 +148,43 @@ fn clients_are_served_by_the_site_of_their_port(rt: HostRuntime) -> Result<(), F
     let lines = format!(in alloc; "site 0 port {}\nsite 1 port {}\n", ports[0], ports[1])?;
     assert!(rt; served.written.as_slice() == lines.as_bytes(), "{lines}");
     assert!(rt; served.logged.is_empty());
+    Ok(())
+}
+
+/// What a client of the second site finds there of what a client of the first one adds, and how serving ends.
+fn served_apart<R>(
+    rt: &R,
+    alloc: Global,
+    ports: [u16; 2],
+) -> Result<(Result<(), ServeFault>, [u8; 11]), Fail>
+where
+    R: Net<Listener = TcpListener, Stream = TcpStream>
+        + std::random::RandomSource
+        + Clock
+        + Threads
+        + Wait
+        + Sync,
+{
+    let settings = settings_of(alloc, ports.as_slice())?;
+    let log = Logged::new(rt, LevelFilter::Warn, Locked::new(rt, Vec::new(alloc)));
+    let mut written = Vec::new(alloc);
+    let (ended, found) = thread::join(
+        rt,
+        || serve(&log, alloc, &settings, &mut written),
+        || -> Result<[u8; 11], Fail> {
+            asked(rt, alloc, ports[0], ADD)?;
+            awaited(rt, ports[1])
+        },
+    );
+    Ok((ended, found?))
+}
+
+#[test]
+fn what_one_site_is_told_another_has(rt: HostRuntime) -> Result<(), Fail> {
+    let ports = [free_port(&rt)?, free_port(&rt)?];
+    let (ended, found) = served_apart(&rt, rt.alloc(), ports)?;
+    assert_eq!(rt; ended, Ok(()));
+    assert_eq!(rt; found.as_slice(), b"*1\r\n$1\r\na\r\n".as_slice());
     Ok(())
 }
 

@@ -5,9 +5,11 @@ ghost use Rattle.zq_server.specs.PassFacts.{pass_fact};
 ghost use Rattle.zq_spread.specs.Passes.{IsPassOf};
 
 use crate::station::Station;
+use crate::ticking::Ticking;
 use log::Log;
 use std::alloc::Global;
 use std::sync::{Arc, Mutex, Wait};
+use zq_peers::Mailbox;
 use zq_server::Passing;
 use zq_spread::{Draws, Pass};
 
@@ -20,14 +22,24 @@ pub struct Worker {
 }
 
 impl Worker {
-    /// Serves connections, once the gate is open, until none is left. A gate that was never opened ends it at once.
-    pub(crate) fn run<L: Log + Wait>(self, log: &L, alloc: Global, gate: &Mutex<bool>, seed: u64) {
+    /// Serves connections, once the gate is open, until none is left. A gate that was never opened ends it at once. After
+    /// each call a Tick goes to the site's mailbox; site N's is at place N, and where there is none, none goes.
+    pub(crate) fn run<L: Log + Wait>(
+        self,
+        log: &L,
+        alloc: Global,
+        gate: &Mutex<bool>,
+        mailboxes: &[Mailbox],
+        seed: u64,
+    ) {
         if !*gate.lock(log) {
             return;
         }
         let Worker { station, pass } = self;
         let station: &Station = &station;
-        let mut passing = Passing::new(log, &station.site, pass, Draws::new(seed));
-        station.attend(log, alloc, &mut passing);
+        let passing = Passing::new(log, &station.site, pass, Draws::new(seed));
+        let mailbox = mailboxes.get(usize::from(station.number.value()));
+        let mut ticking = Ticking::new(log, passing, mailbox);
+        station.attend(log, alloc, &mut ticking);
     }
 }

@@ -1,0 +1,3 @@
+pub mod Made
+mod Carried
+mod Sent

@@ -1,0 +1,15 @@
+use Rattle.std.proofs.Common.{ap, subst, sym, ◌∙◌, map}
+use Rattle.std.proofs.lemmas.List.{take_all}
+use Rattle.zq_frames.specs.Frame.{frame_of}
+use Rattle.zq_peers.proofs.Sent.{sent_next, to_one}
+use Rattle.zq_peers.specs.Carried.{AreSent}
+use Rattle.zq_peers.proofs.link.send_all.Goals as goal
+
+pub loop-frame-preserved : goal.loop-frame-preserved
+loop-frame-preserved g c =
+    sent_next g.C.Carry.carries (λ f. (c.args.to, frame_of f)) c.args.carrier.now c.loop-frame.carrier c.send-sent.new.carrier c.args.frames.now c.loop-frame.frame-index c.frame-item.result c.loop-frame.whole c.send-sent.result c.both-whole.result c.both-whole.ensures c.loop-frame-test.true c.frame-item.is c.loop-frame.invariant c.send-sent.ensures
+
+pub returns : goal.returns
+returns g c =
+    let all = ap (map (λ f. (c.args.to, frame_of f))) (take_all c.loop-frame.frame-index c.args.frames.now c.loop-frame-test.false) ∙ to_one c.args.to c.args.frames.now in
+    subst (λ l. AreSent g.C.Carry.carries c.args.carrier.now c.loop-frame.carrier l c.loop-frame.whole) all c.loop-frame.invariant

@@ -1,0 +1,4 @@
+pub mod Sites
+pub mod Carried
+pub mod Lossy
+pub mod Moves

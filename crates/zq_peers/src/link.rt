@@ -1,0 +1,147 @@
+//! What a link thread does.
+ghost use Rattle.std.specs.Prelude.{◌≡◌, All, Bool, IfErr, IfOk, List, OnOk, flat_map, map, ℕ};
+ghost use Rattle.zq_frames.specs.Frame.{IsWritable, frame_of};
+ghost use Rattle.zq_node.specs.Hearing.{sent_of, sent_to};
+ghost use Rattle.zq_node.specs.Node.{IsNode, IsSameHome};
+ghost use Rattle.zq_peers.specs.Carried.{AreSent, IsSent};
+ghost use Rattle.zq_peers.specs.Moves.{AreMoves, Hears, Move, Tells};
+
+use crate::carry::{Carry, both};
+use crate::mailbox::Mailbox;
+use crate::unheard::Unheard;
+use std::alloc::Global;
+use std::sync::Wait;
+use zq_dots::SiteNo;
+use zq_frames::{Frame, read_frame, write_frame};
+use zq_links::Message;
+use zq_node::{Node, NodeFault};
+use zq_posheap::Seeded;
+
+/// Sends a frame to a site, and says whether there was memory for it.
+fn send<C: Carry>(alloc: Global, carrier: &mut C, to: SiteNo, frame: &Frame) -> bool
+    requires { IsWritable frame.now }
+    ensures { IsSent C.carries carrier.old carrier.new (to, frame_of frame.now) result }
+{
+    match write_frame(alloc, frame) {
+        Ok(bytes) => carrier.carry(alloc, to, bytes),
+        Err(_) => false,
+    }
+}
+
+/// Sends each of the frames to a site, in this order, and says whether there was memory for all.
+fn send_all<C: Carry>(alloc: Global, carrier: &mut C, to: SiteNo, frames: &[Frame]) -> bool
+    requires { All IsWritable frames.now }
+    ensures { AreSent C.carries carrier.old carrier.new (sent_to to (map frame_of frames.now)) result }
+{
+    let mut whole = true;
+    for frame in frames {
+        let sent = send(alloc, carrier, to, frame);
+        whole = both(whole, sent);
+    }
+    whole
+}
+
+/// Sends each of the frames to its site, in this order, and says whether there was memory for all.
+fn send_each<C: Carry>(alloc: Global, carrier: &mut C, parcels: &[(SiteNo, Frame)]) -> bool
+    requires { All (λ s. IsWritable s.1) parcels.now }
+    ensures { AreSent C.carries carrier.old carrier.new (sent_of parcels.now) result }
+{
+    let mut whole = true;
+    for (to, frame) in parcels {
+        let sent = send(alloc, carrier, *to, frame);
+        whole = both(whole, sent);
+    }
+    whole
+}
+
+/// Sends a Have of each heap, in rising order, to each of these sites in turn, and says whether there was memory for
+/// all: a frame for which there was none is lost.
+///
+/// `Worn` and `NoMemory` as [`Node::haves`] says. Then nothing is sent.
+pub fn tell<R: Wait, C: Carry>(
+    rt: &R,
+    alloc: Global,
+    others: &[SiteNo],
+    node: &mut Node<'_>,
+    carrier: &mut C,
+) -> Result<bool, NodeFault>
+    requires node { IsNode node.old }
+    ensures node { IsNode node.new }
+    ensures home { IsSameHome node.old node.new }
+    ensures told { Tells C.carries others.now node.old node.new carrier.old carrier.new result }
+{
+    let frames = node.haves(rt, alloc)?;
+    let mut whole = true;
+    for to in others {
+        let sent = send_all(alloc, carrier, *to, &frames);
+        whole = both(whole, sent);
+    }
+    Ok(whole)
+}
+
+/// Has the node hear the frame that the bytes are, and sends what comes of it, to the sites that the node names. It says
+/// whether there was memory for all of that: a frame for which there was none is lost. A state that is heard lies by the
+/// hasher.
+///
+/// `Unread` where the bytes are no frame, or there was no memory to read them, as [`read_frame`] says: then nothing
+/// happens. `Refused` where the node refuses the frame, as [`Node::hear`] says: then nothing is sent.
+pub fn hear<R: Wait, C: Carry>(
+    rt: &R,
+    alloc: Global,
+    hasher: Seeded,
+    node: &mut Node<'_>,
+    carrier: &mut C,
+    bytes: &[u8],
+) -> Result<bool, Unheard>
+    requires node { IsNode node.old }
+    ensures node { IsNode node.new }
+    ensures home { IsSameHome node.old node.new }
+    ensures heard { Hears C.carries bytes.now node.old node.new carrier.old carrier.new result }
+{
+    let frame = match read_frame(alloc, bytes, hasher) {
+        Ok(frame) => frame,
+        Err(fault) => return Err(Unheard::Unread(fault)),
+    };
+    match node.hear(rt, alloc, &frame) {
+        Ok(sent) => Ok(send_each(alloc, carrier, &sent)),
+        Err(fault) => Err(Unheard::Refused(fault)),
+    }
+}
+
+/// A site's end of the links.
+#[derive(Drop)]
+pub struct Link<'a> {
+    /// Where messages for the site wait.
+    pub inbox: &'a Mailbox,
+    /// The other sites.
+    pub others: Vec<SiteNo>,
+    /// By what states lie that are heard.
+    pub hasher: Seeded,
+}
+
+impl Link<'_> {
+    /// Works until Stop comes. At a Tick it tells the other sites what this one has; a frame it hears, and sends what
+    /// comes of it. What fails is dropped as if it had been lost.
+    pub fn attend<R: Wait, C: Carry>(
+        &self,
+        rt: &R,
+        alloc: Global,
+        node: &mut Node<'_>,
+        carrier: &mut C,
+    )
+        requires node { IsNode node.old }
+        ensures node { IsNode node.new }
+        ensures home { IsSameHome node.old node.new }
+        ensures moves { (moves : List Move) × AreMoves C.carries self.now.others.items node.old node.new carrier.old carrier.new moves }
+    {
+        for _ in rt.forever() {
+            match self.inbox.take(rt) {
+                Message::Tick => drop(tell(rt, alloc, &self.others, node, carrier)),
+                Message::Frame(bytes) => {
+                    drop(hear(rt, alloc, self.hasher, node, carrier, &bytes));
+                }
+                Message::Stop => break,
+            }
+        }
+    }
+}
