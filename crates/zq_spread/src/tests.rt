@@ -1,7 +1,15 @@
+mod asking;
+mod commands;
+mod crowd;
+mod cutting;
+mod exchanging;
+mod holding;
+mod last_values;
 mod taking;
 
-ghost use Rattle.std.specs.Prelude.{◌≡◌, IfOk, length};
+ghost use Rattle.std.specs.Prelude.{◌≡◌, All, IfOk, IfSome, length};
 ghost use Rattle.zq_spread.specs.Companies.{AreAllPasses};
+ghost use Rattle.zq_spread.specs.Passes.{IsPassOf};
 
 use crate::{Pass, Site, SiteFault};
 use std::alloc::Global;
@@ -11,8 +19,34 @@ use zq_dots::SiteNo;
 use zq_journal::TakeFault;
 use zq_shard::Taken;
 
+/// The last two of a site's passes.
+fn two_of(_site: &Site, passes: Vec<Pass>) -> Option<(Pass, Pass)>
+    requires { All (IsPassOf _site.now) passes.items }
+    ensures first { IfSome result (λ both. IsPassOf _site.now both.0) }
+    ensures second { IfSome result (λ both. IsPassOf _site.now both.1) }
+{
+    let mut rest = passes;
+    let second = rest.pop()?;
+    let first = rest.pop()?;
+    Some((first, second))
+}
+
+/// A site of this number and so many heaps, with two passes.
+fn opened(alloc: Global, number: u8, heaps: u8) -> Option<(Site, Pass, Pass)>
+    ensures heaps { IfSome result (λ made. length made.0.rooms.items ≡ heaps) }
+    ensures first { IfSome result (λ made. IsPassOf made.0 made.1) }
+    ensures second { IfSome result (λ made. IsPassOf made.0 made.2) }
+{
+    let number = SiteNo::new(number)?;
+    let Ok((site, passes)) = Site::new(alloc, number, heaps, 2) else {
+        return None;
+    };
+    let (first, second) = two_of(&site, passes)?;
+    Some((site, first, second))
+}
+
 /// Site 0 of two heaps, with so many passes.
-fn opened(alloc: Global, passes: usize) -> Result<(Site, Vec<Pass>), Fail>
+fn opened_for(alloc: Global, passes: usize) -> Result<(Site, Vec<Pass>), Fail>
     ensures heaps { IfOk result (λ made. length made.0.rooms.items ≡ 2) }
     ensures all { IfOk result (λ made. AreAllPasses made.0 made.1.items) }
     ensures number { IfOk result (λ made. length made.1.items ≡ passes) }
@@ -57,7 +91,7 @@ fn a_site_has_2_to_16_heaps_and_1_to_128_passes(rt: HostRuntime) -> Result<(), F
 fn threads_take_what_another_site_made(rt: HostRuntime) -> Result<(), Fail> {
     for (threads, rounds) in [(2usize, 200u32), (48, 50)] {
         let ops = operations(rt.alloc(), i64::from(rounds))?;
-        let (site, mut passes) = opened(rt.alloc(), threads)?;
+        let (site, mut passes) = opened_for(rt.alloc(), threads)?;
         take_in_crowd(&rt, rt.alloc(), &site, passes.as_mut_slice(), &ops);
         for heap in 0..2u8 {
             assert_eq!(rt;
@@ -73,7 +107,7 @@ fn threads_take_what_another_site_made(rt: HostRuntime) -> Result<(), Fail> {
 #[test]
 fn passes_meet(rt: HostRuntime) -> Result<(), Fail> {
     let ops = operations(rt.alloc(), 7)?;
-    let (site, mut passes) = opened(rt.alloc(), 2)?;
+    let (site, mut passes) = opened_for(rt.alloc(), 2)?;
     let last = two_take(&rt, rt.alloc(), &site, passes.as_mut_slice(), &ops)?;
     assert_eq!(rt; last, [7, 7]);
     Ok(())
