@@ -1,0 +1,2 @@
+mod Sames
+mod Sorteds

@@ -1,0 +1,99 @@
+//! The sites of a drill.
+
+ghost use Rattle.std.specs.Arc.{arc_value};
+ghost use Rattle.std.specs.Prelude.{◌≡◌, ◌<◌, ◌+◌, All, IfOk, OnOk, length};
+ghost use Rattle.zq_drill.specs.Posts.{IsPost};
+
+use crate::fault::DrillFault;
+use crate::post::{HEAPS, Post};
+use std::alloc::{AllocError, Global};
+use std::sync::Arc;
+use zq_dots::SiteNo;
+use zq_spread::{Pass, Site, SiteFault};
+
+/// How many sites there are.
+pub const SITES: u8 = 3;
+
+/// How many passes a site has: one to call, one to hear frames, and one by which the sites meet at the end.
+const PASSES: usize = 3;
+
+/// The posts of the sites: in each list one of each site, in the order of their numbers.
+#[derive(Drop)]
+pub struct Posts {
+    pub callers: Vec<Post>,
+    pub links: Vec<Post>,
+    pub last: Vec<Post>,
+}
+
+/// Three sites that have done nothing.
+pub fn open_all(alloc: Global) -> Result<Posts, DrillFault>
+    ensures { IfOk result (λ posts. length posts.last.items ≡ SITES) }
+{
+    let mut posts = Posts {
+        callers: Vec::new(alloc),
+        links: Vec::new(alloc),
+        last: Vec::new(alloc),
+    };
+    for number in 0..SITES {
+        let passes = open(alloc, site_at(number))?;
+        seat(&mut posts, passes)?;
+    }
+    Ok(posts)
+}
+
+/// The site of this number.
+fn site_at(number: u8) -> SiteNo
+    requires { number < SITES }
+    ensures { result ≡ number }
+{
+    match SiteNo::new(number) {
+        Some(site) => site,
+        None => unreachable!(),
+    }
+}
+
+/// The posts of a site of this number that has done nothing.
+fn open(alloc: Global, number: SiteNo) -> Result<Vec<Post>, DrillFault>
+    ensures { IfOk result (λ posts. length posts.items ≡ PASSES) }
+{
+    match Site::new(alloc, number, HEAPS, PASSES) {
+        Ok((site, passes)) => {
+            let site = Arc::new(alloc, site).map_err(AllocError::from)?;
+            Ok(hire(alloc, number, &site, passes)?)
+        }
+        Err(SiteFault::NoMemory) => Err(DrillFault::NoMemory),
+        Err(SiteFault::Bounds) => unreachable!(),
+    }
+}
+
+/// A post for each of the passes.
+fn hire(
+    alloc: Global,
+    number: SiteNo,
+    site: &Arc<Site>,
+    passes: Vec<Pass>,
+) -> Result<Vec<Post>, AllocError>
+    requires { All (IsPost number (arc_value site.now)) passes.items }
+    ensures { IfOk result (λ posts. length posts.items ≡ length passes.items) }
+{
+    let mut posts = Vec::new(alloc);
+    for pass in passes {
+        let site = Arc::try_clone(site)?;
+        posts.push(Post { number, site, pass })?;
+    }
+    Ok(posts)
+}
+
+/// Appends a site's three posts, one to each list.
+fn seat(posts: &mut Posts, mut three: Vec<Post>) -> Result<(), AllocError>
+    requires { length three.items ≡ PASSES }
+    ensures { OnOk result (length posts.new.last.items ≡ length posts.old.last.items + 1) }
+{
+    let (Some(caller), Some(link), Some(last)) = (three.pop(), three.pop(), three.pop()) else {
+        unreachable!()
+    };
+    posts.callers.push(caller)?;
+    posts.links.push(link)?;
+    posts.last.push(last)?;
+    Ok(())
+}
