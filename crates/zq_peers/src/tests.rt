@@ -1,6 +1,7 @@
 //! Mailboxes, and the other sites.
 
 use crate::{Mailbox, others};
+use std::alloc::Global;
 use std::test::Fail;
 use zq_dots::SiteNo;
 use zq_links::Message;
@@ -31,10 +32,16 @@ fn one_tick_waits_and_no_frame_past_the_most(rt: HostRuntime) -> Result<(), Fail
     Ok(())
 }
 
+/// The sites beside site 1 of three.
+#[tactic(auto, unfolding(zq_model::specs::Sets::SITES))]
+fn others_of_one(alloc: Global) -> Result<Vec<SiteNo>, Fail> {
+    let site = SiteNo::new(1).ok_or("a site")?;
+    Ok(others(alloc, site, 3)?)
+}
+
 #[test]
 fn the_other_sites_are_in_rising_order(rt: HostRuntime) -> Result<(), Fail> {
-    let site = SiteNo::new(1).ok_or("a site")?;
-    let found = others(rt.alloc(), site, 3)?;
+    let found = others_of_one(rt.alloc())?;
     let wanted = [SiteNo::new(0), SiteNo::new(2)];
     assert_eq!(rt; found.len(), 2);
     for (site, want) in found.iter().zip(wanted) {
