@@ -38,12 +38,11 @@ module _ (h K : ℕ) (v base seen : List ℕ) (tail : List code.Record) (i : ℕ
       ap (λ w. records_over h K w (drop (i + 1) tail)) (set ∙ ap (λ s. slice_set seen s n) site_is ∙ ap (slice_set seen placed.operation.site) n_is) ∙ both.1
 
   -- one record more is lacked or not
-  pub missing_at : (site n : ℕ) (known : Bool) → site ≡ placed.operation.site → n ≡ placed.operation.n → has v site n ≡ known →
-      missing_of v (take (i + 1) all) ≡ missing_of v (take i all) ++ cond (not known) (placed ∷ []) []
-  missing_at site n known site_is n_is e =
+  pub missing_at : (lacked : Bool) → lacked ≡ not (has v placed.operation.site placed.operation.n) →
+      missing_of v (take (i + 1) all) ≡ missing_of v (take i all) ++ cond lacked (placed ∷ []) []
+  missing_at lacked e =
       let next : take (i + 1) all ≡ take i all ++ here ∷ [] = take_more all i here inside ∙ ap (λ x. take i all ++ x ∷ []) (sym both.0) in
-      let test : has v placed.operation.site placed.operation.n ≡ known = ap (λ s. has v s placed.operation.n) (sym site_is) ∙ ap (has v site) (sym n_is) ∙ e in
       ap (missing_of v) next
       ∙ ap (filter (λ (p : Placed). not (has v p.operation.site p.operation.n))) (map-append (λ (q : Record). placed_in q.what) (take i all) (here ∷ []))
       ∙ filter-append (λ (p : Placed). not (has v p.operation.site p.operation.n)) (map (λ (q : Record). placed_in q.what) (take i all)) (placed ∷ [])
-      ∙ ap (λ b. missing_of v (take i all) ++ cond (not b) (placed ∷ []) []) test
+      ∙ ap (λ b. missing_of v (take i all) ++ cond b (placed ∷ []) []) (sym e)

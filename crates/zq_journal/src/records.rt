@@ -1,6 +1,7 @@
 //! The records of a book.
-ghost use Rattle.std.specs.Prelude.{◌≡◌, ◌≤◌, IfOk, List, ℕ};
+ghost use Rattle.std.specs.Prelude.{◌≡◌, ◌≤◌, IfOk, List, not, ℕ};
 ghost use Rattle.zq_journal.specs.Records.{IsRecordable, placed_in, whole};
+ghost use Rattle.zq_model.specs.Operation.{has};
 ghost use Rattle.zq_model.specs.Sets.{LAST};
 
 use crate::own::Own;
@@ -49,6 +50,13 @@ impl Change {
             Change::Made(own) => own.member.as_slice(),
             Change::Took(op) => op.member(),
         }
+    }
+
+    /// Whether a peer of this vector lacks it.
+    pub(crate) fn is_new_to(&self, vector: &Vector) -> bool
+        ensures { (h K : ℕ) (v : List ℕ) → result ≡ not (has vector.now (placed_in (whole h K v self.now)).operation.site (placed_in (whole h K v self.now)).operation.n) }
+    {
+        !vector.has(self.dot())
     }
 
     /// The operation, in a heap of a number of heaps whose vector was `seen` before it.

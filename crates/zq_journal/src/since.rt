@@ -66,10 +66,10 @@ fn missing(
     let mut seen = *base;
     for place in 0..tail.len() {
         let record = &tail[place];
-        let dot = record.what.dot();
-        if !vector.has(dot) {
+        if record.what.is_new_to(vector) {
             ops.push(record.what.op(alloc, heap, heaps, &seen)?)?;
         }
+        let dot = record.what.dot();
         seen.set(dot.site, dot.n);
     }
     Ok(ops)
