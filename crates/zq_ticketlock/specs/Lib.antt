@@ -1,3 +1,4 @@
+pub mod Boxes
 pub mod Views
 pub mod Order
 pub mod Steps

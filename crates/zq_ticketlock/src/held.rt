@@ -2,13 +2,14 @@ ghost use Rattle.std.specs.Prelude.{◌≡◌, ◌<◌, true};
 ghost use Rattle.zq_ticketlock.specs.declared.lock.TheConstants.{LAST_TICKET};
 ghost use Rattle.zq_ticketlock.specs.Views.{is_holding};
 
+use crate::boxed::Boxed;
 use crate::view::View;
 
 /// The lock's value, out with one seat. It has no `Drop`: `unlock` puts the value home.
 pub struct Held<T> {
-    pub(crate) place: atomic_table::Seat<Option<T>, View<T>>,
+    pub(crate) place: atomic_table::Seat<Option<Boxed<T>>, View<T>>,
     pub(crate) ticket: u64,
-    pub(crate) value: T,
+    pub(crate) value: Boxed<T>,
     ghost holding: { is_holding ticket place.me ≡ true },
     ghost in_range: { ticket < LAST_TICKET },
 }
@@ -28,7 +29,7 @@ impl<T> Held<T> {
     pub fn value(&self) -> &T
         ensures { result.now ≡ value_of self.now }
     {
-        &self.value
+        self.value.get()
     }
 
     /// The value, to be changed. When the borrow ends, what was written through it is held.
@@ -36,6 +37,6 @@ impl<T> Held<T> {
         ensures* writes_back { sem 𝓛 (lends_value T.row self.entry result) }
         ensures value { result.now ≡ value_of self.old }
     {
-        &mut self.value
+        self.value.get_mut()
     }
 }

@@ -13,7 +13,8 @@
 //! - a *release* is a store to `serving`, by which a holder puts the value home;
 //! - a *split* makes two seats of one, and a *join* one of two.
 //!
-//! A lock opens with all its memory and no value. Its only seat puts the first value in by two loads of `serving`.
+//! A lock opens with all its memory and no value. Its only seat puts the first value in by two loads of `serving`. The
+//! value lies in a box, so that taking it out and putting it home moves a pointer, however large it is.
 //!
 //! A thread with a ticket looks a few hundred times, and then sleeps until a release wakes it. Where two tickets are out,
 //! a thread that comes sleeps at a *door* before it draws its own, until it is called in. So the lock serves threads in
@@ -23,6 +24,7 @@
 //! Nothing is proved of how long a thread waits, nor that it is served.
 #![tactic(auto)]
 
+mod boxed;
 mod calls;
 mod door;
 mod errors;

@@ -1,5 +1,6 @@
 ghost use Rattle.std.specs.Prelude.{◌≡◌};
 
+use crate::boxed::Boxed;
 use crate::door::Door;
 use crate::errors::NoMemory;
 use crate::keeps::Keeps;
@@ -24,7 +25,7 @@ pub(crate) const NEXT: usize = 1;
 /// at the door, where no order is kept.
 #[derive(Drop)]
 pub struct TicketLock<T: Keeps> {
-    pub(crate) table: Table<Option<T>, View<T>, u64, TicketOrder, Global>,
+    pub(crate) table: Table<Option<Boxed<T>>, View<T>, u64, TicketOrder, Global>,
     // How many threads with a ticket may be asleep. It saves a lock that nobody waits for the call that wakes.
     pub(crate) sleepers: AtomicU64,
     // Where threads wait that have no ticket yet.

@@ -1,6 +1,7 @@
-ghost use Rattle.std.specs.Prelude.{◌≡◌, true};
+ghost use Rattle.std.specs.Prelude.{◌≡◌, true, None};
 ghost use Rattle.zq_ticketlock.specs.Views.{is_vacant};
 
+use crate::boxed::Boxed;
 use crate::door::Door;
 use crate::errors::NoMemory;
 use crate::keeps::Keeps;
@@ -16,9 +17,12 @@ use std::sync::atomic::AtomicU64;
 #[derive(Drop)]
 pub struct Vacant<T: Keeps> {
     lock: TicketLock<T>,
-    place: atomic_table::Seat<Option<T>, View<T>>,
+    place: atomic_table::Seat<Option<Boxed<T>>, View<T>>,
+    // The memory for the value.
+    room: Box<Option<T>>,
     ghost own: { place.table_id ≡ lock.table.shared.table_id },
     ghost vacant: { is_vacant place.me ≡ true },
+    ghost empty: { room.value ≡ None },
 }
 
 impl<T: Keeps> Vacant<T> {
@@ -32,6 +36,7 @@ impl<T: Keeps> Vacant<T> {
         requires in_range { ticket ≤ LAST_TICKET }
         ensures opens { IfOk result (λ vacant. opens_at vacant ≡ ticket) }
     {
+        let room = Boxed::reserve(alloc)?;
         match Table::vacant(alloc, &[ticket, ticket], 1, &ticket) {
             Ok((table, place)) => {
                 let lock = TicketLock {
@@ -39,9 +44,12 @@ impl<T: Keeps> Vacant<T> {
                     sleepers: AtomicU64::new(0),
                     door: Door::new(),
                 };
-                Ok(Vacant { lock, place })
+                Ok(Vacant { lock, place, room })
             }
-            Err(_) => Err(NoMemory),
+            Err(_) => {
+                Boxed::give_back(room);
+                Err(NoMemory)
+            }
         }
     }
 
@@ -52,10 +60,14 @@ impl<T: Keeps> Vacant<T> {
         ensures seen { seen result.1 ≡ Some value }
         ensures served { served result.1 ≡ opens_at self }
     {
-        let Vacant { lock, mut place } = self;
+        let Vacant {
+            lock,
+            mut place,
+            room,
+        } = self;
         let shared = &lock.table.shared;
         shared.load::<Empty>(&mut place, SERVING);
-        match shared.exchange(&mut place, 0, Some(value)) {
+        match shared.exchange(&mut place, 0, Some(Boxed::new(room, value))) {
             None => {}
             Some(_) => unreachable!(),
         }
