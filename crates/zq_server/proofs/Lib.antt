@@ -1,6 +1,7 @@
 pub mod KnownBytes
 pub mod Runs
 pub mod Served
+pub mod ServedAs
 pub mod Streams
 pub mod Refused
 pub mod OneHeap

@@ -102,9 +102,21 @@ fn bytes_are_settings_or_are_refused(rt: HostRuntime) {
 }
 
 #[test]
-fn input_that_ends_inside_a_request_is_a_status_of_its_own(rt: HostRuntime) {
-    let mut asked = b"*1\r\n$4\r\nPING\r\n*1\r\n".as_slice();
-    let mut written = Vec::new(rt.alloc());
-    assert_eq!(rt; pipe(rt.alloc(), &mut asked, &mut written), 2);
-    assert_eq!(rt; written.as_slice(), b"+PONG\r\n".as_slice());
+fn pipe_answers_from_both_heaps_and_says_how_the_input_ended(rt: HostRuntime) {
+    // Member a of key q lies in heap 0, and member b in heap 1.
+    let rows: [(&[u8], &[u8], u8); 2] = [
+        (b"*1\r\n$4\r\nPING\r\n*1\r\n", b"+PONG\r\n", 2),
+        (
+            b"*6\r\n$4\r\nZADD\r\n$1\r\nq\r\n$1\r\n2\r\n$1\r\na\r\n$1\r\n1\r\n$1\r\nb\r\n\
+            *2\r\n$8\r\nZPOPNEAR\r\n$1\r\nq\r\n*4\r\n$6\r\nZRANGE\r\n$1\r\nq\r\n$1\r\n0\r\n$2\r\n-1\r\n",
+            b":2\r\n*2\r\n$1\r\nb\r\n$1\r\n1\r\n*1\r\n$1\r\na\r\n",
+            0,
+        ),
+    ];
+    for (asked, replies, status) in rows {
+        let mut asked = asked;
+        let mut written = Vec::new(rt.alloc());
+        assert_eq!(rt; pipe(&rt, rt.alloc(), &mut asked, &mut written), status);
+        assert_eq!(rt; written.as_slice(), replies);
+    }
 }
