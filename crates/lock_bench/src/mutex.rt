@@ -1,3 +1,5 @@
+//! A mutex of std as a lock to be timed.
+
 use crate::worker::{Worker, worked};
 use std::sync::{Mutex, Wait};
 

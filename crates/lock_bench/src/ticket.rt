@@ -1,3 +1,5 @@
+//! A ticket lock over a count as a lock to be timed.
+
 ghost use Rattle.std.specs.Prelude.{◌≡◌};
 ghost use Rattle.zq_ticketlock.specs.Seats.{id_of, lock_of};
 

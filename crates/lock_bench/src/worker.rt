@@ -1,4 +1,4 @@
-// Threads that take one lock over and over, for a time.
+//! Threads that take one lock over and over, for a time.
 
 use std::alloc::{AllocError, Global};
 use std::sync::Wait;

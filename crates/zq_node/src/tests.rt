@@ -1,3 +1,5 @@
+//! Nodes, by tables of steps.
+
 mod behind;
 mod making;
 mod meeting;

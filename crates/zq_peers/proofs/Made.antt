@@ -1,6 +1,6 @@
 -- The rule of a site that was made.
 use Rattle.std.proofs.Common.{ap, arith, refl, ◌∙◌}
-use Rattle.std.specs.Prelude.{List, [], length, ℕ, ◌∷◌, ◌≡◌, ◌≤◌}
+use Rattle.std.specs.Prelude.{List, [], ℕ, ◌∷◌, ◌≡◌, ◌≤◌}
 use Rattle.zq_dots.specs.Rule.{rule_of}
 use Rattle.zq_dots.specs.declared.rule.Rule.{Rule}
 use Rattle.zq_history.specs.Books.{Book}

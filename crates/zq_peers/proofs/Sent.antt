@@ -1,5 +1,5 @@
 -- What is sent one after the other, over a list.
-use Rattle.std.proofs.Common.{Vec, ap, map, refl, subst, sym, take, ◌<◌, ◌+◌, ◌∙◌}
+use Rattle.std.proofs.Common.{ap, map, refl, subst, sym, take, ◌<◌, ◌+◌, ◌∙◌}
 use Rattle.std.proofs.Math.ListN.{get_or}
 use Rattle.std.proofs.lemmas.Grind.{flat_map-append}
 use Rattle.std.proofs.lemmas.List.{map-append, take_more}

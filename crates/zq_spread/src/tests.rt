@@ -1,3 +1,5 @@
+//! Sites and their passes.
+
 mod asking;
 mod commands;
 mod crowd;

@@ -7,11 +7,12 @@ use std::process::Abort;
 use std::test::Fail;
 use zq_resp::write_reply;
 
-const REFUSALS: [(&str, Refused); 60] = [
+const REFUSALS: [(&str, Refused); 61] = [
     ("SAVE", Refused::Unknown),
     ("ZMPOP 1 q MIN", Refused::Unknown),
     ("PING a b", Refused::Words),
     ("ZADD q 1", Refused::Words),
+    ("ZADD q NX", Refused::Words),
     ("ZINCRBY q 1", Refused::Words),
     ("ZINCRBY q 1 a b", Refused::Words),
     ("ZREM q", Refused::Words),

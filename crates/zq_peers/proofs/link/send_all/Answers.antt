@@ -1,4 +1,4 @@
-use Rattle.std.proofs.Common.{ap, subst, sym, ◌∙◌, map}
+use Rattle.std.proofs.Common.{ap, subst, ◌∙◌, map}
 use Rattle.std.proofs.lemmas.List.{take_all}
 use Rattle.zq_frames.specs.Frame.{frame_of}
 use Rattle.zq_peers.proofs.Sent.{sent_next, to_one}

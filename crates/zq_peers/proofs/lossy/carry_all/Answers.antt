@@ -1,7 +1,4 @@
-use Rattle.std.proofs.Common.{ap, subst, sym}
-use Rattle.std.specs.Prelude.{Bool, ◌&&◌}
 use Rattle.zq_peers.proofs.Carried.{carried_next}
-use Rattle.zq_peers.specs.Carried.{AreCarried}
 use Rattle.zq_peers.proofs.lossy.carry_all.Goals as goal
 
 pub loop-frame-preserved : goal.loop-frame-preserved
