@@ -1,7 +1,8 @@
 #!/usr/bin/env bash
 # Calls a second of a site of 16 heaps by 1, 2 and 4 passes, each in a thread of its own, by crates/site_bench: half of them
-# ZSCORE, a third ZADD, the rest ZINCRBY and ZPOPMIN, over 1,000 keys. Prints the medians of several rounds, and each one's
-# ratio to that of one pass. Usage: bench/site.sh [CALLS [ROUNDS]]. Status 1 where a call answers an error.
+# ZSCORE, a third ZADD, the rest ZINCRBY and ZPOPMIN, over 1,000 keys; and the same with ZPOPNEAR in place of ZPOPMIN. Prints
+# the medians of several rounds, and each one's ratio to that of one pass. Usage: bench/site.sh [CALLS [ROUNDS]]. Status 1
+# where a call answers an error.
 set -euo pipefail
 calls=${1:-2000000} rounds=${2:-5}
 root=$(cd "$(dirname "$0")/.." && pwd)
@@ -13,15 +14,20 @@ mkdir -p "$out"
 rm -f "$out/site"
 for ((round = 0; round < rounds; round++)); do
   said=$("$ours" "$calls" 2>>"$out/site")
-  if grep -qv ' 0 errors$' <<<"$said"; then echo "site.sh: $said" >&2; exit 1; fi
+  if grep 'errors$' <<<"$said" | grep -qv ' 0 errors$'; then echo "site.sh: $said" >&2; exit 1; fi
 done
 
-# The median rate of so many passes, from what the rounds wrote.
-median() { awk -v passes="$1" '$1 == passes { print $2 }' "$out/site" | sort -n | sed -n "$(((rounds + 1) / 2))p"; }
+# The median rate of so many passes with this pop, from what the rounds wrote.
+median() {
+  awk -v pop="$1" -v passes="$2" 'NF == 1 { now = $1 } NF == 2 && now == pop && $1 == passes { print $2 }' "$out/site" |
+    sort -n | sed -n "$(((rounds + 1) / 2))p"
+}
 
 echo "$(nproc) processors, $calls calls"
-one=$(median 1)
-for passes in 1 2 4; do
-  rate=$(median "$passes")
-  echo "$passes passes: $rate calls a second, $((rate * 100 / one))% of one pass"
+for pop in ZPOPMIN ZPOPNEAR; do
+  one=$(median "$pop" 1)
+  for passes in 1 2 4; do
+    rate=$(median "$pop" "$passes")
+    echo "$pop, $passes passes: $rate calls a second, $((rate * 100 / one))% of one pass"
+  done
 done

@@ -9,8 +9,8 @@ use std::sync::atomic::Ordering::SeqCst;
 use std::thread::{Threads, for_each_mut};
 use zq_dots::SiteNo;
 use zq_resp::{Reply, Request};
-use zq_spread::{Pass, Site};
-use zq_words::Command;
+use zq_spread::{Draws, Pass, Site};
+use zq_words::{Command, Kind};
 
 /// How many heaps the site has.
 const HEAPS: u8 = 16;
@@ -34,11 +34,20 @@ pub fn read<'a>(alloc: Global, requests: &'a [Request]) -> Option<Vec<Command<'a
     Some(commands)
 }
 
-/// A pass's part of the calls: so many, which go round the commands from a place on.
+/// A pass's part of the calls: so many, which go round the commands from a place on, with the draws of a seed.
 #[derive(Clone, Copy, Drop)]
 pub struct Turns {
     pub from: usize,
     pub calls: usize,
+    pub seed: u64,
+}
+
+/// The words that a command is called with.
+fn words_for(draws: &mut Draws, command: &Command<'_>) -> (u64, u64) {
+    match command.kind() {
+        Kind::Zpopnear { .. } => draws.next(),
+        _ => (0, 0),
+    }
 }
 
 /// Makes calls by a pass, and says how many of them answered an error.
@@ -55,6 +64,7 @@ pub fn call_in_turn<R: Wait>(
 {
     let mut errors = 0u64;
     let mut place = turns.from;
+    let mut draws = Draws::new(turns.seed);
     for _call in 0..turns.calls {
         if place >= commands.len() {
             place = 0;
@@ -62,7 +72,8 @@ pub fn call_in_turn<R: Wait>(
         let Some(command) = commands.get(place) else {
             return errors;
         };
-        if let Reply::Error { .. } = site.call(rt, alloc, pass, command, 0, 0) {
+        let (w1, w2) = words_for(&mut draws, command);
+        if let Reply::Error { .. } = site.call(rt, alloc, pass, command, w1, w2) {
             errors = errors.wrapping_add(1);
         }
         place = place.wrapping_add(1);
@@ -99,6 +110,7 @@ pub fn call_side_by_side<R: Threads + Wait + Sync>(
             let turns = Turns {
                 from: at.wrapping_mul(apart),
                 calls,
+                seed: at as u64,
             };
             let refused = call_in_turn(rt, alloc, site, pass, commands, turns);
             shared.fetch_add(refused, SeqCst);

@@ -1,9 +1,9 @@
 //! Calls a second of a site of 16 heaps that 1, 2 and 4 threads use side by side, each by a pass of its own.
 //!
 //! `site_bench CALLS` makes so many calls in all for each number of passes, over 1,000 keys of ten members: half of them
-//! ZSCORE, a third ZADD, a twelfth ZINCRBY and a twelfth ZPOPMIN, drawn before. Standard output has the calls that were
-//! made and how many of them answered an error, and standard error the calls a second. With other arguments it does
-//! nothing.
+//! ZSCORE, a third ZADD, a twelfth ZINCRBY and a twelfth ZPOPMIN, drawn before. Then it does so again with ZPOPNEAR in
+//! place of ZPOPMIN, which holds two heaps and not all. Standard output has the calls that were made and how many of them
+//! answered an error, and standard error the calls a second. With other arguments it does nothing.
 #![tactic(auto)]
 
 mod calls;
@@ -32,10 +32,26 @@ fn main(rt: HostRuntime) -> io::Result<()> {
     let Ok(calls) = calls.parse::<usize>() else {
         return Ok(());
     };
-    let alloc = rt.alloc();
+    for pop in ["ZPOPMIN", "ZPOPNEAR"] {
+        time_load(&rt, rt.alloc(), pop, calls)?;
+    }
+    Ok(())
+}
+
+/// Times calls of requests that are drawn with this word for a pop.
+fn time_load<R: Clock + Print + Eprint + Threads + Wait + Sync>(
+    rt: &R,
+    alloc: Global,
+    pop: &str,
+    calls: usize,
+) -> io::Result<()> {
     let mut draws = Pcg64::new(1, 1);
-    match (requests::fill(alloc), requests::draw(alloc, &mut draws)) {
-        (Some(fill), Some(drawn)) => time_requests(&rt, alloc, &fill, &drawn, calls),
+    match (requests::fill(alloc), requests::draw(alloc, &mut draws, pop)) {
+        (Some(fill), Some(drawn)) => {
+            println!(rt; "{pop}")?;
+            eprintln!(rt; "{pop}")?;
+            time_requests(rt, alloc, &fill, &drawn, calls)
+        }
         _ => Ok(()),
     }
 }

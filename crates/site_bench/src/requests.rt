@@ -33,24 +33,24 @@ fn filled(alloc: Global, key: u64) -> Option<String> {
     Some(line)
 }
 
-/// Drawn requests: half of them ZSCORE, a third ZADD, a twelfth ZINCRBY and a twelfth ZPOPMIN.
-pub fn draw<R: Rng>(alloc: Global, draws: &mut R) -> Option<Vec<Request>> {
+/// Drawn requests: half of them ZSCORE, a third ZADD, a twelfth ZINCRBY and a twelfth this word's, which pops of a key.
+pub fn draw<R: Rng>(alloc: Global, draws: &mut R, pop: &str) -> Option<Vec<Request>> {
     let mut requests = Vec::new(alloc);
     for _request in 0..DRAWN {
-        let line = drawn(alloc, draws)?;
+        let line = drawn(alloc, draws, pop)?;
         requests.push(request(alloc, &line)?).ok()?;
     }
     Some(requests)
 }
 
 /// The words of a drawn request.
-fn drawn<R: Rng>(alloc: Global, draws: &mut R) -> Option<String> {
+fn drawn<R: Rng>(alloc: Global, draws: &mut R, pop: &str) -> Option<String> {
     let kind = draws.next_u64() % 12;
     let key = draws.next_u64() % KEYS;
     let member = draws.next_u64() % MEMBERS;
     let score = draws.next_u64() % 1_000_000;
     match kind {
-        0 => format!(in alloc; "ZPOPMIN key:{key}").ok(),
+        0 => format!(in alloc; "{pop} key:{key}").ok(),
         1 => format!(in alloc; "ZINCRBY key:{key} {score} member:{member}").ok(),
         2..=5 => format!(in alloc; "ZADD key:{key} {score} member:{member}").ok(),
         _ => format!(in alloc; "ZSCORE key:{key} member:{member}").ok(),

@@ -17,19 +17,37 @@ const CROWD: u64 = 2;
 // At every so many turns a release calls one in, also where tickets are out, so that nobody stays at the door for long.
 const TURNS: u64 = 64;
 
-// How often a thread with a ticket looks before each sleep. That takes about as long as a sleeper takes to wake up: with
-// far fewer looks, one that sleeps has all behind it asleep before it is served.
-const SPINS: u32 = 400;
+// How often a thread looks before each sleep, with a ticket or at the door. That takes several times as long as a sleeper
+// takes to wake up: with far fewer looks, one that sleeps has all behind it asleep before it is served.
+const SPINS: u32 = 4000;
+
+// So many at the door look whether the crowd is gone. Where more are there, who comes sleeps at once.
+const LOOKERS: u64 = 1;
 
 impl<T: Keeps> TicketLock<T> {
-    /// Waits at the door until the thread is called in, if it is crowded. Then it goes on, crowded or not.
+    /// Waits at the door until the crowd is gone or the thread is called in. Then it goes on, crowded or not.
     pub(crate) fn wait_at_door<R: Wait>(&self, rt: &R) {
         self.door.come();
-        let serving = self.table.shared.peek(SERVING);
-        if self.is_crowded(serving) {
+        if self.stays_crowded() {
             self.door.sleep(rt);
         }
         self.door.leave();
+    }
+
+    /// Whether the crowd that the thread found on its way in is still there after so many looks, or at the first one where
+    /// more than [`LOOKERS`] are at the door.
+    fn stays_crowded(&self) -> bool {
+        for _look in 0..SPINS {
+            let serving = self.table.shared.peek(SERVING);
+            if !self.is_crowded(serving) {
+                return false;
+            }
+            if self.door.waiting() > LOOKERS {
+                return true;
+            }
+            spin_loop();
+        }
+        true
     }
 
     /// Whether a crowd has tickets, by the ticket that was just found to be served. Where a release comes in between, the
