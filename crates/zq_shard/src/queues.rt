@@ -116,7 +116,15 @@ impl Queues {
         ensures taken { OnOk result (self.new.members ≡ members_after effect.now (key.now, member.now) self.old.members) }
         ensures refused { OnErr result (self.new ≡ self.old) }
     {
-        take(&mut self.queues, &self.guess, alloc, self.rule, key, member, effect)
+        take(
+            &mut self.queues,
+            &self.guess,
+            alloc,
+            self.rule,
+            key,
+            member,
+            effect,
+        )
     }
 
     /// Gives a member of a key this entry, and takes it out where there is none.
@@ -131,7 +139,15 @@ impl Queues {
         ensures back { OnOk result (self.new.members ≡ put_entry self.old.members (key.now, member.now) (or_none before)) }
         ensures refused { OnErr result (self.new ≡ self.old) }
     {
-        put_back(&mut self.queues, &self.guess, alloc, self.rule, key, member, before)
+        put_back(
+            &mut self.queues,
+            &self.guess,
+            alloc,
+            self.rule,
+            key,
+            member,
+            before,
+        )
     }
 
     /// Equal queues.

@@ -74,7 +74,7 @@ is_new : (c : In_ok-take) → c.take-2.new.self ≡ record { rule = rule_of c.ar
 is_new c =
     let rule = c.in_ok-take.ensures.rule ∙ c.new-queue.ensures.rule in
     let entries = c.in_ok-take.ensures.taken
-        ∙ ap (entries_after c.args.effect.now c.args.member.now) (c.new-queue.ensures.entries ∙ sym (entries_found c.args.queues.now.entries c.args.key.now None (none_is c.args.queues.now.entries c.args.key.now c.in_default.ensures.found))) in
+    ∙ ap (entries_after c.args.effect.now c.args.member.now) (c.new-queue.ensures.entries ∙ sym (entries_found c.args.queues.now.entries c.args.key.now None (none_is c.args.queues.now.entries c.args.key.now c.in_default.ensures.found))) in
     λ i. record { rule = rule i; entries = entries i }
 
 pub returns-clause-taken : goal.returns-clause-taken
