@@ -3,6 +3,7 @@ pub mod Serving
 pub mod Session
 pub mod Plain
 pub mod Meaning
+pub mod Alone
 pub mod Piped
 pub mod Refusals
 pub mod Passing
