@@ -1,8 +1,8 @@
 //! What the command line asks for.
 
-ghost use Rattle.std.specs.Prelude.{IfOk, Some, SomeIff, map, string_bytes, ◌≡◌, ◌↔◌, ℕ};
+ghost use Rattle.std.specs.Prelude.{SomeIff};
 ghost use Rattle.std.specs.Str.Parse.{digits_value};
-ghost use Rattle.zqueue.specs.Asked.{IsDrill, IsNumber, ROUNDS, SEEDS};
+ghost use Rattle.zqueue.specs.Asked.{IsNumber, ROUNDS, SEEDS};
 ghost use Rattle.zqueue.specs.declared.asked.Command.TheVariants.{Drill};
 
 use crate::number::read_number;
@@ -37,7 +37,6 @@ pub fn asked<R: Env + Alloc<A = Global>>(rt: &R) -> Result<Option<Command>, Allo
 
 /// The command that these words name, of which the first is the program's name.
 fn command_of(alloc: Global, words: &[String]) -> Result<Option<Command>, AllocError>
-    ensures drill { IfOk result (λ command. (seed rounds : ℕ) → command ≡ Some (Drill seed rounds) ↔ IsDrill (map string_bytes words.now) seed rounds) }
 {
     match words {
         [_, word] if word.as_str() == "pipe" => Ok(Some(Command::Pipe)),
