@@ -82,7 +82,7 @@ of_set_begun S books of = record {
 
 -- ---- a request that only reads
 
-pub reads_only : (command : Command) (queues : Queues) → is_reading command ≡ true → (plan_of command queues).moves ≡ []
+reads_only : (command : Command) (queues : Queues) → is_reading command ≡ true → (plan_of command queues).moves ≡ []
 reads_only (Zscore key member) queues reads = refl
 reads_only (Zcard key) queues reads = refl
 reads_only (Zcount key min max) queues reads = refl
@@ -98,18 +98,6 @@ reads_only (Zpopmin key count) queues reads = absurd (true≢false (sym reads))
 reads_only (Zpopnear key) queues reads = absurd (true≢false (sym reads))
 reads_only (Del keys) queues reads = absurd (true≢false (sym reads))
 
--- a plan that moves nothing leaves the books, and its reply is an answer
-pub answers_unmoved : (strict : Bool) (plan : Plan) (cut : ℕ → Want → Reply) (site stamp : ℕ) (old new : List Book) (bytes : Word) → plan.moves ≡ [] → cut 0 ≡ cut_error 0 →
-    Runs site stamp strict plan cut old new bytes → (new ≡ old) × IsAnswer (bytes_of plan.reply) bytes
-answers_unmoved strict plan cut site stamp old new bytes none error (whole books says) = (books ∙ ap (λ moves. books_after site stamp moves old) none, inl says)
-answers_unmoved strict plan cut site stamp old new bytes none error (part k want few books why says) =
-    let most = ap length none in
-    let first : k ≡ 0 = omega (arith, few, most) in
-    (books ∙ ap (λ n. books_after site stamp (take n plan.moves) old) first, inr (want, says ∙ ap (λ n. bytes_of (cut n want)) first ∙ ap (λ f. bytes_of (f want)) error))
-
-pub cut_none : (command : Command) (queues : Queues) → cut_reply command queues 0 ≡ cut_error 0
-cut_none command queues = elim (popped_of command) as (λ o. (λ want. cut_pop o queues 0 want) ≡ cut_error 0) [ None ↦ refl | Some popped ↦ refl ]
-
 module _ (S : List Operation) where
   -- the set stays, and the reply is an answer
   abbrev IsReadAs : Word → List Book → Word → Type 0
@@ -117,9 +105,16 @@ module _ (S : List Operation) where
 
   none_moved : (strict : Bool) (plan : Plan) (cut : ℕ → Want → Reply) (site stamp : ℕ) (old new : List Book) (bytes : Word) → plan.moves ≡ [] → cut 0 ≡ cut_error 0 → IsOfSet S old →
       Runs site stamp strict plan cut old new bytes → IsReadAs (bytes_of plan.reply) new bytes
-  none_moved strict plan cut site stamp old new bytes none error of ran =
-      let answered = answers_unmoved strict plan cut site stamp old new bytes none error ran in
-      (subst (IsOfSet S) (sym answered.0) of, answered.1)
+  none_moved strict plan cut site stamp old new bytes none error of (whole books says) =
+      (subst (IsOfSet S) (sym (books ∙ ap (λ moves. books_after site stamp moves old) none)) of, inl says)
+  none_moved strict plan cut site stamp old new bytes none error of (part k want few books why says) =
+      let most = ap length none in
+      let first : k ≡ 0 = omega (arith, few, most) in
+      let same : new ≡ old = books ∙ ap (λ n. books_after site stamp (take n plan.moves) old) first in
+      (subst (IsOfSet S) (sym same) of, inr (want, says ∙ ap (λ n. bytes_of (cut n want)) first ∙ ap (λ f. bytes_of (f want)) error))
+
+  cut_none : (command : Command) (queues : Queues) → cut_reply command queues 0 ≡ cut_error 0
+  cut_none command queues = elim (popped_of command) as (λ o. (λ want. cut_pop o queues 0 want) ≡ cut_error 0) [ None ↦ refl | Some popped ↦ refl ]
 
   module _ (old new : List Book) (bytes : Word) (of : IsOfSet S old) where
     stays : new ≡ old → IsOfSet S new

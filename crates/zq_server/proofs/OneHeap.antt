@@ -1,8 +1,9 @@
 -- How a server with one heap comes to its answers.
 
-use Rattle.std.proofs.Common.{List, Some, [], ap, arith, inl, inr, length, map, refl, subst, sym, ℕ, ◌+◌, ◌∙◌, ◌∷◌, ◌≡◌}
+use Rattle.std.proofs.Common.{List, Some, [], ap, arith, inl, inr, length, map, refl, subst, sym, true, ℕ, ◌+◌, ◌∙◌, ◌∷◌, ◌≡◌}
 use Rattle.std.proofs.lemmas.List.{length-map}
-use Rattle.std.specs.Prelude.{Err, Ok, false, slice_get}
+use Rattle.std.specs.Fmt.{digits}
+use Rattle.std.specs.Prelude.{Err, Ok, codes, false, slice_get}
 use Rattle.zq_commands.proofs.Begun.{rule_begun}
 use Rattle.zq_commands.specs.Beginning.{HasStamp, IsNextStamp, begun}
 use Rattle.zq_commands.specs.SiteBooks.{empty_book}
@@ -12,11 +13,16 @@ use Rattle.zq_journal.specs.Books.{LAST_STAMP}
 use Rattle.zq_model.specs.Rule.{Greatest}
 use Rattle.zq_model.specs.Sets.{IsIn}
 use Rattle.zq_plans.specs.Replies.{bytes_of}
-use Rattle.zq_plans.specs.Run.{IsRun, Number, cut_error}
+use Rattle.zq_plans.specs.Run.{IsRun, Memory, Number, cut_error}
+use Rattle.zq_resp.specs.Reply.{line}
 use Rattle.zq_server.specs.Refusals.{IsRefusalOf}
 use Rattle.zq_server.specs.Plain.{IsOfOneHeap, RunsCommand, RunsReading, SITE, is_ping, no_keys, runs, stamp_in, unread, worn}
 use Rattle.zq_words.specs.Command.{Command, Reading}
+use Rattle.zq_words.specs.Refused.{refused_text}
+use Rattle.zq_words.specs.Shown.{IsRefusal}
 use Rattle.zq_words.specs.Words.{Word}
+use Rattle.zq_words.specs.declared.refused.Refused.{Refused}
+use Rattle.zq_words.specs.declared.refused.Refused.TheVariants.{Bound, Flags, Negative, NoMemory, OnePair, Score, Syntax, Unknown, Whole, Words}
 
 -- ---- one book
 

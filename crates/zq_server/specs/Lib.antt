@@ -3,7 +3,6 @@ pub mod Serving
 pub mod Session
 pub mod Plain
 pub mod Meaning
-pub mod Alone
 pub mod Piped
 pub mod Refusals
 pub mod Passing

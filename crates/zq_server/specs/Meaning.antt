@@ -1,6 +1,6 @@
--- What the books of a server mean: that of one heap, and those of two.
+-- What the book of a server with one heap means.
 
-use Rattle.std.specs.Prelude.{List, Some, length, slice_get, ℕ, ◌≡◌, ◌⊎◌}
+use Rattle.std.specs.Prelude.{List, length, ◌≡◌, ◌⊎◌}
 use Rattle.zq_history.specs.Books.{Book}
 use Rattle.zq_model.specs.Bounded.{HasShortNames}
 use Rattle.zq_model.specs.Image.{image_of}
@@ -25,21 +25,6 @@ pub record IsOfSet (S : List Operation) (books : List Book) : Type 0 where
   pub short : (o : Operation) → IsIn o S → HasShortNames o
   pub number : length books ≡ 1
   pub each : (book : Book) → IsIn book books → HasImageOf S book
-
--- the book is that of the heap h, of two, and has the image of this set there
-pub record HasImageIn (S : List Operation) (h : ℕ) (book : Book) : Type 0 where
-  pub heap : book.heap ≡ h
-  pub heaps : book.heaps ≡ 2
-  pub ruled : book.rule ≡ Greatest
-  pub state : book.state ≡ image_of S h
-
--- these are the books of two heaps, each with its image of the set, which is a closed set of one world with short names
-pub record AreOfSet (S : List Operation) (books : List Book) : Type 0 where
-  pub world : IsWorld 2 S
-  pub closed : IsClosed S
-  pub short : (o : Operation) → IsIn o S → HasShortNames o
-  pub number : length books ≡ 2
-  pub each : (h : ℕ) (book : Book) → slice_get books h ≡ Some book → HasImageIn S h book
 
 -- the answer, or the error of a command that was not begun
 abbrev pub IsAnswer : Word → Word → Type 0

@@ -3,24 +3,17 @@
 use Rattle.rand_core.specs.Pcg32Seed.{pcg32_seed}
 use Rattle.rand_pcg.specs.Lcg.{Lcg}
 use Rattle.rand_pcg.specs.Pcg.{pcg64_of_seed}
-use Rattle.std.specs.Prelude.{Err, List, Result, [], ℕ, ◌+◌, ◌<◌, ◌∷◌, ◌≡◌, ◌≤◌, ◌⊎◌}
-use Rattle.zq_commands.specs.SiteBooks.{empty_book}
+use Rattle.std.specs.Prelude.{Err, List, Result, [], ℕ, ◌∷◌, ◌≡◌, ◌⊎◌}
 use Rattle.zq_history.specs.Books.{Book}
 use Rattle.zq_model.specs.Rule.{Greatest}
-use Rattle.zq_server.specs.Alone.{AnswersAlone}
 use Rattle.zq_server.specs.Passing.{AnswersByCall, Passed, passed}
 use Rattle.zq_server.specs.Session.{Serves, status_of}
 use Rattle.zq_server.specs.declared.outcome.End.{End}
 use Rattle.zq_server.specs.declared.outcome.SessionFault.TheVariants.{NoMemory}
 use Rattle.zq_server.specs.declared.outcome.SessionFault.{SessionFault}
-use Rattle.zq_spread.specs.Calls.{HasSeenBook, heaps_of}
-use Rattle.zq_spread.specs.Companies.{opening_at}
 use Rattle.zq_spread.specs.Makers.{AreEmptyBooks, IsMade}
-use Rattle.zq_spread.specs.Passes.{IsPassOf, steps_at}
-use Rattle.zq_spread.specs.Worn.{reached_at}
 use Rattle.zq_spread.specs.declared.pass.Pass.{Pass}
 use Rattle.zq_spread.specs.declared.site.Site.{Site}
-use Rattle.zq_ticketlock.specs.declared.lock.TheConstants.{LAST_TICKET}
 
 -- the generator of a seed's draws
 abbrev pub draws_of : ℕ → Lcg
@@ -32,24 +25,7 @@ pub record IsOpened (number heaps : ℕ) (site : Site) (pass : Pass) : Type 0 wh
   pub empty : AreEmptyBooks heaps Greatest books
   pub made : IsMade number books 1 site (pass ∷ [])
 
--- the pass has seen no step in any heap of the site but those that it made: nobody else has worked there
-abbrev pub HasWorkedAlone : Site → Pass → Type 0
-HasWorkedAlone site pass = (h : ℕ) → h < heaps_of site → HasSeenBook pass h (λ book. book.count ≤ opening_at site h + steps_at pass h)
-
--- the tickets of the lock of one of the site's heaps are used up, as one of its passes has found
-abbrev pub HasWornLock : Site → Type 0
-HasWornLock site = (pass : Pass) × (h : ℕ) × IsPassOf site pass × (LAST_TICKET ≤ reached_at pass h)
-
--- the books of two heaps in which nothing was done
-abbrev pub both_empty : List Book
-both_empty = empty_book 2 Greatest 0 ∷ empty_book 2 Greatest 1 ∷ []
-
--- each request of the text was answered by site 0 over the books that the one before left, the first over two empty ones
-abbrev pub IsServedAlone : List ℕ → List ℕ → Result End SessionFault → Type 0
-IsServedAlone text written ended = (last : List Book) × Serves (AnswersAlone 0) both_empty last text written ended
-
--- a session with a server of a new site 0 of two heaps, by its one pass and the draws of seed 1, read the text, wrote these bytes and ended with this status:
--- each request was a call of the site, and was answered over what the one before left; of the latter nothing is said where the tickets of a lock are used up
+-- a session with a server of a new site 0 of two heaps, by its one pass and the draws of seed 1, read the text, wrote these bytes and ended with this status
 pub record IsServedAnew (text written : List ℕ) (code : ℕ) : Type 0 where
   pub site : Site
   pub pass : Pass
@@ -57,7 +33,6 @@ pub record IsServedAnew (text written : List ℕ) (code : ℕ) : Type 0 where
   pub last : Passed
   pub ended : Result End SessionFault
   pub serves : Serves AnswersByCall (passed site pass (draws_of 1)) last text written ended
-  pub alone : IsServedAlone text written ended ⊎ HasWornLock site
   pub status : code ≡ status_of ended
 
 -- there was no memory for the site: nothing was read or written

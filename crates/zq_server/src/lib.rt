@@ -16,7 +16,7 @@ mod session_tests;
 mod stream;
 mod transfer;
 
-pub use meanings::{meaning, meaning_alone};
+pub use meanings::meaning;
 pub use outcome::{End, SessionFault, status};
 pub use passing::Passing;
 pub use plain::Plain;

@@ -41,14 +41,6 @@ impl<'a, R: Wait> Passing<'a, R> {
         }
     }
 
-    /// Gives the pass back.
-    pub fn into_pass(self) -> Pass
-        ensures { result ≡ self.entry.pass }
-    {
-        let Passing { pass, .. } = self;
-        pass
-    }
-
     /// The reply to a command, by a call of the site.
     fn run(&mut self, alloc: Global, command: &Command) -> Reply
         ensures ran { IsPassedOn (passed self.old.site.now self.old.pass self.old.draws) command.now (passed self.new.site.now self.new.pass self.new.draws) (reply_bytes result) }
