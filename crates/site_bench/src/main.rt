@@ -46,7 +46,10 @@ fn time_load<R: Clock + Print + Eprint + Threads + Wait + Sync>(
     calls: usize,
 ) -> io::Result<()> {
     let mut draws = Pcg64::new(1, 1);
-    match (requests::fill(alloc), requests::draw(alloc, &mut draws, pop)) {
+    match (
+        requests::fill(alloc),
+        requests::draw(alloc, &mut draws, pop),
+    ) {
         (Some(fill), Some(drawn)) => {
             println!(rt; "{pop}")?;
             eprintln!(rt; "{pop}")?;

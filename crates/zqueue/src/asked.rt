@@ -36,8 +36,7 @@ pub fn asked<R: Env + Alloc<A = Global>>(rt: &R) -> Result<Option<Command>, Allo
 }
 
 /// The command that these words name, of which the first is the program's name.
-fn command_of(alloc: Global, words: &[String]) -> Result<Option<Command>, AllocError>
-{
+fn command_of(alloc: Global, words: &[String]) -> Result<Option<Command>, AllocError> {
     match words {
         [_, word] if word.as_str() == "pipe" => Ok(Some(Command::Pipe)),
         [_, word, path] if word.as_str() == "serve" => {
