@@ -1,5 +1,0 @@
-pub mod Version
-pub mod Spelling
-pub mod Fields
-pub mod Reading
-pub mod Answer

@@ -1,4 +1,0 @@
-pub mod Act
-pub mod Rule
-pub mod Placed
-pub mod OpView

@@ -1,7 +1,0 @@
-mod AllListed
-mod Nexts
-mod Pushed
-mod Rounds
-mod Sames
-mod Sorteds
-mod Stations

@@ -1,5 +1,0 @@
-use Rattle.std.proofs.Common.{take, ◌≡◌}
-use Rattle.zq_entry.proofs.entry.Entry.copy.Given as goal
-
-abbrev pub invariant-loop-place : goal.invariant-loop-place
-invariant-loop-place l = l.additions ≡ take l.place l.self-inside.additions

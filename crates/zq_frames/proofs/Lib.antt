@@ -1,5 +1,0 @@
-mod Answered
-pub mod Again
-mod Repeated
-mod Taken
-mod Same

@@ -1,4 +1,0 @@
-mod Follows
-mod Stays
-mod Parts
-mod Exactly

@@ -1,7 +1,0 @@
-pub mod Dates
-pub mod Steps
-pub mod NewRecords
-mod Tails
-pub mod Kept
-mod Sets
-pub mod Reached

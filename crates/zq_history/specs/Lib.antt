@@ -1,4 +1,0 @@
-pub mod Books
-pub mod Reach
-pub mod Undoing
-pub mod Gathered

@@ -1,6 +1,0 @@
-pub mod Codes
-pub mod Books
-pub mod Records
-pub mod Standing
-pub mod BookView
-pub mod Answers

@@ -1,9 +1,0 @@
-pub mod Parked
-pub mod Inside
-pub mod Calls
-pub mod Node
-pub mod Work
-pub mod Faults
-pub mod Hearing
-pub mod Workers
-pub mod Duties

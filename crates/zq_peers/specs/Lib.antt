@@ -1,4 +1,0 @@
-pub mod Sites
-pub mod Carried
-pub mod Lossy
-pub mod Moves

@@ -1,2 +1,0 @@
-mod Narrow
-mod Lifted

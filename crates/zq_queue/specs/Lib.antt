@@ -1,7 +1,0 @@
-pub mod Entries
-pub mod Codes
-pub mod Queued
-pub mod Listed
-pub mod Lent
-pub mod Built
-pub mod Effects

@@ -1,6 +1,0 @@
-pub mod Order
-pub mod Edits
-pub mod Shape
-pub mod Falls
-pub mod Key
-pub mod Paths

@@ -1,8 +1,0 @@
-pub mod Apart
-pub mod Broken
-pub mod Meant
-pub mod MeantNumbers
-pub mod MeantPorts
-pub mod Seen
-pub mod Steps
-pub mod Told

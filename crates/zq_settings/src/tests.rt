@@ -1,4 +1,0 @@
-//! Texts with settings, and texts that are refused.
-
-mod given;
-mod refused;

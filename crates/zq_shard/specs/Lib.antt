@@ -1,5 +1,0 @@
-pub mod Queues
-pub mod Shard
-pub mod ShardView
-pub mod Taken
-pub mod Listed

@@ -1,4 +1,0 @@
-pub mod Framed
-pub mod Stream
-pub mod Unfinished
-pub mod Laws

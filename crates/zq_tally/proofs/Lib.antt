@@ -1,4 +1,0 @@
-pub mod Sums
-pub mod Balance
-pub mod Seatings
-pub mod Lists

@@ -1,9 +1,0 @@
-pub mod Words
-pub mod Bounds
-pub mod Options
-pub mod OptionsRead
-pub mod Command
-pub mod Refused
-pub mod Shown
-pub mod Limits
-pub mod Heaps

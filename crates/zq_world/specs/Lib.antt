@@ -1,9 +1,0 @@
-pub mod Frames
-pub mod Told
-pub mod Near
-pub mod Play
-pub mod Outcomes
-pub mod Steps
-pub mod Keeping
-pub mod Wanted
-pub mod World

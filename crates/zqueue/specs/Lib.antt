@@ -1,3 +1,0 @@
-pub mod Refusal
-pub mod Configured
-pub mod Asked
