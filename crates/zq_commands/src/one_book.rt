@@ -58,7 +58,7 @@ pub fn make_in(
     ensures worn { IsErrOf result Cut.Worn ↔ (is_worn site book.old ≡ true) }
     ensures refused { OnErr result (book.new ≡ book.old) }
 {
-    match book.make(alloc, site, stamp, key, member, act) {
+    match book.make_here(alloc, site, stamp, key, member, act) {
         Ok(()) => {
             let _vector = book.shard().vector();
             Ok(())

@@ -1,4 +1,4 @@
-// The act: its kind, and the score or the increment of those that have one.
+//! The act: its kind, and the score or the increment of those that have one.
 
 ghost use Rattle.std.specs.Int.{w64};
 ghost use Rattle.std.specs.Prelude.{◌≡◌, ◌++◌, ◌∷◌, IfOk, OnOk, length, take};

@@ -1,3 +1,5 @@
+//! Why bytes are not read as an operation.
+
 use std::alloc::AllocError;
 use zq_parts::PartFault;
 

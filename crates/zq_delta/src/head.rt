@@ -1,4 +1,4 @@
-// The heap and the site.
+//! The heap and the site.
 
 ghost use Rattle.std.specs.Prelude.{◌≡◌, ◌<◌, ◌∷◌, IfOk};
 ghost use Rattle.zq_delta.specs.Fields.{head_at};

@@ -1,3 +1,5 @@
+//! Laws of the spelling: what is written is read again.
+
 ghost use Rattle.std.specs.Prelude.{◌≡◌, ◌++◌, List, Ok, length, ℕ};
 ghost use Rattle.zq_delta.specs.Reading.{found_at};
 ghost use Rattle.zq_delta.specs.Spelling.{op_spelling};

@@ -1,4 +1,4 @@
-// What an operation is made of, before memory is asked for.
+//! What an operation is made of, before memory is asked for.
 
 ghost use Rattle.std.specs.Prelude.{◌≡◌, ◌++◌, IfOk};
 ghost use Rattle.zq_delta.specs.Fields.{fields_at, placed};

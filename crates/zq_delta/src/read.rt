@@ -1,3 +1,5 @@
+//! Reading an operation from the front of some bytes.
+
 ghost use Rattle.std.specs.Prelude.{◌≡◌, ◌++◌, IfOk, List, MatchResult, length, take, ℕ};
 ghost use Rattle.zq_delta.specs.Answer.{Answers};
 ghost use Rattle.zq_delta.specs.Reading.{found_at};

@@ -1,4 +1,4 @@
-// What the operation's site had seen.
+//! What the operation's site had seen.
 
 ghost use Rattle.std.specs.Prelude.{◌≡◌, ◌<◌, ◌++◌, IfOk, Some, slice_index};
 ghost use Rattle.zq_delta.specs.Fields.{vector_at};

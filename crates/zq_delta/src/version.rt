@@ -1,3 +1,5 @@
+//! The versions of an operation's frame.
+
 ghost use Rattle.std.specs.Prelude.{◌≡◌, ◌≤◌, ◌++◌, ◌∷◌, IfOk};
 ghost use Rattle.zq_delta.specs.Answer.{Gives};
 ghost use Rattle.zq_delta.specs.Reading.{version_at};

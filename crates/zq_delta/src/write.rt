@@ -1,3 +1,5 @@
+//! Writing an operation in its newest version.
+
 ghost use Rattle.std.specs.Prelude.{◌≡◌, ◌≤◌, ◌++◌, IfOk, OnErr, OnOk, length, take};
 ghost use Rattle.zq_delta.specs.Spelling.{op_spelling};
 ghost use Rattle.zq_delta.specs.declared.version.Version.TheVariants as version;

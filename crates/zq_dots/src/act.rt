@@ -1,3 +1,5 @@
+//! What an operation does to its member.
+
 ghost use Rattle.std.specs.Prelude.{◌≡◌};
 ghost use Rattle.zq_model.specs.Operation.{IsAct};
 ghost use Rattle.zq_dots.specs.Act.{act_of};

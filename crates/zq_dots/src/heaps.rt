@@ -1,3 +1,5 @@
+//! Which heap a member lies in, by its hash.
+
 ghost use Rattle.std.specs.Prelude.{◌≡◌, ◌≤◌, ◌<◌, fold, length};
 ghost use Rattle.zq_model.specs.Heaps as place;
 ghost use Rattle.zq_model.specs.Operation.{LONGEST};

@@ -1,3 +1,5 @@
+//! An operation of a site, and its parts.
+
 ghost use Rattle.std.specs.Prelude.{◌≡◌, ◌≤◌, ◌<◌, ◌+◌, IfOk, length, slice_index};
 ghost use Rattle.zq_model.specs.Operation.{IsAct};
 ghost use Rattle.zq_model.specs.Sets.{IsCounters, IsHeaps, LAST};

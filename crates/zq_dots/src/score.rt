@@ -1,3 +1,5 @@
+//! Scores and increments, with their range.
+
 ghost use Rattle.std.specs.Prelude.{◌≡◌, SomeIff};
 ghost use Rattle.zq_model.specs.Operation.{MOST, IsWithin};
 

@@ -1,3 +1,5 @@
+//! The numbers of sites.
+
 ghost use Rattle.std.specs.Prelude.{◌≡◌, ◌<◌, SomeIff};
 ghost use Rattle.zq_model.specs.Sets as sets;
 

@@ -1,3 +1,5 @@
+//! Hash values and places known from outside, the limits as numbers, and a call of each.
+
 use super::*;
 use std::test::Fail;
 

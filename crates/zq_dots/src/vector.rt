@@ -1,3 +1,5 @@
+//! Version vectors.
+
 ghost use Rattle.std.specs.Prelude.{◌≡◌, ◌≤◌, ◌+◌, ◌↔◌, ℕ, IsTrue, IfOk, IsErr, slice_index, slice_set};
 ghost use Rattle.zq_model.specs.Operation.{has};
 ghost use Rattle.zq_model.specs.Sets.{LAST, by_site, covers};

@@ -1,3 +1,5 @@
+//! One live addition of a member.
+
 ghost use Rattle.std.specs.Prelude.{◌≡◌, ◌<◌, IfSome};
 ghost use Rattle.zq_model.specs.Sets as sets;
 ghost use Rattle.zq_entry.specs.Lent.{lent};

@@ -1,3 +1,5 @@
+//! An addition that is lent, and what it is worth.
+
 ghost use Rattle.std.specs.Prelude.{◌≡◌, ◌+◌, ◌*◌, ◌≤◌, ◌-◌, ◌↔◌, IfOk, IsTrue};
 ghost use Rattle.zq_model.specs.Entry.{joined, sum_at};
 ghost use Rattle.zq_model.specs.Operation.{IsWithin, MOST};

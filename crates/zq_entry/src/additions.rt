@@ -1,3 +1,5 @@
+//! Lists of additions by rising site, and the changes that an entry makes to them.
+
 ghost use Rattle.std.specs.Prelude.{◌≡◌, ◌≤◌, ◌<◌, ◌*◌, ◌-◌, ◌^◌, ◌++◌, ◌∷◌, [], IfSome, OnErr, OnOk, OnSome, drop, length, map, option_map, slice_index_or};
 ghost use Rattle.std.specs.List.{filter, list_all};
 ghost use Rattle.zq_entry.specs.Changes.{bumped_placed, goes, is_unseen, stays};

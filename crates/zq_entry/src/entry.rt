@@ -1,3 +1,5 @@
+//! The live additions of a member, and what a Put, a Bump, a Drop and a merge make of them.
+
 ghost use Rattle.std.specs.Prelude.{◌≡◌, ◌≢◌, ◌+◌, ◌-◌, ◌*◌, ◌<◌, ◌≤◌, ◌++◌, ◌∷◌, ◌↔◌, [], ℕ, false, length, map, pos, slice_index_or, IfOk, IfSome, IsTrue, OnErr, OnOk, is_none};
 ghost use Rattle.zq_dots.specs.Rule.{rule_of};
 ghost use Rattle.zq_model.specs.Image as model;

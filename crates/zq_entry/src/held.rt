@@ -1,3 +1,5 @@
+//! Where the additions of an entry lie in memory.
+
 ghost use Rattle.std.specs.Prelude.{◌≡◌, ◌++◌, ◌∷◌, [], OnErr, OnOk, length};
 ghost use Rattle.std.specs.List.{filter, list_all};
 ghost use Rattle.zq_entry.specs.Changes.{goes, is_unseen, stays};

@@ -1,3 +1,5 @@
+//! Which of two sites comes first.
+
 ghost use Rattle.std.specs.Prelude.{◌≡◌};
 ghost use Rattle.zq_entry.specs.Sparse.{lower};
 

@@ -1,3 +1,5 @@
+//! Sums of increments by site.
+
 ghost use Rattle.std.specs.Prelude.{◌≡◌, ◌++◌, ◌*◌, ◌-◌, ◌≤◌, ◌+ℤ◌, IfOk, pos, slice_index_or, unwrap_or};
 ghost use Rattle.zq_model.specs.Entry.{sums_joined};
 ghost use Rattle.zq_model.specs.Operation.{IsWithin, MOST};

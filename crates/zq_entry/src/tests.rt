@@ -1,3 +1,5 @@
+//! Two sides that act on a member apart and meet, and an entry of 64 additions.
+
 use super::*;
 use std::alloc::Global;
 use std::process::Abort;

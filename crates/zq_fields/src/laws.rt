@@ -1,4 +1,4 @@
-// Laws of the fields: what is written is read again, whatever follows it.
+//! Laws of the fields: what is written is read again, whatever follows it.
 
 ghost use Rattle.std.specs.Int.{to_be_bytes, w32, w64};
 ghost use Rattle.std.specs.Prelude.{FitsSigned, List, Some, length, ℕ, ℤ, ◌++◌, ◌<◌, ◌^◌, ◌∷◌, ◌≡◌};

@@ -1,3 +1,5 @@
+//! Reading fields, highest byte first.
+
 ghost use Rattle.std.specs.Int.{cast_unsigned, to_be_bytes, w32, w64};
 ghost use Rattle.std.specs.Prelude.{◌≡◌, ◌++◌, ◌∷◌, IfSome, length};
 ghost use Rattle.zq_fields.specs.Fields.{Gives, byte_field, bytes_field, number_field, signed, signed_field};

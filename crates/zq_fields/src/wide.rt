@@ -1,4 +1,4 @@
-// Numbers of sixteen bytes, highest byte first.
+//! Numbers of sixteen bytes, highest byte first.
 
 ghost use Rattle.std.specs.Int.{to_be_bytes, w128};
 ghost use Rattle.std.specs.Prelude.{FitsSigned, IfSome, List, OnErr, OnOk, Some, ℤ, ℕ, ◌≡◌, ◌≤◌, ◌<◌, ◌+◌, ◌++◌};

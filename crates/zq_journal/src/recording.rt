@@ -1,5 +1,5 @@
 //! How a book records what its site makes and takes.
-ghost use Rattle.std.specs.Prelude.{◌≡◌, ◌≢◌, ◌≤◌, ◌<◌, ◌+◌, ◌↔◌, ◌⊎◌, ◌++◌, ◌∷◌, [], IfOk, IsErrOf, List, OnErr, OnOk, length, slice_index, true};
+ghost use Rattle.std.specs.Prelude.{◌≡◌, ◌≢◌, ◌≤◌, ◌<◌, ◌+◌, ◌↔◌, ◌⊎◌, ◌++◌, ◌∷◌, [], IfOk, IsErrOf, List, OnErr, OnOk, length, slice_index, true, ℕ};
 ghost use Rattle.zq_dots.specs.Act.{act_of};
 ghost use Rattle.zq_dots.specs.Placed.{IsRanged, LONGEST};
 ghost use Rattle.zq_history.specs.Books.{Book as Books, Made, Step, is_change_over, recorded};
@@ -49,8 +49,39 @@ impl Book {
             IsWorked self.new a stamp (steps ++ step_of stamp (Made (next_operation (state_of self.old) site key.now member.now (act_of act)).operation) ∷ [])) }
         ensures refused { OnErr result (self.new ≡ self.old) }
     {
+        if heap_of(key, member, self.shard.heaps()) != self.shard.heap() {
+            return Err(MakeFault::WrongHeap);
+        }
+        self.make_here(alloc, site, stamp, key, member, act)
+    }
+
+    /// The same of a member that lies in this heap, which its caller knows: it hashes nothing.
+    ///
+    /// `Worn` where the site's counter or the book's count is at its last value, else `NoMemory` where a growth was
+    /// refused; after each nothing has changed.
+    pub fn make_here(
+        &mut self,
+        alloc: Global,
+        site: SiteNo,
+        stamp: u64,
+        key: &[u8],
+        member: &[u8],
+        act: Act,
+    ) -> Result<(), MakeFault>
+        requires home { place.heap_of key.now member.now self.old.heaps ≡ self.old.heap }
+        requires stamp { self.old.stamp ≤ stamp }
+        requires bounded { stamp ≤ LAST_STAMP }
+        requires key { length key.now ≤ LONGEST }
+        requires member { length member.now ≤ LONGEST }
+        ensures here { IsErrOf result MakeFault.WrongHeap → ⊥ }
+        ensures worn { IsErrOf result MakeFault.Worn ↔ ((slice_index self.old.state.vector site ≡ sets.LAST) ⊎ (self.old.count ≡ LAST_STAMP)) }
+        ensures recorded { OnOk result (self.new ≡ recorded self.old stamp (Made (next_operation (state_of self.old) site key.now member.now (act_of act)).operation)) }
+        ensures worked { OnOk result ((a : Books) (steps : List Step) → IsWorked self.old a stamp steps →
+            IsWorked self.new a stamp (steps ++ step_of stamp (Made (next_operation (state_of self.old) site key.now member.now (act_of act)).operation) ∷ [])) }
+        ensures refused { OnErr result (self.new ≡ self.old) }
+    {
         within(&act);
-        let dot = self.next_dot(site, key, member)?;
+        let dot = self.next_here(site)?;
         let what = Change::Made(Own {
             dot,
             key: Name::copied(alloc, key)?,
@@ -97,22 +128,21 @@ impl Book {
 
     /// The dot of the next operation of a site, where a record of it can be counted.
     #[tactic(auto, unfolding(crate::specs::Books::LAST_STAMP))]
-    fn next_dot(&self, site: SiteNo, key: &[u8], member: &[u8]) -> Result<Dot, MakeFault>
-        requires key { length key.now ≤ LONGEST }
-        requires member { length member.now ≤ LONGEST }
-        ensures wrong_heap { IsErrOf result MakeFault.WrongHeap ↔ (place.heap_of key.now member.now self.now.heaps ≢ self.now.heap) }
-        ensures worn { IsErrOf result MakeFault.Worn ↔ ((place.heap_of key.now member.now self.now.heaps ≡ self.now.heap) × ((slice_index self.now.state.vector site ≡ sets.LAST) ⊎ (self.now.count ≡ LAST_STAMP))) }
-        ensures placed { OnOk result (place.heap_of key.now member.now self.now.heaps ≡ self.now.heap) }
+    fn next_here(&self, site: SiteNo) -> Result<Dot, MakeFault>
+        ensures here { IsErrOf result MakeFault.WrongHeap → ⊥ }
+        ensures memory { IsErrOf result MakeFault.NoMemory → ⊥ }
+        ensures worn { IsErrOf result MakeFault.Worn ↔ ((slice_index self.now.state.vector site ≡ sets.LAST) ⊎ (self.now.count ≡ LAST_STAMP)) }
         ensures site { IfOk result (λ dot. dot.site ≡ site) }
         ensures next { IfOk result (λ dot. dot.n ≡ slice_index self.now.state.vector site + 1) }
         ensures bounded { IfOk result (λ dot. dot.n ≤ sets.LAST) }
-        ensures sound { OnOk result ((act : ModelAct) → IsAct act → IsRanged (next_operation (state_of self.now) site key.now member.now act)) }
+        ensures sound { OnOk result ((key member : List ℕ) (act : ModelAct) → length key ≤ LONGEST → length member ≤ LONGEST → IsAct act →
+            IsRanged (next_operation (state_of self.now) site key member act)) }
         ensures room { OnOk result (self.now.count < LAST_STAMP) }
     {
-        if self.count == LAST && heap_of(key, member, self.shard.heaps()) == self.shard.heap() {
+        if self.count == LAST {
             return Err(MakeFault::Worn);
         }
-        self.shard.next_dot(site, key, member)
+        self.shard.next_here(site)
     }
 
     /// Takes an operation that is new to the state, with a record at this stamp.

@@ -1,3 +1,5 @@
+//! What a faulty link does to a frame, by a word.
+
 ghost use Rattle.std.specs.Prelude.{◌≡◌};
 
 /// What a faulty link does to a frame.

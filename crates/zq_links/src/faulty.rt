@@ -1,3 +1,5 @@
+//! A link that loses, doubles and reorders frames.
+
 ghost use Rattle.std.specs.Prelude.{◌≡◌, ◌≤◌, [], ◌∷◌, length, IfOk, IfErr, OnOk, OnErr, IsOk, vec_capacity};
 ghost use Rattle.zq_links.specs.Faults.{fault_of, passed_on, held_after};
 ghost use Rattle.zq_links.specs.Frames.{frames_in};

@@ -1,4 +1,5 @@
-// Laws of what a faulty link passes on.
+//! Laws of what a faulty link passes on.
+
 ghost use Rattle.zq_links.specs.Runs.{NoneIsInvented, NoneIsRepeated};
 
 /// Each frame that a link passes on was handed in, and it is passed on no more often than it was handed in and doubled.

@@ -1,3 +1,5 @@
+//! What link threads are sent.
+
 /// What a link's thread is sent.
 #[derive(Debug, Drop)]
 pub enum Message {

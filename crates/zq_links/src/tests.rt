@@ -1,3 +1,5 @@
+//! A table of words, and 65 frames held back.
+
 use crate::{Faulty, MOST_HELD};
 use std::alloc::Global;
 use std::test::Fail;

@@ -1,4 +1,4 @@
-// The additions of a member.
+//! The additions of a member.
 
 ghost use Rattle.std.specs.Prelude.{◌≡◌, ◌≤◌, ◌<◌, ◌++◌, ◌∷◌, IfOk, OnOk, [], false, flat_map, length};
 ghost use Rattle.zq_merge.specs.Answer.{Answers};

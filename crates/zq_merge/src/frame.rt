@@ -1,4 +1,4 @@
-// What stands before the keys: the heap, the rule and the vector.
+//! What stands before the keys: the heap, the rule and the vector.
 
 ghost use Rattle.std.specs.Prelude.{◌≡◌, ◌<◌, ◌++◌, ◌∷◌, IfOk};
 ghost use Rattle.zq_dots.specs.Rule.{rule_of};

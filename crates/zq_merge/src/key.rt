@@ -1,4 +1,4 @@
-// Keys with their members, which go into the shard as they are read.
+//! Keys with their members, which go into the shard as they are read.
 
 ghost use Rattle.std.specs.Int.{to_be_bytes, w64};
 ghost use Rattle.std.specs.Prelude.{◌≡◌, ◌≤◌, ◌++◌, ◌∷◌, IfOk, OnOk, [], flat_map, length, option_map, true};

@@ -1,4 +1,4 @@
-// The keys with their members.
+//! The keys with their members.
 
 ghost use Rattle.std.specs.Prelude.{◌≡◌, ◌≤◌, ◌<◌, ◌-◌, ◌++◌, ◌∷◌, OnOk, drop, flat_map, length, map, take};
 ghost use Rattle.zq_merge.specs.Groups.{AreWritable, group_key, group_len};

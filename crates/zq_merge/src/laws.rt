@@ -1,3 +1,5 @@
+//! Laws of the spelling: what is written is read again, and merges as itself.
+
 ghost use Rattle.std.specs.Prelude.{◌≡◌, ◌++◌, List, Ok, ℕ};
 ghost use Rattle.zq_merge.specs.State.{HasSpelling, IsState, state_at, state_spelling};
 ghost use Rattle.zq_merge.specs.declared.version.Version.{Version};

@@ -1,4 +1,4 @@
-// Members with their entries.
+//! Members with their entries.
 
 ghost use Rattle.std.specs.Prelude.{◌≡◌, ◌≤◌, ◌++◌, IfOk, false, length, option_map, true};
 ghost use Rattle.zq_dots.specs.Placed as placed;

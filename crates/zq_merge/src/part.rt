@@ -1,4 +1,4 @@
-// Parts that states have in common with other frames, with the state's faults.
+//! Parts that states have in common with other frames, with the state's faults.
 
 ghost use Rattle.std.specs.Int.{to_be_bytes, w64};
 ghost use Rattle.std.specs.Prelude.{◌≡◌, ◌<◌, ◌≤◌, ◌++◌, ◌∷◌, IfOk};

@@ -1,3 +1,5 @@
+//! Reading a state.
+
 ghost use Rattle.std.specs.Prelude.{◌≡◌, Err, IfErr, IfOk, MatchResult, OnOk, []};
 ghost use Rattle.zq_merge.specs.Answer.{Answers};
 ghost use Rattle.zq_merge.specs.State.{HasSpelling, IsState, end_at, state_at, state_spelling};

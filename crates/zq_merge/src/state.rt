@@ -1,3 +1,5 @@
+//! Writing a state in its newest version.
+
 ghost use Rattle.std.specs.Prelude.{◌≡◌, ◌++◌, ◌∷◌, IfOk, Ok, OnOk};
 ghost use Rattle.zq_dots.specs.Rule.{rule_of};
 ghost use Rattle.zq_merge.specs.Spelling as spell;

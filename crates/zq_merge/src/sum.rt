@@ -1,4 +1,4 @@
-// One sum of increments.
+//! One sum of increments.
 
 ghost use Rattle.std.specs.Int.{w128};
 ghost use Rattle.std.specs.Prelude.{◌≡◌, ◌<◌, ◌≤◌, ◌*◌, ◌++◌, IfOk, slice_index};
@@ -13,11 +13,8 @@ ghost use Rattle.zq_model.specs.Sets as sets;
 
 use crate::fault::StateFault;
 use crate::part::read_rising_site;
-use zq_dots::{SITES, SiteNo, Vector};
+use zq_dots::{GREATEST, SITES, SiteNo, Vector};
 use zq_fields::read_i128;
-
-// The greatest amount of an increment.
-const GREATEST: u128 = 9_007_199_254_740_992;
 
 /// The greatest amount of a site's sum: the greatest increment for each operation of the site that the vector knows.
 #[tactic(auto, unfolding(zq_model::specs::Sets::LAST))]
@@ -25,7 +22,7 @@ pub(crate) fn most(vector: &Vector, site: SiteNo) -> u128
     ensures exact { result ≡ MOST * slice_index vector.now site }
     ensures bounded { result ≤ MOST_SUM }
 {
-    GREATEST * u128::from(vector.get(site))
+    u128::from(GREATEST.unsigned_abs()) * u128::from(vector.get(site))
 }
 
 /// Takes a sum of sixteen bytes, of at most this amount.

@@ -1,4 +1,4 @@
-// The sums of an addition.
+//! The sums of an addition.
 
 ghost use Rattle.std.specs.Prelude.{◌≡◌, ◌<◌, ◌++◌, ◌∷◌, IfOk, OnOk, [], flat_map, length};
 ghost use Rattle.zq_entry.specs.Sums.{AreSums, dense_sums, nonzero_sums};

@@ -1,3 +1,5 @@
+//! Frames of an independent codec, beginnings and changed bytes.
+
 ghost use Rattle.std.specs.Prelude.{◌≤◌};
 
 mod vectors;

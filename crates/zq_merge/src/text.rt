@@ -1,4 +1,4 @@
-// Keys and members in rising order.
+//! Keys and members in rising order.
 
 ghost use Rattle.std.specs.Prelude.{◌≡◌, ◌≤◌, ◌<◌, ◌++◌, IfOk, length, option_map, true};
 ghost use Rattle.zq_dots.specs.Placed as placed;

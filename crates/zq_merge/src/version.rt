@@ -1,3 +1,5 @@
+//! The versions of a state's frame.
+
 ghost use Rattle.std.specs.Prelude.{◌≡◌, ◌≤◌, ◌∷◌, IfOk};
 ghost use Rattle.zq_merge.specs.Answer.{Gives};
 ghost use Rattle.zq_merge.specs.State.{version_at};

@@ -1,3 +1,5 @@
+//! Writing a member with its additions.
+
 ghost use Rattle.std.specs.Int.{to_be_bytes, w64};
 ghost use Rattle.std.specs.Prelude.{◌≡◌, ◌≤◌, ◌<◌, ◌++◌, OnOk, flat_map, length, take};
 ghost use Rattle.zq_dots.specs.Placed as placed;

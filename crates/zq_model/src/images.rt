@@ -1,4 +1,4 @@
-// What the image of a set holds.
+//! What the image of a set holds.
 
 ghost use Rattle.std.specs.Prelude.{List, slice_index, ℕ, ◌*◌, ◌<◌, ◌≡◌};
 ghost use Rattle.zq_model.specs.Entry.{Addition, sum_at};

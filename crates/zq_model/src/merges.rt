@@ -1,4 +1,4 @@
-// Laws of the join of images: it is the image of the union of the sets.
+//! Laws of the join of images: it is the image of the union of the sets.
 
 ghost use Rattle.std.specs.Prelude.{List, ◌++◌, ◌≡◌, ◌≢◌, ℕ};
 ghost use Rattle.zq_model.specs.Image.{empty_image, image_of, join};

@@ -1,4 +1,4 @@
-// What a key's queue is: of images, and of a set of operations.
+//! What a key's queue is: of images, and of a set of operations.
 
 ghost use Rattle.std.specs.List.{range_with_len};
 ghost use Rattle.std.specs.Prelude.{List, [], map, neg_ℤ, pos, ℕ, ℤ, ◌<◌, ◌∷◌, ◌≡◌};

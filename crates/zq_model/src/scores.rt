@@ -1,4 +1,4 @@
-// What a member's score is: of an entry, and of a set of operations.
+//! What a member's score is: of an entry, and of a set of operations.
 
 ghost use Rattle.std.specs.Prelude.{List, None, Option, Some, ℕ, ℤ, ◌↔◌, ◌≡◌};
 ghost use Rattle.zq_model.specs.Entry.{Addition};

@@ -1,4 +1,4 @@
-// Laws of one more operation: what it makes of the image, and what a site's vector tells of it.
+//! Laws of one more operation: what it makes of the image, and what a site's vector tells of it.
 
 ghost use Rattle.std.specs.Prelude.{List, true, ◌∷◌, ◌≡◌, ℕ};
 ghost use Rattle.zq_model.specs.Image.{image_after, image_of};

@@ -1,4 +1,4 @@
-// Laws of a tail of operations over a set: what a peer takes of it, and where that leads.
+//! Laws of a tail of operations over a set: what a peer takes of it, and where that leads.
 
 ghost use Rattle.std.specs.Prelude.{List, true, ◌++◌, ◌≡◌, ℕ};
 ghost use Rattle.zq_model.specs.Image.{image_of, join};

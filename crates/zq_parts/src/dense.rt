@@ -1,4 +1,4 @@
-// Version vectors with a counter for each of the first eight sites.
+//! Version vectors with a counter for each of the first eight sites.
 
 ghost use Rattle.std.specs.Prelude.{◌≡◌, ◌++◌, IfOk};
 ghost use Rattle.zq_model.specs.Sets as sets;

@@ -1,3 +1,5 @@
+//! A heap, and the number of heaps.
+
 ghost use Rattle.std.specs.Prelude.{◌≡◌, ◌<◌, ◌∷◌, IfOk};
 ghost use Rattle.zq_model.specs.Sets.{IsHeaps};
 ghost use Rattle.zq_parts.specs.Reading as read;

@@ -1,4 +1,4 @@
-// Laws of the parts: what is written is read again, whatever follows it.
+//! Laws of the parts: what is written is read again, whatever follows it.
 
 ghost use Rattle.std.specs.Int.{w64};
 ghost use Rattle.std.specs.Prelude.{List, Ok, Option, length, ℕ, ℤ, ◌++◌, ◌<◌, ◌≡◌, ◌≤◌, ◌∷◌};

@@ -1,3 +1,5 @@
+//! The greatest counter that a vector may have for a site.
+
 ghost use Rattle.std.specs.Prelude.{◌≡◌};
 ghost use Rattle.zq_parts.specs.Vectors as vectors;
 

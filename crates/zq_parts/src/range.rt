@@ -1,4 +1,4 @@
-// Numbers in a range.
+//! Numbers in a range.
 
 ghost use Rattle.std.specs.Int.{to_be_bytes, w64};
 ghost use Rattle.std.specs.Prelude.{◌≡◌, ◌<◌, ◌≤◌, ◌++◌, ◌∷◌, IfOk};

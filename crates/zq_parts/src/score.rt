@@ -1,4 +1,4 @@
-// Scores and increments.
+//! Scores and increments.
 
 ghost use Rattle.std.specs.Int.{w64};
 ghost use Rattle.std.specs.Prelude.{◌≡◌, ◌++◌, IfOk, OnErr, OnOk};

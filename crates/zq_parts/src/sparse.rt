@@ -1,4 +1,4 @@
-// Version vectors with an entry for each site of which anything is known.
+//! Version vectors with an entry for each site of which anything is known.
 
 ghost use Rattle.std.specs.Int.{to_be_bytes, w64};
 ghost use Rattle.std.specs.Prelude.{◌≡◌, ◌≤◌, ◌<◌, ◌++◌, ◌∷◌, IfOk, OnOk, count_by, length, take};

@@ -1,3 +1,5 @@
+//! A call of each reader and writer.
+
 use super::*;
 use std::test::Fail;
 use zq_dots::{Score, SiteNo, Vector};

@@ -1,4 +1,4 @@
-// Keys and members: four bytes of length, and as many bytes.
+//! Keys and members: four bytes of length, and as many bytes.
 
 ghost use Rattle.std.specs.Prelude.{◌≡◌, ◌≤◌, ◌++◌, IfOk, OnOk, length, take};
 ghost use Rattle.zq_dots.specs.Placed as placed;

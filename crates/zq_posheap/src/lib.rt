@@ -7,6 +7,7 @@
 #![tactic(auto)]
 
 mod changes;
+mod guess;
 mod hashing;
 mod heap;
 pub mod laws;
@@ -19,6 +20,7 @@ mod seeded;
 #[cfg(test)]
 mod tests;
 
+pub use guess::Guess;
 pub use name::{Name, NameRef};
 pub use pairs::Pairs;
 pub use place::Place;

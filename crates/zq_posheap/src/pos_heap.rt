@@ -7,8 +7,9 @@ ghost use Rattle.zq_posheap.specs.Listing.{lent_pair};
 ghost use Rattle.zq_posheap.specs.Members.{HasPlace, IsPlaceOf, scores_of};
 ghost use Rattle.zq_posheap.specs.Order.{Scored};
 
+use crate::guess::Guess;
 use crate::heap::Heap;
-use crate::name::{Name, NameRef};
+use crate::name::Name;
 use crate::place::Place;
 use crate::seeded::Seeded;
 use indexmap::IndexMap;
@@ -20,6 +21,7 @@ use std::marker::Model;
 #[derive(Drop)]
 pub struct PosHeap<V> {
     pub(crate) heap: Heap<V>,
+    guess: Guess,
 }
 
 impl<V> Model for PosHeap<V> {
@@ -58,6 +60,7 @@ impl<V: Drop> PosHeap<V> {
                 positions: Vec::new(alloc),
                 members: IndexMap::with_hasher(alloc, hasher),
             },
+            guess: Guess::new(),
         }
     }
 
@@ -90,7 +93,15 @@ impl<V: Drop> PosHeap<V> {
         ensures first { IfSome result (λ pair. IsFirst (scores_of self.now.held) (lent_pair pair)) }
         ensures head { (pairs : List Scored) → ListsInOrder (scores_of self.now.held) pairs → slice_get pairs 0 ≡ option_map lent_pair result }
     {
+        self.foresee();
         self.heap.first()
+    }
+
+    /// Begins the next look-up at the first member: what is read at the head is often taken out.
+    fn foresee(&self) {
+        if let Some(first) = self.heap.slots.first() {
+            self.guess.note(first.index);
+        }
     }
 
     /// Where a member is, for the calls that follow: the one look-up of a call that reads what is there and changes it.
@@ -99,7 +110,7 @@ impl<V: Drop> PosHeap<V> {
         ensures place { IfSome result (IsPlaceOf self.now member.now) }
         ensures has_place { IfSome result (HasPlace self.now) }
     {
-        let index = self.heap.members.get_index_of(NameRef(member))?;
+        let index = self.guess.find(&self.heap.members, member)?;
         Some(Place { index })
     }
 

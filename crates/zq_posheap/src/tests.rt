@@ -1,4 +1,7 @@
-use super::{PosHeap, Seeded};
+//! Drawn steps against an ordered map, a table of ranks, bounds and values, and look-ups by a guess.
+
+use super::{Guess, Name, PosHeap, Seeded};
+use indexmap::IndexMap;
 use rand_core::{Rng, SeedableRng};
 use rand_pcg::Pcg64;
 use std::collections::BTreeMap;
@@ -144,5 +147,21 @@ fn counts_what_goes_before(rt: HostRuntime) -> Result<(), Fail> {
         sum = sum.wrapping_add(*value);
     }
     assert_eq!(rt; sum, 60);
+    Ok(())
+}
+
+#[test]
+fn finds_names_wherever_it_guesses(rt: HostRuntime) -> Result<(), Fail> {
+    let mut names = IndexMap::with_hasher(rt.alloc(), Seeded::new(7));
+    names.insert(Name::copied(rt.alloc(), b"one")?, 1)?;
+    names.insert(Name::copied(rt.alloc(), b"two")?, 2)?;
+    let guess = Guess::new();
+    for place in [0, 1, 2, usize::MAX] {
+        guess.note(place);
+        assert_eq!(rt; guess.find(&names, b"two"), Some(1));
+        assert_eq!(rt; guess.find(&names, b"two"), Some(1));
+        assert_eq!(rt; guess.find(&names, b"three"), None);
+        assert_eq!(rt; guess.get(&names, b"one").copied(), Some(1));
+    }
     Ok(())
 }

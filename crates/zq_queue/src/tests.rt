@@ -1,3 +1,5 @@
+//! A table of steps on the members of a key.
+
 use super::*;
 use std::alloc::Global;
 use std::process::Abort;

@@ -1,3 +1,5 @@
+//! Drawn steps against a plain list, and filling and emptying at each length.
+
 use super::Ranked;
 use rand_core::{Rng, SeedableRng};
 use rand_pcg::Pcg64;

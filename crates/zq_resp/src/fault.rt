@@ -1,3 +1,5 @@
+//! Why a reader stops, and what it had read before.
+
 ghost use Rattle.std.specs.Prelude.{◌≡◌};
 
 use crate::request::Request;

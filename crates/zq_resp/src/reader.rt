@@ -1,3 +1,5 @@
+//! Requests out of a stream that comes in pieces.
+
 ghost use Rattle.std.specs.Prelude.{◌≡◌, [], Some};
 ghost use Rattle.zq_resp.specs.Stream.{Feeds, answered, is_inside};
 

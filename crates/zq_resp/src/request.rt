@@ -1,3 +1,5 @@
+//! A request, and which ones are kept for their memory.
+
 ghost use Rattle.std.specs.Prelude.{◌≡◌, map};
 ghost use Rattle.zq_resp.specs.Request.{IsRequest};
 

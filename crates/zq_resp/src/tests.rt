@@ -1,3 +1,5 @@
+//! Pieces, faults at their bytes, and what is done with memory.
+
 use crate::{FeedFault, Reader, Request};
 use std::alloc::Global;
 use std::test::Fail;

@@ -1,4 +1,6 @@
+pub mod GatheredBytes
 pub mod KnownBytes
+pub mod Replied
 pub mod Runs
 pub mod Served
 pub mod ServedAs

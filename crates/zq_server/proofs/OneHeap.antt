@@ -15,7 +15,7 @@ use Rattle.zq_model.specs.Sets.{IsIn}
 use Rattle.zq_plans.specs.Replies.{bytes_of}
 use Rattle.zq_plans.specs.Run.{IsRun, Memory, Number, cut_error}
 use Rattle.zq_resp.specs.Reply.{line}
-use Rattle.zq_server.specs.Refusals.{IsRefused}
+use Rattle.zq_server.specs.Refusals.{IsRefusalOf}
 use Rattle.zq_server.specs.Plain.{IsOfOneHeap, RunsCommand, RunsReading, SITE, is_ping, no_keys, runs, stamp_in, unread, worn}
 use Rattle.zq_words.specs.Command.{Command, Reading}
 use Rattle.zq_words.specs.Refused.{refused_text}
@@ -74,6 +74,6 @@ module _ (old : List Book) (are : IsOfOneHeap old) (command : Command) (apart : 
 
 -- ---- a refusal
 
-pub refusal_runs : (reading : Reading) (s : List Book) (bytes : Word) → IsRefused reading bytes → RunsReading s reading s bytes
+pub refusal_runs : (reading : Reading) (s : List Book) (bytes : Word) → IsRefusalOf reading bytes → RunsReading s reading s bytes
 refusal_runs (Ok command) s bytes is = unread is.0 refl is.1
 refusal_runs (Err refused) s bytes is = (refl, is)

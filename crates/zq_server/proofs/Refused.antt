@@ -7,7 +7,7 @@ use Rattle.zq_plans.specs.Replies.{bytes_of}
 use Rattle.zq_plans.specs.Run.{Memory, cut_error}
 use Rattle.zq_resp.specs.Reply.{line}
 use Rattle.zq_server.specs.Passing.{Passed, PassesReading}
-use Rattle.zq_server.specs.Refusals.{IsRefused}
+use Rattle.zq_server.specs.Refusals.{IsRefusalOf}
 use Rattle.zq_words.specs.Command.{Reading}
 use Rattle.zq_words.specs.Refused.{refused_text}
 use Rattle.zq_words.specs.Shown.{IsRefusal}
@@ -23,20 +23,20 @@ differ : false ≡ true → ⊥
 differ e = cc
 
 -- the text of a refusal is what is written for the request that was refused
-pub refusal_read : (why : Refused) (reading : Reading) (bytes : Word) → IsRefusal why reading → bytes ≡ 45 ∷ line (refused_text why) → IsRefused reading bytes
-refusal_read Unknown reading bytes is says = subst (λ r. IsRefused r bytes) (sym is) says
-refusal_read Words reading bytes is says = subst (λ r. IsRefused r bytes) (sym is) says
-refusal_read Syntax reading bytes is says = subst (λ r. IsRefused r bytes) (sym is) says
-refusal_read Flags reading bytes is says = subst (λ r. IsRefused r bytes) (sym is) says
-refusal_read OnePair reading bytes is says = subst (λ r. IsRefused r bytes) (sym is) says
-refusal_read Score reading bytes is says = subst (λ r. IsRefused r bytes) (sym is) says
-refusal_read Whole reading bytes is says = subst (λ r. IsRefused r bytes) (sym is) says
-refusal_read Negative reading bytes is says = subst (λ r. IsRefused r bytes) (sym is) says
-refusal_read Bound reading bytes is says = subst (λ r. IsRefused r bytes) (sym is) says
+pub refusal_read : (why : Refused) (reading : Reading) (bytes : Word) → IsRefusal why reading → bytes ≡ 45 ∷ line (refused_text why) → IsRefusalOf reading bytes
+refusal_read Unknown reading bytes is says = subst (λ r. IsRefusalOf r bytes) (sym is) says
+refusal_read Words reading bytes is says = subst (λ r. IsRefusalOf r bytes) (sym is) says
+refusal_read Syntax reading bytes is says = subst (λ r. IsRefusalOf r bytes) (sym is) says
+refusal_read Flags reading bytes is says = subst (λ r. IsRefusalOf r bytes) (sym is) says
+refusal_read OnePair reading bytes is says = subst (λ r. IsRefusalOf r bytes) (sym is) says
+refusal_read Score reading bytes is says = subst (λ r. IsRefusalOf r bytes) (sym is) says
+refusal_read Whole reading bytes is says = subst (λ r. IsRefusalOf r bytes) (sym is) says
+refusal_read Negative reading bytes is says = subst (λ r. IsRefusalOf r bytes) (sym is) says
+refusal_read Bound reading bytes is says = subst (λ r. IsRefusalOf r bytes) (sym is) says
 refusal_read NoMemory (Ok command) bytes is says = (is, says ∙ no_memory)
 refusal_read NoMemory (Err why) bytes is says = absurd (differ is)
 
 -- a refused request changes nothing of a server of a site
-pub refusal_passes : (reading : Reading) (s : Passed) (bytes : Word) → IsRefused reading bytes → PassesReading s reading s bytes
+pub refusal_passes : (reading : Reading) (s : Passed) (bytes : Word) → IsRefusalOf reading bytes → PassesReading s reading s bytes
 refusal_passes (Ok command) s bytes is = inr (refl, is)
 refusal_passes (Err refused) s bytes is = (refl, is)

@@ -85,3 +85,16 @@ pub begun-whole : {S : Type 0} (answers : Relation S) (a b : S) (requests : Requ
     → IsAnswered answers a b requests bytes → IsBegun answers a b requests bytes
 begun-whole answers a b requests bytes p =
     (requests, [], [], sym (append-nil requests), subst (IsAnswered answers a b requests) (sym (append-nil bytes)) p)
+
+-- The last reply was made, and the writer failed in it or before.
+pub begun-more : {S : Type 0} (answers : Relation S) (a b c : S) (requests : Requests) (i : ℕ) (request : List (List ℕ)) (reply : Reply) (bytes : List ℕ)
+    → i < length requests → request ≡ get_or requests i request → IsAnswered answers a b (take i requests) bytes → answers b request reply c
+    → IsBegun answers a c requests (bytes ++ reply_bytes reply)
+begun-more answers a b c requests i request reply bytes h e p q = (
+  take (i + 1) requests,
+  drop (i + 1) requests,
+  [],
+  sym (take-append-drop (i + 1) requests),
+  subst (IsAnswered answers a c (take (i + 1) requests)) (sym (append-nil (bytes ++ reply_bytes reply)))
+      (answered-more answers a b c requests i request reply bytes h e p q),
+)

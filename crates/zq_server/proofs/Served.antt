@@ -1,16 +1,19 @@
 -- What a session has served, with one more piece.
-use Rattle.std.proofs.Common.{◌≡◌, List, ℕ, [], ◌++◌, Option, Some, Result, Ok, Err, sym, ap, subst, ◌∙◌, append_assoc, append-nil, refl, ◌≤◌, length, arith, inl, inr, take, drop, take-append-drop}
-use Rattle.std.specs.Io.KnownBytes.{IsAtEnd}
-use Rattle.std.specs.declared.alloc.AllocError.{AllocError}
-use Rattle.zq_resp.specs.Stream.{Requests, Splits, handed}
+use Rattle.std.proofs.Common.{◌≡◌, List, ℕ, [], ◌++◌, Option, None, Some, Result, Ok, Err, sym, ap, subst, ◌∙◌, append_assoc, append-nil, refl, ◌≤◌, length, arith, inl, inr, take, drop, take-append-drop}
+use Rattle.std.specs.Io.KnownBytes.{Appends, IsAtEnd}
+use Rattle.zq_server.proofs.GatheredBytes.{all-written, front-written, puts-cut}
+use Rattle.zq_server.specs.Gathering.{Puts, held}
+use Rattle.zq_resp.specs.Stream.{Feeds, Reaches, Requests, Splits, Stops, handed}
+use Rattle.zq_resp.specs.declared.fault.FeedFault.TheVariants as fault
+use Rattle.zq_resp.specs.declared.fault.FeedFault.{FeedFault}
 use Rattle.zq_server.specs.declared.serving.Served.{Served}
 use Rattle.zq_server.specs.declared.serving.Served.TheVariants.{More, Broken}
 use Rattle.zq_server.specs.declared.outcome.End.{End}
 use Rattle.zq_server.specs.declared.outcome.End.TheVariants.{Clean, Inside, Protocol}
 use Rattle.zq_server.specs.declared.outcome.SessionFault.{SessionFault}
 use Rattle.zq_server.specs.declared.outcome.SessionFault.TheVariants as stop
-use Rattle.zq_server.specs.Session.{Relation, IsAnswered, IsBegun, IsClosed, IsOwed, IsReadOff, Serves, closing}
-use Rattle.zq_server.specs.Serving.{ServesPiece, GoesOn, EndsWith}
+use Rattle.zq_server.specs.Session.{Relation, IsAnswered, IsBegun, IsClosed, IsOwed, IsReadOff, IsStopped, Serves, closing}
+use Rattle.zq_server.specs.Serving.{AnswersAll, EndsWith, ServesLast, ServesPiece}
 use Rattle.zq_server.proofs.Runs.{answered-none, answered-join, begun-whole, stopped-whole, stopped-begun}
 use Rattle.zq_server.proofs.Streams.{reaches-on, splits-on, breaks-on, splits-none, handed-append}
 
@@ -50,7 +53,7 @@ module _ {S : Type 0} (answers : Relation S) where
   )
 
   pub stands-on : (old mid new : S) (text written had piece : List ℕ) (bytes : List ℕ) (kept : Option (List ℕ))
-      → Stands old mid text written had → ServesPiece answers mid new had piece kept (Ok More) bytes
+      → Stands old mid text written had → ServesPiece answers mid new had piece kept bytes (Ok More)
       → (has : List ℕ) × (kept ≡ Some has) × Stands old new (text ++ piece) (written ++ bytes) has
   stands-on old mid new text written had piece bytes kept s p = (
     p.1,
@@ -77,17 +80,19 @@ module _ {S : Type 0} (answers : Relation S) where
 
   -- the input breaks the protocol in a piece
   pub breaks-off : (old mid new : S) (text written had piece bytes : List ℕ) (kept : Option (List ℕ))
-      → Stands old mid text written had → ServesPiece answers mid new had piece kept (Ok Broken) bytes → Serves answers old new (text ++ piece) (written ++ bytes) (Ok Protocol)
+      → Stands old mid text written had → ServesPiece answers mid new had piece kept bytes (Ok Broken) → Serves answers old new (text ++ piece) (written ++ bytes) (Ok Protocol)
   breaks-off old mid new text written had piece bytes kept s p =
       (s.all ++ p.0, p.1, breaks-on text had piece s.all p.0 p.1 s.splits p.2, closed-on old mid new s.all p.0 written bytes s.answered p.3)
 
   -- what a piece is answered with is owed
-  pub owed-whole : (old new : S) (had piece bytes : List ℕ) (kept : Option (List ℕ)) (result : Result Served AllocError)
-      → ServesPiece answers old new had piece kept result bytes → IsOwed answers old new (had ++ piece) bytes
+  pub owed-whole : (old new : S) (had piece bytes : List ℕ) (kept : Option (List ℕ)) (result : Result Served SessionFault)
+      → ServesPiece answers old new had piece kept bytes result → IsOwed answers old new (had ++ piece) bytes
   owed-whole old new had piece bytes kept (Ok More) p = inl (p.0, p.1, p.3.reaches, begun-whole answers old new (handed p.0) bytes p.4)
   owed-whole old new had piece bytes kept (Ok Broken) p =
       inr (p.0, p.1, [], p.2, subst (IsClosed answers old new (handed p.0)) (sym (append-nil bytes)) p.3)
-  owed-whole old new had piece bytes kept (Err error) p = inl (p.0, p.1, p.2, stopped-begun answers old new (handed p.0) bytes p.3)
+  owed-whole old new had piece bytes kept (Err stop.Read) p = absurd p
+  owed-whole old new had piece bytes kept (Err stop.Write) p = p
+  owed-whole old new had piece bytes kept (Err stop.NoMemory) p = inl (p.0, p.1, p.2, stopped-begun answers old new (handed p.0) bytes p.3)
 
   -- A front of what is owed is owed.
   owed-front : (old new : S) (text front back : List ℕ) → IsOwed answers old new text (front ++ back) → IsOwed answers old new text front
@@ -97,18 +102,107 @@ module _ {S : Type 0} (answers : Relation S) where
   owed-front old new text front back (inr p) =
       inr (p.0, p.1, back ++ p.2, p.3, subst (IsClosed answers old new (handed p.0)) (append_assoc front back p.2) p.4)
 
-  pub owed-cut : (old new : S) (text bytes : List ℕ) (at : ℕ) → IsOwed answers old new text bytes → IsOwed answers old new text (take at bytes)
-  owed-cut old new text bytes at p =
-      owed-front old new text (take at bytes) (drop at bytes) (subst (IsOwed answers old new text) (sym (take-append-drop at bytes)) p)
+  -- what was written of a piece's answer is owed
+  pub owed-written : (old new : S) (had piece bytes front back : List ℕ) (kept : Option (List ℕ)) (result : Result Served SessionFault)
+      → ServesPiece answers old new had piece kept bytes result → bytes ≡ front ++ back → IsOwed answers old new (had ++ piece) front
+  owed-written old new had piece bytes front back kept result p e =
+      owed-front old new (had ++ piece) front back (subst (IsOwed answers old new (had ++ piece)) e (owed-whole old new had piece bytes kept result p))
 
-  pub goes-on : (old new : S) (had piece bytes : List ℕ) (kept : Option (List ℕ)) (served : Served)
-      → ServesPiece answers old new had piece kept (Ok served) bytes → GoesOn answers old new had piece kept bytes (Ok served)
-  goes-on old new had piece bytes kept More p = p
-  goes-on old new had piece bytes kept Broken p = p
+  -- a fault within the requests of a piece
+  pub piece-stops : (old new : S) (had piece bytes rest : List ℕ) (all : Requests) (kept : Option (List ℕ)) (why : SessionFault)
+      → Reaches (had ++ piece) all rest → AnswersAll answers old new (handed all) bytes (Err why) → ServesPiece answers old new had piece kept bytes (Err why)
+  piece-stops old new had piece bytes rest all kept stop.Read r p = absurd p
+  piece-stops old new had piece bytes rest all kept stop.Write r p = inl (all, rest, r, p)
+  piece-stops old new had piece bytes rest all kept stop.NoMemory r p = (all, rest, r, p)
+
+  pub last-stops : (old new : S) (why : FeedFault) (requests : Requests) (bytes : List ℕ) (stopped : SessionFault)
+      → AnswersAll answers old new requests bytes (Err stopped) → ServesLast answers old new why requests bytes (Err stopped)
+  last-stops old new why requests bytes stop.Read p = absurd p
+  last-stops old new why requests bytes stop.Write p = p
+  last-stops old new why requests bytes stop.NoMemory p = p
+
+  -- a piece whose requests are answered
+  piece-is-more : (old new : S) (had piece bytes : List ℕ) (requests : Requests) (kept : Option (List ℕ))
+      → Feeds (Some had) piece (Ok requests) kept → IsAnswered answers old new requests bytes → ServesPiece answers old new had piece kept bytes (Ok More)
+  piece-is-more old new had piece bytes requests None f p = absurd f
+  piece-is-more old new had piece bytes requests (Some has) f p =
+      (f.0, has, refl, f.1, subst (λ handed_out. IsAnswered answers old new handed_out bytes) f.2 p)
+
+  pub piece-more : (old new : S) (had piece bytes : List ℕ) (requests : Requests) (before kept : Option (List ℕ))
+      → before ≡ Some had → Feeds before piece (Ok requests) kept → IsAnswered answers old new requests bytes → ServesPiece answers old new had piece kept bytes (Ok More)
+  piece-more old new had piece bytes requests before kept is f p =
+      piece-is-more old new had piece bytes requests kept (subst (λ b. Feeds b piece (Ok requests) kept) is f) p
+
+  piece-is-cut : (old new : S) (had piece bytes : List ℕ) (requests : Requests) (fed kept : Option (List ℕ)) (why : SessionFault)
+      → Feeds (Some had) piece (Ok requests) fed → AnswersAll answers old new requests bytes (Err why) → ServesPiece answers old new had piece kept bytes (Err why)
+  piece-is-cut old new had piece bytes requests None kept why f p = absurd f
+  piece-is-cut old new had piece bytes requests (Some has) kept why f p =
+      piece-stops old new had piece bytes has f.0 kept why f.1.reaches (subst (λ handed_out. AnswersAll answers old new handed_out bytes (Err why)) f.2 p)
+
+  pub piece-cut : (old new : S) (had piece bytes : List ℕ) (requests : Requests) (before fed kept : Option (List ℕ)) (why : SessionFault)
+      → before ≡ Some had → Feeds before piece (Ok requests) fed → AnswersAll answers old new requests bytes (Err why) → ServesPiece answers old new had piece kept bytes (Err why)
+  piece-cut old new had piece bytes requests before fed kept why is f p =
+      piece-is-cut old new had piece bytes requests fed kept why (subst (λ b. Feeds b piece (Ok requests) fed) is f) p
+
+  -- the requests before a fault are the first of the text's
+  reached : (text : List ℕ) (why : FeedFault) (requests : Requests) → Stops text why requests
+      → (all : Requests) × (rest : List ℕ) × Reaches text all rest × (requests ≡ handed all)
+  reached text fault.Protocol requests f = (f.0, f.1.rest, f.1.reaches, f.2)
+  reached text fault.TooLong requests f = (f.0, f.1.rest, f.1.reaches, f.2)
+  reached text fault.NoMemory requests f = f
+  reached text fault.Over requests f = absurd f
+
+  -- a piece that is the last
+  piece-ends : (old new : S) (had piece bytes : List ℕ) (requests : Requests) (kept : Option (List ℕ)) (why : FeedFault) (result : Result Served SessionFault)
+      → Stops (had ++ piece) why requests → ServesLast answers old new why requests bytes result → ServesPiece answers old new had piece kept bytes result
+  piece-ends old new had piece bytes requests kept why (Ok More) f p = absurd p
+  piece-ends old new had piece bytes requests kept fault.Protocol (Ok Broken) f p =
+      (f.0, fault.Protocol, f.1, subst (λ handed_out. IsClosed answers old new handed_out bytes) f.2 p.1)
+  piece-ends old new had piece bytes requests kept fault.TooLong (Ok Broken) f p =
+      (f.0, fault.TooLong, f.1, subst (λ handed_out. IsClosed answers old new handed_out bytes) f.2 p.1)
+  piece-ends old new had piece bytes requests kept fault.Over (Ok Broken) f p = absurd p.0
+  piece-ends old new had piece bytes requests kept fault.NoMemory (Ok Broken) f p = absurd p.0
+  piece-ends old new had piece bytes requests kept why (Err stop.Read) f p = absurd p
+  piece-ends old new had piece bytes requests kept why (Err stop.Write) f p =
+      let r = reached (had ++ piece) why requests f in
+      inl (r.0, r.1, r.2, subst (λ handed_out. IsBegun answers old new handed_out bytes) r.3 p)
+  piece-ends old new had piece bytes requests kept why (Err stop.NoMemory) f p =
+      let r = reached (had ++ piece) why requests f in
+      (r.0, r.1, r.2, subst (λ handed_out. IsStopped answers old new handed_out bytes) r.3 p)
+
+  piece-is-last : (old new : S) (had piece bytes : List ℕ) (requests : Requests) (kept : Option (List ℕ)) (why : FeedFault) (result : Result Served SessionFault)
+      → Feeds (Some had) piece (Err (why, requests)) kept → ServesLast answers old new why requests bytes result → ServesPiece answers old new had piece kept bytes result
+  piece-is-last old new had piece bytes requests None why result f p = piece-ends old new had piece bytes requests None why result f p
+  piece-is-last old new had piece bytes requests (Some has) why result f p = absurd f
+
+  pub piece-last : (old new : S) (had piece bytes : List ℕ) (requests : Requests) (before kept : Option (List ℕ)) (why : FeedFault) (result : Result Served SessionFault)
+      → before ≡ Some had → Feeds before piece (Err (why, requests)) kept → ServesLast answers old new why requests bytes result → ServesPiece answers old new had piece kept bytes result
+  piece-last old new had piece bytes requests before kept why result is f p =
+      piece-is-last old new had piece bytes requests kept why result (subst (λ b. Feeds b piece (Err (why, requests)) kept) is f) p
+
+  -- a piece's answer, once what is gathered is written too
+  pub piece-written : (old new : S) (had piece bytes gathered : List ℕ) (kept first mid last : Option (List ℕ)) (result : Result Served SessionFault)
+      → ServesPiece answers old new had piece kept bytes result → Puts {T = Served} (held first []) (held mid gathered) bytes result → Appends mid last gathered
+      → (written : List ℕ) × Appends first last written × ServesPiece answers old new had piece kept written result
+  piece-written old new had piece bytes gathered kept first mid last (Ok served) p q w = (bytes, all-written first mid last gathered bytes q w, p)
+  piece-written old new had piece bytes gathered kept first mid last (Err stop.Read) p q w = absurd p
+  piece-written old new had piece bytes gathered kept first mid last (Err stop.Write) p q w =
+      let f = front-written first mid last gathered gathered [] bytes q (sym (append-nil gathered)) w in
+      (f.0, f.3, owed-written old new had piece bytes f.0 f.1 kept (Err stop.Write) p f.2)
+  piece-written old new had piece bytes gathered kept first mid last (Err stop.NoMemory) p q w = (bytes, all-written first mid last gathered bytes q w, p)
+
+  -- the same, where the writer fails then
+  pub piece-unwritten : (old new : S) (had piece bytes gathered : List ℕ) (kept first mid last : Option (List ℕ)) (result : Result Served SessionFault) (at : ℕ)
+      → ServesPiece answers old new had piece kept bytes result → Puts {T = Served} (held first []) (held mid gathered) bytes result → Appends mid last (take at gathered)
+      → (written : List ℕ) × Appends first last written × IsOwed answers old new (had ++ piece) written
+  piece-unwritten old new had piece bytes gathered kept first mid last result at p q w =
+      let cut = puts-cut Served (held first []) (held mid gathered) bytes result q in
+      let f = front-written first mid last gathered (take at gathered) (drop at gathered) bytes cut (sym (take-append-drop at gathered)) w in
+      (f.0, f.3, owed-written old new had piece bytes f.0 f.1 kept result p f.2)
 
   -- a fault within a piece
   pub goes-no-further : (old mid new : S) (text written had piece bytes : List ℕ) (kept : Option (List ℕ)) (why : SessionFault)
-      → Stands old mid text written had → length piece ≤ 65536 → GoesOn answers mid new had piece kept bytes (Err why) → Serves answers old new (text ++ piece) (written ++ bytes) (Err why)
+      → Stands old mid text written had → length piece ≤ 65536 → ServesPiece answers mid new had piece kept bytes (Err why) → Serves answers old new (text ++ piece) (written ++ bytes) (Err why)
   goes-no-further old mid new text written had piece bytes kept stop.Read s small p = absurd p
   goes-no-further old mid new text written had piece bytes kept stop.Write s small p = owed-on old mid new text written had piece bytes s p
   goes-no-further old mid new text written had piece bytes kept stop.NoMemory s small p = record {

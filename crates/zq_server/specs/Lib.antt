@@ -1,3 +1,4 @@
+pub mod Gathering
 pub mod Serving
 pub mod Session
 pub mod Plain

@@ -5,7 +5,7 @@ use Rattle.rand_pcg.specs.Pcg.{pcg64}
 use Rattle.std.specs.Prelude.{Err, List, Ok, ℕ, ◌≡◌, ◌⊎◌}
 use Rattle.zq_resp.specs.Reply.{reply_bytes}
 use Rattle.zq_resp.specs.declared.reply.Reply.{Reply}
-use Rattle.zq_server.specs.Refusals.{IsRefused}
+use Rattle.zq_server.specs.Refusals.{IsRefusalOf}
 use Rattle.zq_spread.specs.Dispatch.{IsCalled}
 use Rattle.zq_spread.specs.declared.pass.Pass.{Pass}
 use Rattle.zq_spread.specs.declared.site.Site.{Site}
@@ -39,8 +39,8 @@ pub record IsPassedOn (old : Passed) (command : Command) (new : Passed) (reply :
 
 -- a request is such a call; what is no command, or finds no memory for its pairs, is refused and changes nothing
 abbrev pub PassesReading : Passed → Reading → Passed → Word → Type 0
-PassesReading old (Ok command) new reply = IsPassedOn old command new reply ⊎ ((new ≡ old) × IsRefused (Ok command) reply)
-PassesReading old (Err refused) new reply = (new ≡ old) × IsRefused (Err refused) reply
+PassesReading old (Ok command) new reply = IsPassedOn old command new reply ⊎ ((new ≡ old) × IsRefusalOf (Ok command) reply)
+PassesReading old (Err refused) new reply = (new ≡ old) × IsRefusalOf (Err refused) reply
 
 -- the site, the pass and the draws before, the request's words, the reply, and the same after
 abbrev pub AnswersByCall : Passed → List Word → Reply → Passed → Type 0

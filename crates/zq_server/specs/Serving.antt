@@ -1,6 +1,5 @@
 -- What one piece of the input is answered with.
 use Rattle.std.specs.Prelude.{◌≡◌, ◌≢◌, ◌≤◌, ℕ, List, [], ◌++◌, length, Option, Some, None, Result, Ok, Err}
-use Rattle.std.specs.declared.alloc.AllocError.{AllocError}
 use Rattle.zq_resp.specs.declared.reply.Reply.{Reply}
 use Rattle.zq_resp.specs.Reply.{reply_bytes}
 use Rattle.zq_resp.specs.declared.fault.FeedFault.{FeedFault}
@@ -13,16 +12,19 @@ use Rattle.zq_server.specs.declared.outcome.End.TheVariants.{Clean, Inside}
 use Rattle.zq_server.specs.declared.outcome.End.TheVariants as end
 use Rattle.zq_server.specs.declared.outcome.SessionFault.{SessionFault}
 use Rattle.zq_server.specs.declared.outcome.SessionFault.TheVariants as stop
-use Rattle.zq_server.specs.Session.{Relation, IsAnswered, IsClosed, IsStopped, IsOwed, IsReadOff, Serves}
+use Rattle.zq_server.specs.Gathering.{Held, Gives}
+use Rattle.zq_server.specs.Session.{Relation, IsAnswered, IsBegun, IsClosed, IsStopped, IsOwed, IsReadOff, Serves}
 
--- One request: its reply stands behind what was there, or nothing does.
-abbrev pub AnswersOne : {S : Type 0} → Relation S → S → S → List (List ℕ) → Result (Unit {0}) AllocError → List ℕ → List ℕ → Type 0
-AnswersOne answers old new request (Ok done) before after = (reply : Reply) × answers old request reply new × (after ≡ before ++ reply_bytes reply)
-AnswersOne answers old new request (Err error) before after = (reply : Reply) × answers old request reply new × (after ≡ before)
+-- One request: its reply is made, and its bytes are put behind what was gathered.
+abbrev pub AnswersOne : {S : Type 0} → Relation S → S → S → List (List ℕ) → Held → Held → Result (Unit {0}) SessionFault → Type 0
+AnswersOne answers old new request before after result = (reply : Reply) × answers old request reply new × Gives before after (reply_bytes reply) result
 
-abbrev pub AnswersAll : {S : Type 0} → Relation S → S → S → Requests → Result (Unit {0}) AllocError → List ℕ → Type 0
-AnswersAll answers old new requests (Ok done) bytes = IsAnswered answers old new requests bytes
-AnswersAll answers old new requests (Err error) bytes = IsStopped answers old new requests bytes
+-- The bytes for some requests, by how it ended.
+abbrev pub AnswersAll : {S : Type 0} → Relation S → S → S → Requests → List ℕ → Result (Unit {0}) SessionFault → Type 0
+AnswersAll answers old new requests bytes (Ok done) = IsAnswered answers old new requests bytes
+AnswersAll answers old new requests bytes (Err stop.Read) = ⊥
+AnswersAll answers old new requests bytes (Err stop.Write) = IsBegun answers old new requests bytes
+AnswersAll answers old new requests bytes (Err stop.NoMemory) = IsStopped answers old new requests bytes
 
 -- a fault for which the input is closed
 abbrev pub IsBreak : FeedFault → Type 0
@@ -32,27 +34,22 @@ IsBreak Over = ⊥
 IsBreak NoMemory = ⊥
 
 -- the requests before a fault
-abbrev pub ServesLast : {S : Type 0} → Relation S → S → S → FeedFault → Requests → Result Served AllocError → List ℕ → Type 0
-ServesLast answers old new why requests (Ok More) bytes = ⊥
-ServesLast answers old new why requests (Ok Broken) bytes = IsBreak why × IsClosed answers old new requests bytes
-ServesLast answers old new why requests (Err error) bytes = IsStopped answers old new requests bytes
+abbrev pub ServesLast : {S : Type 0} → Relation S → S → S → FeedFault → Requests → List ℕ → Result Served SessionFault → Type 0
+ServesLast answers old new why requests bytes (Ok More) = ⊥
+ServesLast answers old new why requests bytes (Ok Broken) = IsBreak why × IsClosed answers old new requests bytes
+ServesLast answers old new why requests bytes (Err stop.Read) = ⊥
+ServesLast answers old new why requests bytes (Err stop.Write) = IsBegun answers old new requests bytes
+ServesLast answers old new why requests bytes (Err stop.NoMemory) = IsStopped answers old new requests bytes
 
--- a piece that follows the bytes of an unfinished request
-abbrev pub ServesPiece : {S : Type 0} → Relation S → S → S → List ℕ → List ℕ → Option (List ℕ) → Result Served AllocError → List ℕ → Type 0
-ServesPiece answers old new had piece kept (Ok More) bytes =
+-- The bytes for a piece that follows the bytes of an unfinished request. After a fault of the writer a front of what is owed.
+abbrev pub ServesPiece : {S : Type 0} → Relation S → S → S → List ℕ → List ℕ → Option (List ℕ) → List ℕ → Result Served SessionFault → Type 0
+ServesPiece answers old new had piece kept bytes (Ok More) =
     (all : Requests) × (has : List ℕ) × (kept ≡ Some has) × Splits (had ++ piece) all has × IsAnswered answers old new (handed all) bytes
-ServesPiece answers old new had piece kept (Ok Broken) bytes =
+ServesPiece answers old new had piece kept bytes (Ok Broken) =
     (all : Requests) × (why : FeedFault) × Breaks (had ++ piece) all why × IsClosed answers old new (handed all) bytes
-ServesPiece answers old new had piece kept (Err error) bytes =
-    (all : Requests) × (rest : List ℕ) × Reaches (had ++ piece) all rest × IsStopped answers old new (handed all) bytes
-
--- the same, written: after a fault of the writer a front of what is owed
-abbrev pub GoesOn : {S : Type 0} → Relation S → S → S → List ℕ → List ℕ → Option (List ℕ) → List ℕ → Result Served SessionFault → Type 0
-GoesOn answers old new had piece kept bytes (Ok More) = ServesPiece answers old new had piece kept (Ok More) bytes
-GoesOn answers old new had piece kept bytes (Ok Broken) = ServesPiece answers old new had piece kept (Ok Broken) bytes
-GoesOn answers old new had piece kept bytes (Err stop.Read) = ⊥
-GoesOn answers old new had piece kept bytes (Err stop.Write) = IsOwed answers old new (had ++ piece) bytes
-GoesOn answers old new had piece kept bytes (Err stop.NoMemory) =
+ServesPiece answers old new had piece kept bytes (Err stop.Read) = ⊥
+ServesPiece answers old new had piece kept bytes (Err stop.Write) = IsOwed answers old new (had ++ piece) bytes
+ServesPiece answers old new had piece kept bytes (Err stop.NoMemory) =
     (all : Requests) × (rest : List ℕ) × Reaches (had ++ piece) all rest × IsStopped answers old new (handed all) bytes
 
 -- how input ends that ends with these bytes of a request

@@ -1,6 +1,7 @@
 //! Sessions of a server that speaks the protocol of Redis.
 #![tactic(auto)]
 
+mod gathering;
 mod meanings;
 mod outcome;
 mod passing;

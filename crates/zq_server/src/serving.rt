@@ -1,12 +1,16 @@
 //! Answers to the requests of one piece of the input.
 
-ghost use Rattle.std.specs.Prelude.{◌≡◌, ◌++◌, OnOk, OnErr, [], IsTrue, List, ℕ, Some};
+ghost use Rattle.std.specs.Prelude.{◌≡◌, ◌++◌, IsTrue, List, MatchResult, ℕ, Some, true};
 ghost use Rattle.zq_resp.specs.Reply.{is_writable};
 ghost use Rattle.zq_resp.specs.declared.reply.Reply.{Reply};
+ghost use Rattle.zq_server.specs.Gathering.{Puts, held};
 ghost use Rattle.zq_server.specs.Session.{closing};
-ghost use Rattle.zq_server.specs.Serving.{AnswersOne, AnswersAll, ServesLast, ServesPiece};
+ghost use Rattle.zq_server.specs.Serving.{AnswersOne, AnswersAll, IsBreak, ServesLast, ServesPiece};
 
-use std::alloc::{AllocError, Global};
+use crate::gathering::gather;
+use crate::outcome::SessionFault;
+use std::alloc::Global;
+use std::io::Write;
 use zq_resp::{FeedError, FeedFault, Reader, Reply, Request, write_reply};
 
 /// What answers requests.
@@ -27,84 +31,108 @@ pub enum Served {
     Broken,
 }
 
-/// Answers the requests that end in a piece, and puts the replies' bytes into `out`, in place of what
-/// was there. After a protocol fault the error that closes the session follows them. Where memory is
-/// refused, `out` has the replies to the first of the requests: at most one reply that was made is
-/// missing, and the requests after that one are not answered.
-pub fn serve_piece<A: Answers>(
+/// Answers the requests that end in a piece, and puts the replies' bytes behind those that are gathered.
+/// Where these grow to 65,536 they are written. After a protocol fault the error that closes the session
+/// follows them.
+///
+/// - `NoMemory`: there are the replies to the first of the requests. At most one reply that was made is
+///   missing, and the requests after that one are not answered.
+/// - `Write`: the first of the bytes are written, up to where the writer failed, and the requests after
+///   the one whose reply was gathered last are not answered.
+pub fn serve_piece<A: Answers, W: Write>(
     alloc: Global,
     answerer: &mut A,
     input: &mut Reader,
     piece: &[u8],
+    writer: &mut W,
     out: &mut Vec<u8>,
-) -> Result<Served, AllocError>
-    ensures { (had : List ℕ) → input.old ≡ Some had →
-        ServesPiece A.answers answerer.old answerer.new had piece.now input.new result out.new.items }
+) -> Result<Served, SessionFault>
+    ensures { (had : List ℕ) → input.old ≡ Some had → (bytes : List ℕ)
+        × ServesPiece A.answers answerer.old answerer.new had piece.now input.new bytes result
+        × Puts (held (W.contents writer.old) out.old.items) (held (W.contents writer.new) out.new.items) bytes result }
 {
-    out.clear();
     match input.feed(alloc, piece) {
         Ok(requests) => {
-            answer_all(alloc, answerer, &requests, out)?;
+            answer_all(alloc, answerer, &requests, writer, out)?;
             input.take_back(requests);
             Ok(Served::More)
         }
-        Err(error) => serve_last(alloc, answerer, &error, out),
+        Err(error) => serve_last(alloc, answerer, &error, writer, out),
     }
 }
 
-fn serve_last<A: Answers>(
+fn serve_last<A: Answers, W: Write>(
     alloc: Global,
     answerer: &mut A,
     error: &FeedError,
+    writer: &mut W,
     out: &mut Vec<u8>,
-) -> Result<Served, AllocError>
-    requires { out.old.items ≡ [] }
-    ensures { ServesLast A.answers answerer.old answerer.new error.now.fault error.now.before.items result out.new.items }
+) -> Result<Served, SessionFault>
+    ensures { (bytes : List ℕ)
+        × ServesLast A.answers answerer.old answerer.new error.now.fault error.now.before.items bytes result
+        × Puts (held (W.contents writer.old) out.old.items) (held (W.contents writer.new) out.new.items) bytes result }
 {
-    answer_all(alloc, answerer, &error.before, out)?;
-    match error.fault {
-        FeedFault::Protocol | FeedFault::TooLong => {
-            write_closing(out)?;
-            Ok(Served::Broken)
-        }
-        FeedFault::Over | FeedFault::NoMemory => Err(AllocError),
+    answer_all(alloc, answerer, &error.before, writer, out)?;
+    if breaks(error.fault) {
+        close(out)
+    } else {
+        Err(SessionFault::NoMemory)
     }
 }
 
-fn answer_all<A: Answers>(
+// Whether the fault closes the input.
+fn breaks(fault: FeedFault) -> bool
+    ensures { result ≡ true → IsBreak fault }
+{
+    match fault {
+        FeedFault::Protocol | FeedFault::TooLong => true,
+        FeedFault::Over | FeedFault::NoMemory => false,
+    }
+}
+
+fn answer_all<A: Answers, W: Write>(
     alloc: Global,
     answerer: &mut A,
     requests: &[Request],
+    writer: &mut W,
     out: &mut Vec<u8>,
-) -> Result<(), AllocError>
-    requires { out.old.items ≡ [] }
-    ensures { AnswersAll A.answers answerer.old answerer.new requests.now result out.new.items }
+) -> Result<(), SessionFault>
+    ensures { (bytes : List ℕ)
+        × AnswersAll A.answers answerer.old answerer.new requests.now bytes result
+        × Puts (held (W.contents writer.old) out.old.items) (held (W.contents writer.new) out.new.items) bytes result }
 {
     for request in requests {
-        answer_one(alloc, answerer, request, out)?;
+        answer_one(alloc, answerer, request, writer, out)?;
     }
     Ok(())
 }
 
-fn answer_one<A: Answers>(
+fn answer_one<A: Answers, W: Write>(
     alloc: Global,
     answerer: &mut A,
     request: &Request,
+    writer: &mut W,
     out: &mut Vec<u8>,
-) -> Result<(), AllocError>
-    ensures { AnswersOne A.answers answerer.old answerer.new request.now result out.old.items out.new.items }
+) -> Result<(), SessionFault>
+    ensures { AnswersOne A.answers answerer.old answerer.new request.now
+        (held (W.contents writer.old) out.old.items) (held (W.contents writer.new) out.new.items) result }
 {
     let reply = answerer.answer(alloc, request);
-    write_reply(out, &reply)
+    gather(writer, out, &reply)
 }
 
-fn write_closing(out: &mut Vec<u8>) -> Result<(), AllocError>
-    ensures written { OnOk result (out.new.items ≡ out.old.items ++ closing) }
-    ensures refused { OnErr result (out.new.items ≡ out.old.items) }
+// Puts the error that closes the session behind what is gathered.
+fn close(out: &mut Vec<u8>) -> Result<Served, SessionFault>
+    ensures { MatchResult result
+        (λ served. (served ≡ Served.Broken) × (out.new.items ≡ out.old.items ++ closing))
+        (λ fault. (fault ≡ SessionFault.NoMemory) × (out.new.items ≡ out.old.items)) }
 {
     let reply = Reply::Error {
         text: "ERR Protocol error",
         after: None,
     };
-    write_reply(out, &reply)
+    match write_reply(out, &reply) {
+        Ok(()) => Ok(Served::Broken),
+        Err(_) => Err(SessionFault::NoMemory),
+    }
 }

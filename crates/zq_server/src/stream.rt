@@ -1,13 +1,14 @@
 //! A session over any reader and writer.
 
-ghost use Rattle.std.specs.Prelude.{◌≡◌, ◌<◌, ◌≤◌, List, ℕ, Some, length};
+ghost use Rattle.std.specs.Prelude.{◌≡◌, ◌<◌, ◌≤◌, List, OnOk, ℕ, Some, [], length};
 ghost use Rattle.std.specs.Io.KnownBytes.{Appends, Consumes};
 ghost use Rattle.zq_server.specs.Session.{Serves, IsReadOff};
-ghost use Rattle.zq_server.specs.Serving.{GoesOn, EndsWith, IsReadThrough, ServesAll};
+ghost use Rattle.zq_server.specs.Serving.{EndsWith, IsReadThrough, ServesAll, ServesPiece};
 
+use crate::gathering::write_gathered;
 use crate::outcome::{End, SessionFault};
 use crate::serving::{Answers, Served, serve_piece};
-use crate::transfer::{put_all, read_some};
+use crate::transfer::read_some;
 use std::alloc::Global;
 use std::io::{Read, Write};
 
@@ -16,14 +17,16 @@ const READS: u64 = 4_611_686_018_427_387_904;
 const PIECE: usize = 16_384;
 
 /// Answers the requests of the input, in order. The replies to the requests of one read are written
-/// before the next read.
+/// before the next read. Before that they are written whenever 65,536 bytes or more of them are gathered,
+/// so what waits is less than that and one reply.
 ///
 /// - `Clean`: the input ended after a request, or before the first.
 /// - `Inside`: the input ended inside a request.
 /// - `Protocol`: the input went on with bytes that begin no request, or with a request past the limits.
 ///   `-ERR Protocol error` was written for it, once.
 /// - `Read`: all replies to what was read are written.
-/// - `Write`: the first of the bytes that were due are written, up to where the writer failed.
+/// - `Write`: the first of the bytes that were due are written, up to where the writer failed. The requests
+///   of the last read may be answered in part: the first of them.
 /// - `NoMemory`: the requests that ended before the last read are answered, and the replies written. Of
 ///   those that ended in the last read, the first are answered. All their replies are written, but for
 ///   at most the last one. No error is written.
@@ -98,7 +101,8 @@ fn end_of(input: &zq_resp::Reader) -> End
     }
 }
 
-/// Answers the requests that end in a piece, and writes the replies.
+/// Answers the requests that end in a piece, and writes the replies: all that are gathered when the piece
+/// is done, and before that whenever they are 65,536 bytes or more.
 fn write_replies<A: Answers, W: Write>(
     alloc: Global,
     answerer: &mut A,
@@ -107,14 +111,13 @@ fn write_replies<A: Answers, W: Write>(
     writer: &mut W,
     out: &mut Vec<u8>,
 ) -> Result<Served, SessionFault>
-    ensures { (had : List ℕ) → input.old ≡ Some had → (bytes : List ℕ)
+    requires { out.old.items ≡ [] }
+    ensures served { (had : List ℕ) → input.old ≡ Some had → (bytes : List ℕ)
         × Appends (W.contents writer.old) (W.contents writer.new) bytes
-        × GoesOn A.answers answerer.old answerer.new had piece.now input.new bytes result }
+        × ServesPiece A.answers answerer.old answerer.new had piece.now input.new bytes result }
+    ensures none_waits { OnOk result (out.new.items ≡ []) }
 {
-    let served = serve_piece(alloc, answerer, input, piece, out);
-    put_all(writer, out)?;
-    match served {
-        Ok(served) => Ok(served),
-        Err(_) => Err(SessionFault::NoMemory),
-    }
+    let served = serve_piece(alloc, answerer, input, piece, writer, out);
+    write_gathered(writer, out)?;
+    served
 }

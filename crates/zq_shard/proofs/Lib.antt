@@ -2,6 +2,7 @@ pub mod ByBytes
 pub mod Members
 pub mod Gathering
 pub mod AtKeys
+pub mod AtIndex
 pub mod Outcomes
 pub mod Looking
 pub mod Changed

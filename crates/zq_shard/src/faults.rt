@@ -1,3 +1,5 @@
+//! Why a heap refuses a call.
+
 use std::alloc::AllocError;
 use zq_dots::Worn;
 

@@ -8,7 +8,7 @@ use crate::queues::{Queues, add};
 use indexmap::IndexMap;
 use std::alloc::{AllocError, Global};
 use zq_dots::Vector;
-use zq_posheap::{Name, NameRef, Seeded};
+use zq_posheap::{Guess, Name, NameRef, Seeded};
 use zq_queue::Queue;
 
 impl Queues {
@@ -49,6 +49,7 @@ impl Queues {
         Ok(Queues {
             rule: self.rule,
             queues: merged,
+            guess: Guess::new(),
         })
     }
 }

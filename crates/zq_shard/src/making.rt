@@ -1,5 +1,5 @@
 //! How a shard makes operations.
-ghost use Rattle.std.specs.Prelude.{◌≡◌, ◌≢◌, ◌≤◌, ◌<◌, ◌+◌, ◌-◌, ◌*◌, ◌↔◌, ◌∷◌, IfOk, IsErrOf, List, OnErr, OnOk, length, slice_index, slice_set, true};
+ghost use Rattle.std.specs.Prelude.{◌≡◌, ◌≢◌, ◌≤◌, ◌<◌, ◌+◌, ◌-◌, ◌*◌, ◌↔◌, ◌∷◌, IfOk, IsErrOf, List, OnErr, OnOk, length, slice_index, slice_set, true, ℕ};
 ghost use Rattle.std.specs.FinMap as map;
 ghost use Rattle.zq_dots.specs.Act.{act_of};
 ghost use Rattle.zq_dots.specs.Placed.{IsRanged, LONGEST};
@@ -36,10 +36,26 @@ impl Shard {
         ensures bounded { IfOk result (λ dot. dot.n ≤ LAST) }
         ensures sound { OnOk result ((act : ModelAct) → IsAct act → IsRanged (next_operation self.now site key.now member.now act)) }
     {
-        let _number = site.value();
         if heap_of(key, member, self.heaps) != self.heap {
             return Err(MakeFault::WrongHeap);
         }
+        Ok(self.next_here(site)?)
+    }
+
+    /// The dot of the next operation of a site on whichever member of this heap. It hashes nothing.
+    ///
+    /// `Worn` where the site's counter is at its last value.
+    pub fn next_here(&self, site: SiteNo) -> Result<Dot, MakeFault>
+        ensures here { IsErrOf result MakeFault.WrongHeap → ⊥ }
+        ensures memory { IsErrOf result MakeFault.NoMemory → ⊥ }
+        ensures worn { IsErrOf result MakeFault.Worn ↔ (slice_index self.now.image.vector site ≡ LAST) }
+        ensures site { IfOk result (λ dot. dot.site ≡ site) }
+        ensures next { IfOk result (λ dot. dot.n ≡ slice_index self.now.image.vector site + 1) }
+        ensures bounded { IfOk result (λ dot. dot.n ≤ LAST) }
+        ensures sound { OnOk result ((key member : List ℕ) (act : ModelAct) → length key ≤ LONGEST → length member ≤ LONGEST → IsAct act →
+            IsRanged (next_operation self.now site key member act)) }
+    {
+        let _number = site.value();
         Ok(self.vector.next(site)?)
     }
 

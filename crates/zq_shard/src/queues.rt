@@ -1,3 +1,5 @@
+//! The keys of a heap, each with its members.
+
 ghost use Rattle.std.specs.Prelude.{◌≡◌, ◌≢◌, ◌≤◌, ◌↔◌, ◌∷◌, [], IfNone, IfOk, IfSome, IsTrue, List, None, Some, ℕ, OnErr, OnOk, length, option_map};
 ghost use Rattle.std.specs.FinMap as map;
 ghost use Rattle.zq_dots.specs.Rule.{rule_of};
@@ -16,14 +18,16 @@ use std::alloc::{AllocError, Global};
 use std::marker::Model;
 use zq_dots::Rule;
 use zq_entry::Entry;
-use zq_posheap::{Name, NameRef, Seeded};
+use zq_posheap::{Guess, Name, NameRef, Seeded};
 use zq_queue::{Effect, Queue};
 
-/// The keys of a heap with their queues. A key without members is not there.
+/// The keys of a heap with their queues. A key without members is not there. A call looks one key up time after time,
+/// so a look-up begins where the last one ended.
 #[derive(Drop)]
 pub(crate) struct Queues {
     pub(crate) rule: Rule,
     pub(crate) queues: IndexMap<Name, Queue, Seeded>,
+    pub(crate) guess: Guess,
 }
 
 impl Model for Queues {
@@ -48,6 +52,7 @@ impl Queues {
         Queues {
             rule,
             queues: IndexMap::with_hasher(alloc, hasher),
+            guess: Guess::new(),
         }
     }
 
@@ -73,7 +78,7 @@ impl Queues {
         ensures absent { IfNone result (entries_at self.now.members key.now ≡ map.empty) }
         ensures no_list { IfNone result (queue_of self.now.rule key.now (self.now.members ∷ []) ≡ []) }
     {
-        self.queues.get(NameRef(key))
+        self.guess.get(&self.queues, key)
     }
 
     /// The entry of a member of a key, and `None` where it does not stand.
@@ -111,7 +116,15 @@ impl Queues {
         ensures taken { OnOk result (self.new.members ≡ members_after effect.now (key.now, member.now) self.old.members) }
         ensures refused { OnErr result (self.new ≡ self.old) }
     {
-        take(&mut self.queues, alloc, self.rule, key, member, effect)
+        take(
+            &mut self.queues,
+            &self.guess,
+            alloc,
+            self.rule,
+            key,
+            member,
+            effect,
+        )
     }
 
     /// Gives a member of a key this entry, and takes it out where there is none.
@@ -126,7 +139,15 @@ impl Queues {
         ensures back { OnOk result (self.new.members ≡ put_entry self.old.members (key.now, member.now) (or_none before)) }
         ensures refused { OnErr result (self.new ≡ self.old) }
     {
-        put_back(&mut self.queues, alloc, self.rule, key, member, before)
+        put_back(
+            &mut self.queues,
+            &self.guess,
+            alloc,
+            self.rule,
+            key,
+            member,
+            before,
+        )
     }
 
     /// Equal queues.
@@ -139,6 +160,7 @@ impl Queues {
         Ok(Queues {
             rule: self.rule,
             queues,
+            guess: Guess::new(),
         })
     }
 
@@ -153,6 +175,7 @@ impl Queues {
 /// Takes the effect of a new operation on a member of a key, and answers what the member had.
 fn take(
     queues: &mut IndexMap<Name, Queue, Seeded>,
+    guess: &Guess,
     alloc: Global,
     rule: Rule,
     key: &[u8],
@@ -167,7 +190,8 @@ fn take(
         queues.old.entries queues.new.entries) }
     ensures refused { OnErr result (queues.new.entries ≡ queues.old.entries) }
 {
-    if let Some(queue) = queues.get_mut(NameRef(key)) {
+    if let Some(index) = guess.find(queues, key) {
+        let (_, queue) = queues.pair_mut(index);
         let before = queue.take(alloc, member, effect)?;
         if queue.is_empty() {
             drop(queues.swap_remove(NameRef(key)));
@@ -183,6 +207,7 @@ fn take(
 /// Gives a member of a key this entry, and takes it out where there is none.
 fn put_back(
     queues: &mut IndexMap<Name, Queue, Seeded>,
+    guess: &Guess,
     alloc: Global,
     rule: Rule,
     key: &[u8],
@@ -194,7 +219,8 @@ fn put_back(
         queues.old.entries queues.new.entries) }
     ensures refused { OnErr result (queues.new.entries ≡ queues.old.entries) }
 {
-    if let Some(queue) = queues.get_mut(NameRef(key)) {
+    if let Some(index) = guess.find(queues, key) {
+        let (_, queue) = queues.pair_mut(index);
         queue.put_back(member, before)?;
         if queue.is_empty() {
             drop(queues.swap_remove(NameRef(key)));

@@ -1,3 +1,5 @@
+//! Rows: a member of a key with its additions.
+
 use zq_entry::{Addition, Entry};
 
 /// A member of a key with its additions by rising site.

@@ -1,3 +1,5 @@
+//! One heap of a site: its type, and what it is made of.
+
 ghost use Rattle.std.specs.Prelude.{◌≡◌, ◌<◌, ◌↔◌, IfOk, IsTrue, List, None, Option, Some, [], ℤ, option_map};
 ghost use Rattle.std.specs.FinMap as map;
 ghost use Rattle.zq_dots.specs.Rule.{rule_of};

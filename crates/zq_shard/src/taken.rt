@@ -1,3 +1,5 @@
+//! The three answers to an operation that is handed over.
+
 /// What becomes of an operation that is handed to a heap.
 #[derive(Clone, Copy, Debug, PartialEq, Eq)]
 pub enum Taken {

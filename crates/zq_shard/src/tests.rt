@@ -1,3 +1,5 @@
+//! Two sites that make, deliver and merge, step by step, and what is refused.
+
 use super::*;
 use std::alloc::Global;
 use std::test::Fail;

@@ -5,7 +5,7 @@ use Rattle.std.specs.Prelude.{IfSome, IsSome, None, Option, Some, ◌+◌, ◌�
 use Rattle.zq_history.proofs.Reached.{worked_reaches}
 use Rattle.zq_history.specs.Reach.{IsWorked}
 use Rattle.zq_spread.specs.Kept.{Follows}
-use Rattle.zq_spread.specs.Rooms.{IsCounted, IsOf, IsWorkedOn}
+use Rattle.zq_spread.specs.Rooms.{IsCountedUp, IsOf, IsWorkedOn}
 use Rattle.zq_spread.specs.declared.kept.Kept.{Kept}
 use Rattle.zq_spread.specs.declared.room.Room.{Room}
 use Rattle.zq_ticketlock.specs.Steps.{FollowsSeen}
@@ -16,7 +16,7 @@ pub if_some : {A : Type 0} {P Q : A → Type 0} (o : Option A) → ((x : A) → 
 if_some (Some x) gives is = gives x is
 if_some None gives is = tt
 
-pub counted_follows : (room : Room) (now old found : Kept) → IsCounted room now old → IsWorkedOn room old found → Follows now found
+pub counted_follows : (room : Room) (now old found : Kept) → IsCountedUp room now old → IsWorkedOn room old found → Follows now found
 counted_follows room now old found counted is =
     let worked : IsWorked now.book found.book is.stamp is.steps = subst (λ b. IsWorked b found.book is.stamp is.steps) (sym counted.book) is.worked in
     let same : old.total ≡ found.total = is.total in
@@ -26,7 +26,7 @@ counted_follows room now old found counted is =
       (counted.table ∙ ap total_table same, counted.parts ∙ ap kept_of same, omega (arith, count, before)),
     )
 
-pub counted_of : (room : Room) (now old found : Kept) → IsCounted room now old → IsWorkedOn room old found → IsOf room now
+pub counted_of : (room : Room) (now old found : Kept) → IsCountedUp room now old → IsWorkedOn room old found → IsOf room now
 counted_of room now old found counted is =
     record {
       heap = ap (λ b. b.heap) counted.book ∙ is.worked.heap ∙ is.of.heap;

@@ -13,3 +13,4 @@ pub mod Meetings
 pub mod Drawn
 pub mod Dispatch
 pub mod Several
+pub mod Worn

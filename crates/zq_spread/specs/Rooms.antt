@@ -40,7 +40,7 @@ pub record IsWorkedOn (room : Room) (now found : Kept) : Type 0 where
   pub total : now.total ≡ found.total
 
 -- the value is the old one with the steps counted
-pub record IsCounted (room : Room) (now old : Kept) : Type 0 where
+pub record IsCountedUp (room : Room) (now old : Kept) : Type 0 where
   pub book : now.book ≡ old.book
   pub count : room.opening + total_of now.total ≡ old.book.count
   pub table : total_table now.total ≡ total_table old.total

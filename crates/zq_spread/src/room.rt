@@ -3,7 +3,7 @@ ghost use Rattle.std.specs.Prelude.{◌≡◌, ◌≤◌, ◌+◌, Some, [], IfE
 ghost use Rattle.zq_history.specs.Reach.{IsWorked};
 ghost use Rattle.zq_journal.specs.Books.{LAST_STAMP};
 ghost use Rattle.zq_spread.specs.Kept.{Follows, IsAtHome};
-ghost use Rattle.zq_spread.specs.Rooms.{IsBegun, IsCounted, IsOf, IsWorkedOn};
+ghost use Rattle.zq_spread.specs.Rooms.{IsBegun, IsCountedUp, IsOf, IsWorkedOn};
 ghost use Rattle.zq_tally.specs.Words as tally;
 ghost use Rattle.zq_ticketlock.specs.Seats.{id_of, lock_of, seen, HasSeen, held_lock, given, value_of};
 ghost use Rattle.zq_ticketlock.specs.Steps.{FollowsSeen};
@@ -100,7 +100,7 @@ impl Room {
     fn count_up(&self, kept: &mut Kept, count: &mut Count)
         requires own { (tally.count_table count.old ≡ tally.id_of self.now.tally) × (tally.total_table kept.old.total ≡ tally.id_of self.now.tally) }
         requires behind { self.now.opening + tally.total_of kept.old.total ≤ kept.old.book.count }
-        ensures counted { IsCounted self.now kept.new kept.old }
+        ensures counted { IsCountedUp self.now kept.new kept.old }
         ensures steps { tally.steps_of count.new + self.now.opening + tally.total_of kept.old.total ≡ tally.steps_of count.old + kept.old.book.count }
         ensures table { tally.count_table count.new ≡ tally.count_table count.old }
     {

@@ -2,8 +2,9 @@
 ghost use Rattle.std.specs.Prelude.{◌≡◌, ◌<◌, ◌∷◌, [], Some, length, slice_get};
 ghost use Rattle.zq_spread.specs.Companies.{IsSameBut};
 ghost use Rattle.zq_spread.specs.Passes.{IsPassBut, IsPassOf, IsSeatOf, seen_at};
+ghost use Rattle.zq_spread.specs.Worn.{reached_at};
 ghost use Rattle.zq_spread.specs.declared.room.Room.{Room};
-ghost use Rattle.zq_ticketlock.specs.Seats.{seen};
+ghost use Rattle.zq_ticketlock.specs.Seats.{reached, seen};
 
 use crate::kept::Kept;
 use crate::pass::Pass;
@@ -34,6 +35,7 @@ impl Site {
         requires seat { (room : Room) → slice_get self.now.rooms.items heap ≡ Some room → IsSeatOf room (Some (Some seat)) }
         ensures pass { IsPassOf self.now pass.new }
         ensures seen { seen_at pass.new heap ≡ seen seat }
+        ensures reached { reached_at pass.new heap ≡ reached seat }
         ensures stays { IsSameBut heap pass.old pass.new }
     {
         pass.seats[heap] = Some(seat);

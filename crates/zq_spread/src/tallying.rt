@@ -1,8 +1,9 @@
 //! That all steps of a heap are the passes' own.
 ghost use Rattle.std.specs.List.{AllZip};
-ghost use Rattle.std.specs.Prelude.{◌≡◌, ◌+◌, ◌<◌, All, Some, OnOk, length, slice_get, sum};
+ghost use Rattle.std.specs.Prelude.{◌≡◌, ◌+◌, ◌<◌, All, Some, OnErr, OnOk, length, slice_get, sum};
 ghost use Rattle.zq_spread.specs.Companies.{AreAllPasses, HasSeenAll, IsCountBack, IsSeenByFirst, steps_of_all};
 ghost use Rattle.zq_spread.specs.Passes.{IsCountOf, steps_at};
+ghost use Rattle.zq_spread.specs.Worn.{HasFoundWorn};
 ghost use Rattle.zq_tally.specs.Words.{IsSameTotal, id_of, parts_of, passes_of, total_of, total_table};
 ghost use Rattle.zq_tally.specs.declared.view.TheConstants.{PARTS};
 
@@ -41,13 +42,14 @@ impl Room {
 impl Site {
     /// Makes sure that what was recorded and merged in a heap is what these passes have made there. The first pass then has
     /// seen a book there whose count is that of the opening book with the steps of all of them. No image, book or stamp has
-    /// changed. `Worn` where the heap's lock is at its last ticket.
+    /// changed. `Worn` where the heap's lock is at its last ticket, which the first pass has then found.
     pub fn tally<R: Wait>(&self, rt: &R, passes: &mut [Pass], heap: u8) -> Result<(), Worn>
         requires all { AreAllPasses self.now passes.old }
         requires heap { heap < length self.now.rooms.items }
         ensures all { AreAllPasses self.now passes.new }
         ensures stays { IsSeenByFirst heap passes.old passes.new }
         ensures sum { OnOk result (HasSeenAll self.now heap passes.new) }
+        ensures worn { OnErr result (HasFoundWorn heap passes.new) }
     {
         let heap = usize::from(heap);
         let Some((first, others)) = passes.split_first_mut() else {

@@ -1,3 +1,5 @@
+//! The seat of one pass.
+
 ghost use Rattle.std.specs.Prelude.{◌≡◌, None, [], ◌∷◌};
 
 use crate::view::View;

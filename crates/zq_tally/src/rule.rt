@@ -1,4 +1,5 @@
-// The rule of all views, how they are split and joined, and what a look tells.
+//! The rule of all views, how they are split and joined, and what a look tells.
+
 ghost use Rattle.zq_tally.specs.Views.{nothing, untouched};
 ghost use Rattle.zq_tally.specs.Rule.{IsTallied};
 ghost use Rattle.zq_tally.specs.Steps.{joined, first_out, first_of, stepped_out, stepped_of, one_less, no_steps, Learned};

@@ -1,3 +1,5 @@
+//! A table that counts steps.
+
 ghost use Rattle.std.specs.Prelude.{◌≡◌, []};
 
 use crate::errors::NoMemory;

@@ -1,3 +1,5 @@
+//! 128 passes; what was joined last is split first.
+
 ghost use Rattle.std.specs.Prelude.{◌≡◌, ◌+◌, ◌≤◌, [], IfOk, length, vec_len};
 ghost use Rattle.zq_tally.specs.declared.view.TheConstants.{PARTS};
 ghost use Rattle.zq_tally.specs.Words.{id_of, total_table, total_of, kept_of, passes_of, AreOf};

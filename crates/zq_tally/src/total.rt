@@ -1,3 +1,5 @@
+//! The seat of the total.
+
 ghost use Rattle.std.specs.Prelude.{◌≡◌, Some, []};
 
 use crate::view::View;

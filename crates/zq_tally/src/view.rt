@@ -1,3 +1,5 @@
+//! What a seat knows of its table.
+
 use std::collections::LinkedList;
 
 /// The parts of a table: one for each of at most 128 passes, and at least one with the total.

@@ -1,3 +1,5 @@
+//! A value in memory of its own.
+
 ghost use Rattle.std.specs.Prelude.{◌≡◌, None, Some, IsSome};
 ghost use Rattle.std.specs.Borrow.{sem};
 ghost use Rattle.std.specs.Option.Follows.{option_follows_value};

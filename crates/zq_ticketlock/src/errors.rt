@@ -1,3 +1,5 @@
+//! Why a lock is not taken, or not made.
+
 /// No memory was left.
 #[derive(Clone, Copy, PartialEq, Eq, Debug, Drop)]
 pub struct NoMemory;

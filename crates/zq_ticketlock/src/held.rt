@@ -1,3 +1,5 @@
+//! The value of a lock, out with a seat.
+
 ghost use Rattle.std.specs.Prelude.{◌≡◌, ◌<◌, true};
 ghost use Rattle.zq_ticketlock.specs.declared.lock.TheConstants.{LAST_TICKET};
 ghost use Rattle.zq_ticketlock.specs.Views.{is_holding};

@@ -1,3 +1,5 @@
+//! What a value has to be to lie under a lock.
+
 /// What a lock keeps of its value, and how its values follow one another.
 pub trait Keeps {
     /// True of the value whenever nobody holds it.

@@ -1,3 +1,5 @@
+//! The lock.
+
 ghost use Rattle.std.specs.Prelude.{◌≡◌};
 
 use crate::boxed::Boxed;
@@ -37,7 +39,7 @@ impl<T: Keeps> TicketLock<T> {
     ghost use Rattle.std.specs.Prelude.{◌≡◌, ◌≤◌, Some, IfOk, IfErr};
     ghost use Rattle.zq_ticketlock.specs.Seats.{id_of, lock_of, seen, served};
 
-    /// A lock over the value, with its first seat, which has seen the value. Want of memory gives the value back.
+    /// A lock over the value, with its first seat, which has seen the value. Where there is no memory, the value is given back.
     pub fn new(alloc: Global, value: T) -> Result<(TicketLock<T>, Seat<T>), (NoMemory, T)>
         requires { T.holds value }
         ensures lock { IfOk result (λ made. lock_of made.1 ≡ id_of made.0) }

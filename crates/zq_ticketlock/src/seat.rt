@@ -1,3 +1,5 @@
+//! Seats: what a thread uses a lock with.
+
 ghost use Rattle.std.specs.Prelude.{◌≡◌, ◌<◌, true};
 ghost use Rattle.zq_ticketlock.specs.declared.lock.TheConstants.{LAST_TICKET};
 ghost use Rattle.zq_ticketlock.specs.Views.{is_idle, is_waiting};

@@ -1,3 +1,5 @@
+//! Crowds of threads that lock in every way, and locks at their last tickets.
+
 mod crowd;
 mod numbers;
 mod pushing;

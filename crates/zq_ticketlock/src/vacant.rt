@@ -1,3 +1,5 @@
+//! A lock that has no value yet.
+
 ghost use Rattle.std.specs.Prelude.{◌≡◌, true, None};
 ghost use Rattle.zq_ticketlock.specs.Views.{is_vacant};
 

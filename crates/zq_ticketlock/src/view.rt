@@ -1,3 +1,5 @@
+//! What a seat knows of its lock.
+
 /// What a seat knows of its lock. Proofs alone speak of it: no value of it is ever made.
 pub enum View<T> {
     /// The lock has no value yet, and this is its only seat. It has the empty slot out, or not yet.

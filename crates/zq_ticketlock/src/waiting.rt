@@ -17,9 +17,9 @@ const CROWD: u64 = 2;
 // At every so many turns a release calls one in, also where tickets are out, so that nobody stays at the door for long.
 const TURNS: u64 = 64;
 
-// How often a thread looks before each sleep, with a ticket or at the door. That takes several times as long as a sleeper
+// How often a thread looks before each sleep, with a ticket or at the door. That takes a few times as long as a sleeper
 // takes to wake up: with far fewer looks, one that sleeps has all behind it asleep before it is served.
-const SPINS: u32 = 4000;
+const SPINS: u32 = 2000;
 
 // So many at the door look whether the crowd is gone. Where more are there, who comes sleeps at once.
 const LOOKERS: u64 = 1;

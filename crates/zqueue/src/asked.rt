@@ -1,5 +1,10 @@
 //! What the command line asks for.
 
+ghost use Rattle.zqueue.specs.Asked.{AreNumbers, Asks, IsAsked, IsNumber, ROUNDS, SEEDS};
+ghost use Rattle.std.specs.Prelude.{IfOk, SomeIff, map, string_bytes};
+ghost use Rattle.std.specs.Str.Parse.{digits_value};
+
+use crate::number::read_number;
 use std::alloc::{AllocError, Global};
 use std::env;
 use std::env::Env;
@@ -12,7 +17,12 @@ pub enum Command {
     Pipe,
     /// To serve the sites of the settings file of this name.
     Serve(String),
+    /// To drill three sites by a seed, each called so many times.
+    Drill { seed: u64, rounds: u32 },
 }
+
+/// A drill has at most so many rounds.
+const MOST_ROUNDS: u64 = 1_000_000;
 
 /// The command that the command line names: `None` where its words name none, or one of them is not UTF-8.
 pub fn asked<R: Env + Alloc<A = Global>>(rt: &R) -> Result<Option<Command>, AllocError> {
@@ -25,13 +35,41 @@ pub fn asked<R: Env + Alloc<A = Global>>(rt: &R) -> Result<Option<Command>, Allo
 }
 
 /// The command that these words name, of which the first is the program's name.
-fn command_of(alloc: Global, words: &[String]) -> Result<Option<Command>, AllocError> {
-    match words {
-        [_, word] if word.as_str() == "pipe" => Ok(Some(Command::Pipe)),
-        [_, word, path] if word.as_str() == "serve" => {
+fn command_of(alloc: Global, words: &[String]) -> Result<Option<Command>, AllocError>
+    ensures { IfOk result (λ command. IsAsked (map string_bytes words.now) command) }
+{
+    let Some((_, words)) = words.split_first() else {
+        return Ok(None);
+    };
+    let Some((name, rest)) = words.split_first() else {
+        return Ok(None);
+    };
+    named(alloc, name.as_str(), rest)
+}
+
+/// The command of this name, with the words behind it.
+fn named(alloc: Global, name: &str, rest: &[String]) -> Result<Option<Command>, AllocError>
+    ensures { IfOk result (λ command. Asks name.now (map string_bytes rest.now) command) }
+{
+    match (name, rest) {
+        ("pipe", []) => Ok(Some(Command::Pipe)),
+        ("serve", [path]) => {
             let path = String::from_str(alloc, path.as_str())?;
             Ok(Some(Command::Serve(path)))
         }
+        ("drill", [seed, rounds]) => Ok(drill_of(seed.as_str(), rounds.as_str())),
         _ => Ok(None),
     }
+}
+
+/// The drill of these texts.
+fn drill_of(seed: &str, rounds: &str) -> Option<Command>
+    ensures { SomeIff result (IsNumber seed.now SEEDS × IsNumber rounds.now ROUNDS) (Command.Drill (digits_value 10 seed.now) (digits_value 10 rounds.now)) }
+{
+    let seed = read_number(seed, u64::MAX)?;
+    let rounds = read_number(rounds, MOST_ROUNDS)?;
+    Some(Command::Drill {
+        seed,
+        rounds: rounds as u32,
+    })
 }

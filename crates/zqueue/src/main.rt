@@ -3,6 +3,8 @@
 
 mod asked;
 mod configured;
+mod drilling;
+mod number;
 mod piping;
 mod refusal;
 mod serving;
@@ -10,6 +12,7 @@ mod serving;
 mod tests;
 
 use asked::{Command, asked};
+use drilling::drill_out;
 use piping::pipe;
 use refusal::{DEVICE, Refusal, refuse};
 use serving::serve_file;
@@ -21,6 +24,8 @@ use std::process::ExitCode;
 const HELP: &str = "zqueue has these commands:
   zqueue pipe         reads requests on standard input and writes their replies on standard output
   zqueue serve FILE   serves the sites of a settings file, each on a port of its own on loopback
+  zqueue drill SEED ROUNDS
+                      drills three sites over links that fail, and writes whether they end equal
 README.md says what each of them does, and docs/COMMANDS.md what clients can send.";
 
 fn main(rt: HostRuntime) -> ExitCode {
@@ -30,6 +35,9 @@ fn main(rt: HostRuntime) -> ExitCode {
             Ok(()) => 0,
             Err(refusal) => refuse(refusal, &mut io::writer(&rt)),
         },
+        Ok(Some(Command::Drill { seed, rounds })) => {
+            drill_out(&rt, rt.alloc(), seed, rounds, &mut io::writer(&rt))
+        }
         Ok(None) => {
             let _ = eprintln!(rt; "{HELP}");
             refuse(Refusal::Usage, &mut io::writer(&rt))

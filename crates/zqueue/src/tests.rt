@@ -2,6 +2,7 @@
 
 use crate::asked::{Command, asked};
 use crate::configured::{Unsettled, configured};
+use crate::drilling::drill_out;
 use crate::piping::pipe;
 use crate::refusal::{Refusal, refuse};
 use std::env::{Env, FillError};
@@ -35,12 +36,21 @@ impl Env for Line<'_> {
     }
 }
 
+/// The seed and the rounds of a drill.
+fn drill_of(command: &Option<Command>) -> Option<(u64, u32)> {
+    match command {
+        Some(Command::Drill { seed, rounds }) => Some((*seed, *rounds)),
+        _ => None,
+    }
+}
+
 /// The words of a command, joined by spaces.
 fn words_of(command: &Option<Command>) -> (&str, &str) {
     match command {
         None => ("none", ""),
         Some(Command::Pipe) => ("pipe", ""),
         Some(Command::Serve(path)) => ("serve", path.as_str()),
+        Some(Command::Drill { .. }) => ("drill", ""),
     }
 }
 
@@ -62,6 +72,40 @@ fn a_command_has_its_words_and_no_others(rt: HostRuntime) -> Result<(), Fail> {
         assert!(rt; words_of(&command) == named);
     }
     Ok(())
+}
+
+#[test]
+fn a_drill_has_a_seed_and_rounds_in_range(rt: HostRuntime) -> Result<(), Fail> {
+    let rows: [(&[&[u8]], Option<(u64, u32)>); 12] = [
+        (&[b"zqueue", b"drill", b"1", b"0"], Some((1, 0))),
+        (
+            &[b"zqueue", b"drill", b"18446744073709551615", b"1000000"],
+            Some((u64::MAX, 1_000_000)),
+        ),
+        (&[b"zqueue", b"drill", b"007", b"010"], Some((7, 10))),
+        (&[b"zqueue", b"drill"], None),
+        (&[b"zqueue", b"drill", b"1"], None),
+        (&[b"zqueue", b"drill", b"1", b"2", b"3"], None),
+        (&[b"zqueue", b"drill", b"-1", b"2"], None),
+        (&[b"zqueue", b"drill", b"+1", b"2"], None),
+        (&[b"zqueue", b"drill", b"1x", b"2"], None),
+        (&[b"zqueue", b"drill", b"", b"2"], None),
+        (&[b"zqueue", b"drill", b"1", b"1000001"], None),
+        (&[b"zqueue", b"drill", b"18446744073709551616", b"2"], None),
+    ];
+    for (words, numbers) in rows {
+        let command = asked(&(Line { words }, rt.alloc()))?;
+        assert!(rt; drill_of(&command) == numbers);
+    }
+    Ok(())
+}
+
+#[test]
+fn a_drill_of_no_rounds_is_done(rt: HostRuntime) {
+    let mut written = Vec::new(rt.alloc());
+    assert_eq!(rt; drill_out(&rt, rt.alloc(), 1, 0, &mut written), 0);
+    let lines = b"site 0 size 0\nsite 1 size 0\nsite 2 size 0\nequal\n";
+    assert_eq!(rt; written.as_slice(), lines.as_slice());
 }
 
 #[test]

@@ -1,3 +1,5 @@
+//! A member at one side, as the tests play it.
+
 ghost use Rattle.std.specs.Prelude.{◌≡◌, ◌≤◌, ◌+◌, IfOk, slice_index};
 ghost use Rattle.zq_model.specs.Sets as sets;
 

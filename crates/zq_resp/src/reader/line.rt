@@ -1,3 +1,5 @@
+//! A number on a line, byte by byte.
+
 ghost use Rattle.std.specs.Prelude.{◌<◌, ◌≤◌, ◌^◌};
 ghost use Rattle.zq_resp.specs.declared.reader.line.Line.TheVariants as line;
 ghost use Rattle.zq_resp.specs.Line.{IsLine, LineStep};

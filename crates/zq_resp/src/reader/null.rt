@@ -1,3 +1,5 @@
+//! The second spelling of no words, byte by byte.
+
 ghost use Rattle.zq_resp.specs.Null.{NullStep};
 
 use crate::fault::FeedFault;

@@ -1,3 +1,5 @@
+//! A request that is not whole yet.
+
 ghost use Rattle.std.specs.Prelude.{◌≡◌, ◌<◌, ◌≤◌, length, IfOk};
 ghost use Rattle.zq_resp.specs.declared.reader.partial.Partial.TheVariants as partial;
 ghost use Rattle.zq_resp.specs.Suspended.{IsStep};

@@ -1,3 +1,5 @@
+//! How far a part of a request is.
+
 /// What the bytes so far make.
 #[derive(Drop)]
 pub enum Progress<P, T> {

@@ -1,3 +1,5 @@
+//! The fast path: a short request that stands whole in a piece.
+
 ghost use Rattle.std.specs.Prelude.{◌≡◌, List, ℕ, ◌++◌, ◌+◌, ◌<◌, ◌≤◌, ◌∷◌, [], length, take, drop, IfSome, IfOk, IfErr, OnOk};
 ghost use Rattle.zq_resp.specs.declared.fault.FeedFault.TheVariants.{NoMemory};
 ghost use Rattle.zq_resp.specs.Front.{Got};

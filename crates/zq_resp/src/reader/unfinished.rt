@@ -1,3 +1,5 @@
+//! A request that is not whole yet, with its size, and the requests that a piece ends.
+
 ghost use Rattle.std.specs.Prelude.{◌≡◌, ◌<◌, ◌++◌, ◌∷◌, [], length, Some, IfOk, OnOk, OnErr, IfErr};
 ghost use Rattle.zq_resp.specs.Request.{AreWords};
 ghost use Rattle.zq_resp.specs.Suspended.{IsStep, views};

@@ -1,3 +1,5 @@
+//! A word that is not whole yet.
+
 ghost use Rattle.std.specs.Prelude.{◌≡◌, ◌<◌, ℕ, List, [], ◌∷◌, ◌++◌, length, IfOk, IfErr};
 ghost use Rattle.zq_resp.specs.declared.reader.word.Word.TheVariants as word;
 ghost use Rattle.zq_resp.specs.Suspended.{Fails, Goes, IsStep};

@@ -1,3 +1,5 @@
+//! The words of a request that is not whole yet.
+
 ghost use Rattle.std.specs.Prelude.{◌≡◌, ◌<◌, ◌≤◌, ◌+◌, length, All, IfOk, IfErr};
 ghost use Rattle.zq_resp.specs.Request.{IsWord};
 ghost use Rattle.zq_resp.specs.Suspended.{IsStep, views};

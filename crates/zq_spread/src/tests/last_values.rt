@@ -5,7 +5,6 @@ ghost use Rattle.zq_spread.specs.Passes.{IsPassOf};
 
 use super::asking::{Line, follow};
 use super::two_of;
-use crate::kept::LAST;
 use crate::{Pass, Site};
 use std::alloc::Global;
 use std::process::Abort;
@@ -15,6 +14,9 @@ use zq_dots::{Act, LAST_COUNTER, Rule, Score, SiteNo, Vector};
 use zq_journal::{Book, MergeFault, TakeFault};
 use zq_posheap::Seeded;
 use zq_shard::{Shard, Taken};
+
+/// The last stamp, as a number of its own: where the code's were less, calls would be refused too early.
+const LAST: u64 = 4_611_686_018_427_387_904;
 
 /// A site of this number over this book of heap 0, with two passes. Heap 1 is empty.
 fn opened_over(alloc: Global, number: u8, even: Book) -> Option<(Site, Pass, Pass)>

@@ -10,14 +10,17 @@ use Rattle.zq_commands.specs.RecordedBooks.{recorded_itself}
 use Rattle.zq_commands.specs.VecBooks.{IsRecordedOn}
 use Rattle.zq_commands.proofs.one_book.make_in.Goals as goal
 
-pub make-requires-clause-bounded : goal.make-requires-clause-bounded
+pub make_here-requires-clause-bounded : goal.make_here-requires-clause-bounded
 unfolding LAST_STAMP
-make-requires-clause-bounded c = c.requires.bounded
+make_here-requires-clause-bounded c = c.requires.bounded
+
+pub make_here-requires-clause-home : goal.make_here-requires-clause-home
+make_here-requires-clause-home c = eqb-true _ _ c.requires.home
 
 pub returns-in-Ok-clause-recorded : goal.returns-in-Ok-clause-recorded
 returns-in-Ok-clause-recorded c =
     let old = c.args.book.now in
-    let new = c.make.new.self in
+    let new = c.make_here.new.self in
     let stamp = c.args.stamp in
     let same : new.stamp ≡ stamp = ap (λ (b : Book). b.stamp) c.in-Ok.ensures.recorded in
     let change = Made (next_operation (state_of old) c.args.site c.args.key.now c.args.member.now (act_of c.args.act)).operation in
@@ -32,7 +35,7 @@ returns-in-Ok-clause-recorded c =
 pub returns-in-Ok-clause-worn : goal.returns-in-Ok-clause-worn
 returns-in-Ok-clause-worn c = (
   λ is. absurd (cc),
-  λ worn. let fault = c.in-Ok.ensures.worn.1 (eqb-true _ _ c.requires.home, worn_from c.args.site c.args.book.now worn) in absurd (cc),
+  λ worn. let fault = c.in-Ok.ensures.worn.1 (worn_from c.args.site c.args.book.now worn) in absurd (cc),
 )
 
 pub returns-in-Err-Worn-clause-recorded : goal.returns-in-Err-Worn-clause-recorded
@@ -40,7 +43,7 @@ returns-in-Err-Worn-clause-recorded c = subst (IsRecordedOn c.args.book.now) (sy
 
 pub returns-in-Err-Worn-clause-worn : goal.returns-in-Err-Worn-clause-worn
 returns-in-Err-Worn-clause-worn c = (
-  λ _. worn_of c.args.site c.args.book.now (c.in-Err-Worn.ensures.worn.0 (ap (λ e. Err e) c.in-Err-Worn.field-0-is)).1,
+  λ _. worn_of c.args.site c.args.book.now (c.in-Err-Worn.ensures.worn.0 (ap (λ e. Err e) c.in-Err-Worn.field-0-is)),
   λ _. refl,
 )
 
@@ -51,7 +54,7 @@ pub returns-in-Err-NoMemory-clause-worn : goal.returns-in-Err-NoMemory-clause-wo
 returns-in-Err-NoMemory-clause-worn c = (
   λ is. absurd (cc),
   λ worn.
-      let fault = c.in-Err-NoMemory.ensures.worn.1 (eqb-true _ _ c.requires.home, worn_from c.args.site c.args.book.now worn) in
+      let fault = c.in-Err-NoMemory.ensures.worn.1 (worn_from c.args.site c.args.book.now worn) in
       let other = c.in-Err-NoMemory.field-0-is in
       absurd (cc),
 )

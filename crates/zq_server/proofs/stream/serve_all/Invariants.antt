@@ -1,4 +1,4 @@
-use Rattle.std.proofs.Common.{◌≡◌, ◌≤◌, ℕ, List, Some, length}
+use Rattle.std.proofs.Common.{◌≡◌, ◌≤◌, ℕ, List, Some, [], length}
 use Rattle.std.specs.Io.KnownBytes.{Appends, Consumes}
 use Rattle.zq_server.proofs.Served.{Stands}
 use Rattle.zq_server.proofs.stream.serve_all.Given as goal
@@ -11,3 +11,4 @@ invariant-loop-read g l =
     × (l.input ≡ Some had)
     × (l._read ≤ length text)
     × Stands g.A.Answers.answers l.initial.answerer l.answerer text written had
+    × (l.out.items ≡ [])

@@ -1,8 +1,7 @@
 use Rattle.std.proofs.Common.{ap, sym, ◌∙◌}
 use Rattle.std.specs.FinMap.{get}
-use Rattle.std.specs.Prelude.{Some, is_some, slice_get}
-use Rattle.zq_posheap.proofs.Entries.{found_key, is_seen}
-use Rattle.zq_posheap.proofs.Lists.{mapped_at}
+use Rattle.std.specs.Prelude.{is_some, slice_get}
+use Rattle.zq_posheap.proofs.Entries.{is_seen}
 use Rattle.zq_posheap.specs.Moves.{shown}
 use Rattle.zq_posheap.proofs.pos_heap.PosHeap.find.Goals as goal
 
@@ -19,7 +18,4 @@ returns-clause-there g c =
     ∙ ap (λ m. is_some (get m.held c.args.member.now)) c.self.view_is
 
 pub returns-clause-place : goal.returns-clause-place
-returns-clause-place g c =
-    let es = c.self.inside.heap.members.entries in
-    let key = found_key es c.args.member.now c.in_ok-index.index c.in_ok-index.ensures.index in
-    ap (λ m. slice_get m.places c.in_ok-index.index) (sym c.self.view_is) ∙ mapped_at (λ x. x.0) es c.in_ok-index.index key.0 key.1 ∙ ap (λ x. Some x) (sym key.2)
+returns-clause-place g c = ap (λ m. slice_get m.places c.in_ok-index.index) (sym c.self.view_is) ∙ c.in_ok-index.ensures.there

@@ -5,6 +5,14 @@ use Rattle.zq_shard.proofs.Joined.{members_are_joined}
 use Rattle.zq_shard.specs.Queues.{AreQueues, Keyed, members_joined}
 use Rattle.zq_shard.proofs.queues.Queues.merge.Goals as goal
 
+pub join_mine-requires-clause-kept : goal.join_mine-requires-clause-kept
+join_mine-requires-clause-kept c = subst (λ r. AreQueues r c.self.inside.queues.entries) (sym c.new-none.ensures.rule) c.self.invariant
+
+pub join_mine-requires-clause-their_kept : goal.join_mine-requires-clause-their_kept
+join_mine-requires-clause-their_kept c =
+    subst (λ r. AreQueues r c.other.inside.queues.entries)
+    (ap (λ (s : Keyed). s.rule) c.other.view_is ∙ c.requires ∙ sym (ap (λ (s : Keyed). s.rule) c.self.view_is) ∙ sym c.new-none.ensures.rule) c.other.invariant
+
 pub join_theirs-requires-clause-their_kept : goal.join_theirs-requires-clause-their_kept
 join_theirs-requires-clause-their_kept c =
     subst (λ r. AreQueues r c.other.inside.queues.entries)

@@ -1,7 +1,7 @@
 use Rattle.std.proofs.Common.{subst}
 use Rattle.zq_spread.proofs.Counted.{counted_follows, counted_of, if_some}
 use Rattle.zq_spread.proofs.room.Room.end.Goals as goal
-use Rattle.zq_spread.specs.Rooms.{IsCounted, IsWorkedOn}
+use Rattle.zq_spread.specs.Rooms.{IsCountedUp, IsWorkedOn}
 use Rattle.zq_ticketlock.proofs.Told.{seen_some}
 use Rattle.zq_ticketlock.specs.Seats.{given}
 
@@ -10,7 +10,7 @@ unlock-requires-clause-follows c =
     let now = c.count_up.new.kept in
     let room = c.args.self.now in
     let old = c.args.held.value in
-    let counted : IsCounted room now old = subst (IsCounted room now) c.value_mut.ensures.value c.count_up.ensures.counted in
+    let counted : IsCountedUp room now old = subst (IsCountedUp room now) c.value_mut.ensures.value c.count_up.ensures.counted in
     if_some (given c.args.held) (λ found is. counted_follows room now old found counted is) c.requires.worked
 
 pub returns-clause-seen : goal.returns-clause-seen
@@ -18,6 +18,6 @@ returns-clause-seen c =
     let now = c.count_up.new.kept in
     let room = c.args.self.now in
     let old = c.args.held.value in
-    let counted : IsCounted room now old = subst (IsCounted room now) c.value_mut.ensures.value c.count_up.ensures.counted in
+    let counted : IsCountedUp room now old = subst (IsCountedUp room now) c.value_mut.ensures.value c.count_up.ensures.counted in
     let found = seen_some (IsWorkedOn room old) (given c.args.held) c.was_given.ensures c.requires.worked in
     (now, c.unlock.ensures.seen, (counted.book, counted_of room now old found.0 counted found.2))

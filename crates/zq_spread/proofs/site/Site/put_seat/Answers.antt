@@ -4,6 +4,7 @@ use Rattle.std.specs.Vec as Vec
 use Rattle.zq_spread.proofs.Seats.{found_at, seat_back, set_other, set_same}
 use Rattle.zq_spread.proofs.site.Site.put_seat.Goals as goal
 use Rattle.zq_spread.specs.Passes.{seen_in}
+use Rattle.zq_spread.specs.Worn.{reached_in}
 use Rattle.zq_spread.specs.declared.pass.Pass.{Pass}
 
 pub returns-clause-pass : goal.returns-clause-pass
@@ -16,6 +17,10 @@ returns-clause-pass c =
 pub returns-clause-seen : goal.returns-clause-seen
 returns-clause-seen c =
     ap seen_in (set_same c.args.pass.now.seats.items c.args.heap (Some c.args.seat) (subst (λ n. c.args.heap < n) (sym c.requires.pass.seats) c.requires.heap))
+
+pub returns-clause-reached : goal.returns-clause-reached
+returns-clause-reached c =
+    ap reached_in (set_same c.args.pass.now.seats.items c.args.heap (Some c.args.seat) (subst (λ n. c.args.heap < n) (sym c.requires.pass.seats) c.requires.heap))
 
 pub returns-clause-stays : goal.returns-clause-stays
 returns-clause-stays c = record {

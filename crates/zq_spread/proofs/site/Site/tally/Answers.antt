@@ -2,7 +2,7 @@ use Rattle.std.proofs.Common.{ap, arith, length, subst, sym, ◌∙◌}
 use Rattle.std.proofs.lemmas.List.Elements.{All-cons, All-tail}
 use Rattle.std.proofs.lemmas.List.Sums.{sum_by-cons}
 use Rattle.std.proofs.lemmas.Option.{slice_get_read}
-use Rattle.std.specs.Prelude.{All, IfSome, List, Some, refl, sum, ℕ, ◌+◌, ◌<◌, ◌≡◌, ◌∷◌}
+use Rattle.std.specs.Prelude.{All, IfSome, List, Some, refl, sum, ℕ, ◌+◌, ◌<◌, ◌≡◌, ◌≤◌, ◌∷◌}
 use Rattle.zq_spread.proofs.Companies.{all_back, all_same, back_but, back_but_same, follows_of, held_of, same_but_then, same_itself, same_sum, tallied_follows}
 use Rattle.zq_spread.proofs.Places.{zip_length}
 use Rattle.zq_spread.proofs.Seats.{same_some, seen_later}
@@ -11,12 +11,14 @@ use Rattle.zq_spread.specs.Companies.{HasSeenAll, IsCountBack, IsSeenByFirst, op
 use Rattle.zq_spread.specs.Kept.{Follows, follows_further}
 use Rattle.zq_spread.specs.Passes.{IsPassOf, IsSeatOf, IsSeenLater, seen_at, steps_at}
 use Rattle.zq_spread.specs.Rooms.{IsOf}
+use Rattle.zq_spread.specs.Worn.{reached_at}
 use Rattle.zq_spread.specs.declared.kept.Kept.{Kept}
 use Rattle.zq_spread.specs.declared.pass.Pass.{Pass}
 use Rattle.zq_spread.specs.declared.room.Room.{Room}
 use Rattle.zq_tally.specs.Words.{IsSameTotal, kept_of, parts_of, passes_of, total_of, total_table}
 use Rattle.zq_tally.specs.declared.view.TheConstants.{PARTS}
 use Rattle.zq_ticketlock.specs.Steps.{FollowsSeen}
+use Rattle.zq_ticketlock.specs.declared.lock.TheConstants.{LAST_TICKET}
 
 pub gather-requires-clause-own : goal.gather-requires-clause-own
 gather-requires-clause-own g c =
@@ -184,3 +186,11 @@ returns-in-Err-clause-stays g c =
       same_itself others,
     ) in
     subst (λ k. IsSeenByFirst k c.args.passes.now (new ∷ others)) c.from-heap.ensures (subst (λ l. IsSeenByFirst h l (new ∷ others)) (sym c.in-Some.ensures.cases.0) there)
+
+pub returns-in-Err-clause-worn : goal.returns-in-Err-clause-worn
+returns-in-Err-clause-worn g c =
+    let h : ℕ = c.from-heap.result in
+    let new : Pass = c.put_seat-in-Err.new.pass in
+    let last = c.in-Err.ensures.last in
+    let found : LAST_TICKET ≤ reached_at new h = subst (λ n. LAST_TICKET ≤ n) (sym c.put_seat-in-Err.ensures.reached) last in
+    subst (λ k. LAST_TICKET ≤ reached_at new k) c.from-heap.ensures found

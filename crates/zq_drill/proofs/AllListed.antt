@@ -1,0 +1,41 @@
+-- What lists are that were listed at posts.
+use Rattle.std.proofs.Common.{ap, arith, subst, sym, ◌∙◌}
+use Rattle.std.proofs.lemmas.List.{append_assoc, length-map}
+use Rattle.std.proofs.lemmas.List.Elements.{All-cons}
+use Rattle.std.specs.List.{IsFirstAndRest}
+use Rattle.std.specs.List.Sorted.{IsSorted}
+use Rattle.std.specs.Prelude.{All, List, [], length, map, ℕ, ℤ, ◌++◌, ◌∷◌, ◌≡◌}
+use Rattle.std.specs.declared.alloc.Global.{Global}
+use Rattle.std.specs.declared.vec.Vec.{Vec}
+use Rattle.zq_drill.specs.Listed.{AreListed, IsListed}
+use Rattle.zq_drill.specs.Lists.{listed, lists_of}
+use Rattle.zq_drill.specs.Posts.{site_of}
+use Rattle.zq_drill.specs.declared.post.Post.{Post}
+use Rattle.zq_model.specs.Meaning.{Scored, scored_cmp}
+use Rattle.zq_spread.specs.declared.pass.Pass.{Pass}
+
+-- there are as many as posts
+pub listed_number : (posts : List Post) (lists : List (List Scored)) → AreListed posts lists → length lists ≡ length posts
+listed_number [] [] is = omega arith
+listed_number [] (list ∷ lists) is = absurd is
+listed_number (post ∷ posts) [] is = absurd is
+listed_number (post ∷ posts) (list ∷ lists) is = omega (arith, listed_number posts lists is.2)
+
+-- each is sorted
+pub listed_sorted : (posts : List Post) (lists : List (List Scored)) → AreListed posts lists → All (IsSorted scored_cmp) lists
+listed_sorted [] [] is = λ k d high. absurd (omega (arith, high))
+listed_sorted [] (list ∷ lists) is = absurd is
+listed_sorted (post ∷ posts) [] is = absurd is
+listed_sorted (post ∷ posts) (list ∷ lists) is = All-cons (IsSorted scored_cmp) list lists is.1.sorted (listed_sorted posts lists is.2)
+
+-- a list is listed before the others
+pub listed_next : (post : Post) (others posts : List Post) (list : List Scored) (lists : List (List Scored)) (after : Pass) → IsFirstAndRest posts post others → IsListed (site_of post) post.pass after list → AreListed others lists → AreListed posts (list ∷ lists)
+listed_next post others posts list lists after is one rest = subst (λ (ps : List Post). AreListed ps (list ∷ lists)) (sym is.0) (after, one, rest)
+
+-- what is appended one by one is appended together
+pub appended : {A : Type 0} (old mid new : List A) (x : A) (xs : List A) → mid ≡ old ++ (x ∷ []) → new ≡ mid ++ xs → new ≡ old ++ (x ∷ xs)
+appended old mid new x xs first then = then ∙ (ap (λ ys. ys ++ xs) first ∙ append_assoc old (x ∷ []) xs)
+
+-- there are as many as vectors
+pub lists_number : (lists : List (Vec (ℤ × Vec ℕ Global) Global)) → length (lists_of lists) ≡ length lists
+lists_number lists = length-map lists (λ list. map listed list.items)

@@ -1,0 +1,7 @@
+mod AllListed
+mod Nexts
+mod Pushed
+mod Rounds
+mod Sames
+mod Sorteds
+mod Stations

@@ -1,0 +1,9 @@
+pub mod Draws
+pub mod Faults
+pub mod Listed
+pub mod Lists
+pub mod Meetings
+pub mod Posts
+pub mod Report
+pub mod Requests
+pub mod Rounds

@@ -1,0 +1,120 @@
+//! How the sites of a drill come to have the same.
+
+ghost use Rattle.std.specs.Prelude.{◌≡◌, ◌≢◌, ◌<◌, ◌≤◌, IfErr, IfOk, OnOk, length};
+ghost use Rattle.zq_drill.specs.Meetings.{AreHandedOver, IsHandedOver};
+ghost use Rattle.zq_drill.specs.Posts.{site_of};
+
+use crate::fault::DrillFault;
+use crate::post::Post;
+use crate::station::HEAPS;
+use std::alloc::Global;
+use std::sync::Wait;
+use zq_merge::{read_state, write_state};
+use zq_posheap::Seeded;
+use zq_shard::Shard;
+
+/// The heap as it comes out of its bytes.
+fn carried(alloc: Global, shard: &Shard) -> Result<Shard, DrillFault>
+    ensures same { IfOk result (λ other. other ≡ shard.now) }
+    ensures memory { IfErr result (λ fault. fault ≡ DrillFault.NoMemory) }
+{
+    let bytes = write_state(alloc, shard)?;
+    match read_state(alloc, &bytes, Seeded::new(0)) {
+        Ok(shard) => Ok(shard),
+        Err(_) => Err(DrillFault::NoMemory),
+    }
+}
+
+/// Merges a heap of the sender into the receiver, over its bytes.
+fn hand_over<R: Wait>(
+    rt: &R,
+    alloc: Global,
+    sender: &mut Post,
+    receiver: &mut Post,
+    heap: u8,
+) -> Result<(), DrillFault>
+    requires { heap < HEAPS }
+    ensures sender { sender.new.station ≡ sender.old.station }
+    ensures receiver { receiver.new.station ≡ receiver.old.station }
+    ensures handed { OnOk result (IsHandedOver (site_of sender.old) (site_of receiver.old) heap sender.old.pass sender.new.pass receiver.old.pass receiver.new.pass) }
+{
+    let copy = sender.state(rt, alloc, heap)?;
+    let shard = carried(alloc, &copy)?;
+    receiver.merge(rt, alloc, &shard)?;
+    Ok(())
+}
+
+/// Merges each heap of the sender into the receiver, over its bytes, in rising order.
+fn hand_all<R: Wait>(
+    rt: &R,
+    alloc: Global,
+    sender: &mut Post,
+    receiver: &mut Post,
+) -> Result<(), DrillFault>
+    ensures sender { sender.new.station ≡ sender.old.station }
+    ensures receiver { receiver.new.station ≡ receiver.old.station }
+    ensures handed { OnOk result (AreHandedOver (site_of sender.old) (site_of receiver.old) HEAPS sender.old.pass sender.new.pass receiver.old.pass receiver.new.pass) }
+{
+    for heap in 0..HEAPS {
+        hand_over(rt, alloc, sender, receiver, heap)?;
+    }
+    Ok(())
+}
+
+/// Merges each heap of the sender into the receiver, which is another site.
+fn meet<R: Wait>(
+    rt: &R,
+    alloc: Global,
+    posts: &mut [Post],
+    receiver: usize,
+    sender: usize,
+) -> Result<(), DrillFault>
+    requires receiver { receiver < length posts.old }
+    requires sender { sender < length posts.old }
+    requires others { sender ≢ receiver }
+    ensures { length posts.new ≡ length posts.old }
+{
+    if sender < receiver {
+        let (before, after) = posts.split_at_mut(receiver);
+        hand_all(rt, alloc, &mut before[sender], &mut after[0])
+    } else {
+        let (before, after) = posts.split_at_mut(sender);
+        hand_all(rt, alloc, &mut after[0], &mut before[receiver])
+    }
+}
+
+/// Merges the heaps of all other sites into the receiver, in the order of their numbers.
+fn gather<R: Wait>(
+    rt: &R,
+    alloc: Global,
+    posts: &mut [Post],
+    receiver: usize,
+) -> Result<(), DrillFault>
+    requires { receiver < length posts.old }
+    ensures { length posts.new ≡ length posts.old }
+{
+    for sender in 0..posts.len() {
+        if sender != receiver {
+            meet(rt, alloc, posts, receiver, sender)?;
+        }
+    }
+    Ok(())
+}
+
+/// Merges the heaps of all sites into every other site, in the order of the receivers' numbers.
+fn exchange_all<R: Wait>(rt: &R, alloc: Global, posts: &mut [Post]) -> Result<(), DrillFault>
+    ensures { length posts.new ≡ length posts.old }
+{
+    for receiver in 0..posts.len() {
+        gather(rt, alloc, posts, receiver)?;
+    }
+    Ok(())
+}
+
+/// Merges the heaps of all sites into every other site, twice over.
+pub fn exchange_twice<R: Wait>(rt: &R, alloc: Global, posts: &mut [Post]) -> Result<(), DrillFault>
+    ensures { length posts.new ≡ length posts.old }
+{
+    exchange_all(rt, alloc, posts)?;
+    exchange_all(rt, alloc, posts)
+}

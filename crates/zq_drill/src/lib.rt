@@ -1,0 +1,23 @@
+//! A drill of three sites whose links lose frames, double them and change their order: what each caller does, how the
+//! sites come to have the same, and what is written of them at the end.
+#![tactic(auto)]
+
+mod calling;
+mod draws;
+mod drilling;
+mod exchange;
+mod fault;
+mod linking;
+mod listing;
+mod opening;
+mod post;
+mod posting;
+mod report;
+mod request;
+mod running;
+mod station;
+#[cfg(test)]
+mod tests;
+
+pub use drilling::drill;
+pub use fault::DrillFault;

@@ -1,0 +1,53 @@
+//! What a link thread of a drill does.
+
+ghost use Rattle.rand_core.specs.Pcg32Seed.{pcg32_seed};
+ghost use Rattle.rand_pcg.specs.Pcg.{pcg32_of_seed};
+ghost use Rattle.std.specs.Prelude.{◌≡◌, ◌+◌, ◌%◌, ◌^◌, [], IfOk, replicate};
+
+use crate::post::Post;
+use crate::station::{HEAPS, SITES};
+use std::alloc::{AllocError, Global};
+use std::sync::Wait;
+use zq_dots::{Rule, SiteNo};
+use zq_node::Node;
+use zq_peers::{Link, Lossy, Mailbox, Straight, others};
+use zq_posheap::Seeded;
+
+/// What carries the frames of the site of this number: a faulty link to each site, which holds nothing back yet, with
+/// words of a `Pcg32` of the seed plus 8 plus the number. What the links pass on goes straight into the mailboxes.
+fn faulty<'a, R: Wait>(
+    rt: &'a R,
+    alloc: Global,
+    number: SiteNo,
+    inboxes: &'a [Mailbox],
+    seed: u64,
+) -> Result<Lossy<Straight<'a, R>>, AllocError>
+    ensures links { IfOk result (λ lossy. lossy.links.items ≡ replicate SITES []) }
+    ensures words { IfOk result (λ lossy. lossy.words ≡ pcg32_of_seed (pcg32_seed 16 ((seed + (8 + number)) % 2 ^ 64))) }
+{
+    let words = seed.wrapping_add(8 + u64::from(number.value()));
+    Lossy::new(alloc, SITES, words, Straight::new(rt, inboxes))
+}
+
+/// Hears what comes to the site, and answers over links that fail by the words of this seed, until it is to stop.
+#[tactic(auto, unfolding(zq_model::specs::Sets::SITES))]
+pub fn attend<R: Wait>(
+    rt: &R,
+    alloc: Global,
+    post: Post,
+    inbox: &Mailbox,
+    inboxes: &[Mailbox],
+    seed: u64,
+) -> Result<(), AllocError> {
+    let Post { station, pass } = post;
+    let number = station.number;
+    let mut carrier = faulty(rt, alloc, number, inboxes, seed)?;
+    let link = Link {
+        inbox,
+        others: others(alloc, number, SITES)?,
+        hasher: Seeded::new(0),
+    };
+    let mut node = Node::new(alloc, &station.site, number, HEAPS, Rule::High, pass);
+    link.attend(rt, alloc, &mut node, &mut carrier);
+    Ok(())
+}

@@ -1,0 +1,17 @@
+//! A place at a site, its type.
+
+ghost use Rattle.std.specs.Arc.{arc_value};
+ghost use Rattle.zq_server.specs.PassFacts.{pass_fact};
+ghost use Rattle.zq_spread.specs.Passes.{IsPassOf};
+
+use crate::station::Station;
+use std::sync::Arc;
+use zq_spread::Pass;
+
+/// A site of a drill, and one of the passes by which it is used.
+#[derive(Drop)]
+pub struct Post {
+    pub(crate) station: Arc<Station>,
+    pub(crate) pass: Pass,
+    pub(crate) ghost own: { IsPassOf (arc_value station).site pass } by { pass_fact (arc_value station).site pass },
+}

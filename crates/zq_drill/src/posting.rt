@@ -1,0 +1,53 @@
+//! What is done at a post.
+
+ghost use Rattle.std.specs.Prelude.{◌≡◌, ◌<◌, IfOk, OnOk};
+ghost use Rattle.zq_drill.specs.Posts.{site_of};
+ghost use Rattle.zq_node.specs.Calls.{Copied, IsCalled as HasCalled, Merged};
+ghost use Rattle.zq_resp.specs.Reply.{reply_bytes};
+ghost use Rattle.zq_spread.specs.Dispatch.{IsCalled};
+
+use crate::post::Post;
+use crate::station::HEAPS;
+use std::alloc::Global;
+use std::sync::Wait;
+use zq_journal::MergeFault;
+use zq_resp::Reply;
+use zq_shard::Shard;
+use zq_spread::ReadFault;
+use zq_words::Command;
+
+impl Post {
+    /// The reply of the site to the command. ZPOPNEAR chooses its heaps by the two words.
+    pub fn call<R: Wait>(
+        &mut self,
+        rt: &R,
+        alloc: Global,
+        command: &Command,
+        w1: u64,
+        w2: u64,
+    ) -> Reply
+        ensures station { self.new.station ≡ self.old.station }
+        ensures called { IsCalled (site_of self.old) command.now w1 w2 (reply_bytes result) self.old.pass self.new.pass }
+    {
+        self.station
+            .site
+            .call(rt, alloc, &mut self.pass, command, w1, w2)
+    }
+
+    /// A copy of a heap, as the site has it.
+    pub fn state<R: Wait>(&mut self, rt: &R, alloc: Global, heap: u8) -> Result<Shard, ReadFault>
+        requires { heap < HEAPS }
+        ensures station { self.new.station ≡ self.old.station }
+        ensures copied { IfOk result (λ shard. HasCalled (site_of self.old) self.old.pass self.new.pass (Copied heap shard)) }
+    {
+        self.station.site.state(rt, alloc, &mut self.pass, heap)
+    }
+
+    /// Merges a heap of another site into the site.
+    pub fn merge<R: Wait>(&mut self, rt: &R, alloc: Global, shard: &Shard) -> Result<(), MergeFault>
+        ensures station { self.new.station ≡ self.old.station }
+        ensures merged { OnOk result (HasCalled (site_of self.old) self.old.pass self.new.pass (Merged shard.now)) }
+    {
+        self.station.site.merge(rt, alloc, &mut self.pass, shard)
+    }
+}

@@ -1,0 +1,4 @@
+mod Follows
+mod Stays
+mod Parts
+mod Exactly

@@ -1,0 +1,8 @@
+use Rattle.zq_greet.proofs.Stays.{refusal_stays, welcome_stays}
+use Rattle.zq_greet.proofs.laws.decided_stays.Goals as goal
+
+pub returns-clause-welcome : goal.returns-clause-welcome
+returns-clause-welcome c = welcome_stays
+
+pub returns-clause-refusal : goal.returns-clause-refusal
+returns-clause-refusal c = refusal_stays

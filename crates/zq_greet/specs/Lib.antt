@@ -1,0 +1,4 @@
+pub mod Said
+pub mod Reading
+pub mod Opened
+pub mod Laws

@@ -1,0 +1,4 @@
+pub mod Topics
+pub mod Parcels
+pub mod Places
+pub mod Runs

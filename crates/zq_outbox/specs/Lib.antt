@@ -1,0 +1,4 @@
+pub mod Topic
+pub mod Outbox
+pub mod Inside
+pub mod Runs

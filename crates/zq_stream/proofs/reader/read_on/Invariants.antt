@@ -1,0 +1,14 @@
+use Rattle.std.proofs.Common.{◌++◌, length}
+use Rattle.zq_stream.specs.Stream.{Reaches, frames_in}
+use Rattle.zq_stream.specs.Unfinished.{Stands, text_so_far}
+use Rattle.zq_stream.proofs.reader.read_on.Given as goal
+
+abbrev pub invariant-loop-rest : goal.invariant-loop-rest
+invariant-loop-rest l =
+    record {
+      stands : Stands l.most l.unfinished;
+      reads : Reaches l.most (text_so_far l.fn.unfinished ++ l.fn.piece) (frames_in l.frames) (text_so_far l.unfinished ++ l.rest);
+    }
+
+abbrev pub decreases-loop-rest : goal.decreases-loop-rest
+decreases-loop-rest l = length l.rest

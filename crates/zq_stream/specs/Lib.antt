@@ -1,0 +1,4 @@
+pub mod Framed
+pub mod Stream
+pub mod Unfinished
+pub mod Laws

@@ -1,0 +1,120 @@
+//! A reader of frames.
+ghost use Rattle.std.specs.Prelude.{◌≡◌, ◌++◌, [], Some};
+ghost use Rattle.zq_stream.specs.Stream.{Feeds, answered, frames_in, is_inside};
+ghost use Rattle.zq_stream.specs.Unfinished.{PieceGives, Stands, text_so_far};
+
+use crate::fault::{StreamError, StreamFault};
+use crate::front::whole_front;
+use crate::unfinished::{Progress, Unfinished};
+use std::alloc::Global;
+use std::marker::Model;
+
+/// Reads frames from a stream of bytes, in whatever pieces it comes. Between two pieces it keeps the bytes that have come
+/// of the frame that is not yet whole, and nothing else.
+#[derive(Drop)]
+pub struct Reader {
+    most: u32,
+    unfinished: Option<Unfinished>,
+}
+
+impl Model for Reader {
+    ghost use Rattle.zq_stream.specs.Stream.{Reading};
+
+    ghost Value = { Reading };
+
+    ghost use Rattle.zq_stream.specs.Unfinished.{IsKept, reading_of};
+
+    ghost view = { reading_of };
+
+    ghost invariant = { IsKept };
+}
+
+impl Reader {
+    /// A reader of a stream from its first byte on, of frames of at most this many bytes. It takes no memory.
+    pub fn new(alloc: Global, most: u32) -> Reader
+        ensures most { result.most ≡ most }
+        ensures nothing { result.had ≡ Some [] }
+    {
+        Reader {
+            most,
+            unfinished: Some(Unfinished::new(alloc)),
+        }
+    }
+
+    /// Whether some bytes of an unfinished frame are kept.
+    pub fn inside(&self) -> bool
+        ensures { result ≡ is_inside self.now.had }
+    {
+        match &self.unfinished {
+            Some(unfinished) => unfinished.is_begun(),
+            None => false,
+        }
+    }
+
+    /// Takes the next piece of the stream, and hands out the frames that end in it, in order.
+    ///
+    /// The error has the frames that ended in this piece before the fault. Each later call answers `Over`.
+    ///
+    /// - `TooLong`: a length is above the most.
+    /// - `NoMemory`: memory was refused. The piece was read up to the frame that needed it.
+    ///
+    /// Memory is taken for bytes that have come, never for a length.
+    pub fn feed(&mut self, alloc: Global, piece: &[u8]) -> Result<Vec<Vec<u8>>, StreamError>
+        ensures most { self.new.most ≡ self.old.most }
+        ensures feeds { Feeds self.old.most self.old.had piece.now (answered result) self.new.had }
+    {
+        let mut frames = Vec::new(alloc);
+        let Some(unfinished) = self.unfinished.take() else {
+            return Err(StreamError {
+                fault: StreamFault::Over,
+                before: frames,
+            });
+        };
+        match read_on(alloc, self.most, unfinished, piece, &mut frames) {
+            Ok(unfinished) => {
+                self.unfinished = Some(unfinished);
+                Ok(frames)
+            }
+            Err(fault) => Err(StreamError {
+                fault,
+                before: frames,
+            }),
+        }
+    }
+}
+
+/// Reads a piece. Adds the frames that end in it, and answers the one that does not end in it. A frame that stands whole
+/// in the piece is copied from it at once.
+fn read_on(
+    alloc: Global,
+    most: u32,
+    unfinished: Unfinished,
+    piece: &[u8],
+    frames: &mut Vec<Vec<u8>>,
+) -> Result<Unfinished, StreamFault>
+    requires stands { Stands most unfinished }
+    requires none { frames.old.items ≡ [] }
+    ensures { PieceGives most (text_so_far unfinished ++ piece.now) result (frames_in frames.new) }
+{
+    let mut unfinished = unfinished;
+    let mut rest = piece;
+    while !rest.is_empty() {
+        if !unfinished.is_begun()
+            && let Some((frame, after)) = whole_front(most, rest)?
+        {
+            frames.push(Vec::from_slice(alloc, frame)?)?;
+            rest = after;
+            continue;
+        }
+        let (progress, taken) = unfinished.read(alloc, most, rest)?;
+        rest = &rest[taken..];
+        unfinished = match progress {
+            Progress::More(more) => more,
+            Progress::Whole(frame) => {
+                frames.push(frame)?;
+                Unfinished::new(alloc)
+            }
+        };
+    }
+    Ok(unfinished)
+}

@@ -1,0 +1,43 @@
+-- What the words of a command line ask for.
+
+use Rattle.zqueue.specs.declared.asked.Command.TheVariants.{Drill, Pipe, Serve}
+use Rattle.zqueue.specs.declared.asked.Command.{Command}
+use Rattle.std.specs.Prelude.{List, None, Option, Some, [], codes, ℕ, ◌∷◌, ◌≡◌, ◌≤◌}
+use Rattle.std.specs.Str.Parse.{IsNumeral, digits_value}
+
+-- the greatest seed, and the greatest number of rounds
+abbrev pub SEEDS : ℕ
+SEEDS = 18446744073709551615
+
+abbrev pub ROUNDS : ℕ
+ROUNDS = 1000000
+
+-- the text is one or more digits, which write a number of at most so much
+abbrev pub IsNumber : List ℕ → ℕ → Type 0
+IsNumber text most = IsNumeral 10 text × (digits_value 10 text ≤ most)
+
+-- two words, a drill's seed and its number of rounds
+pub record AreNumbers (rest : List (List ℕ)) (seed rounds : ℕ) : Type 0 where
+  pub first : List ℕ
+  pub second : List ℕ
+  pub words : rest ≡ first ∷ second ∷ []
+  pub seeds : IsNumber first SEEDS
+  pub seed_is : seed ≡ digits_value 10 first
+  pub most : IsNumber second ROUNDS
+  pub rounds_is : rounds ≡ digits_value 10 second
+
+-- the command's name, and the words behind it
+abbrev pub Names : List ℕ → List (List ℕ) → Command → Type 0
+Names name rest Pipe = (name ≡ codes "pipe") × (rest ≡ [])
+Names name rest (Serve path) = (name ≡ codes "serve") × (rest ≡ path.bytes.items ∷ [])
+Names name rest (Drill seed rounds) = (name ≡ codes "drill") × AreNumbers rest seed rounds
+
+-- what these words ask for, where they ask for anything
+abbrev pub Asks : List ℕ → List (List ℕ) → Option Command → Type 0
+Asks name rest None = (command : Command) → ¬ Names name rest command
+Asks name rest (Some command) = Names name rest command
+
+-- the program's name stands first
+abbrev pub IsAsked : List (List ℕ) → Option Command → Type 0
+IsAsked (program ∷ (name ∷ rest)) command = Asks name rest command
+IsAsked words command = command ≡ None
