@@ -73,7 +73,7 @@ impl Line {
     pub fn next<R: Wait>(&self, rt: &R) -> Option<Turn> {
         let mut wire = self.wire.lock(rt);
         for _ in rt.forever() {
-            if wire.is_over() {
+            if wire.over {
                 return None;
             }
             if let Some(turn) = take_turn(&mut wire) {
@@ -87,7 +87,7 @@ impl Line {
 
 /// The frame that waits first, and the link over which it goes.
 fn take_turn(wire: &mut Wire<Arc<TcpStream>>) -> Option<Turn> {
-    let Up { number, stream } = wire.link()?;
+    let Up { number, stream } = wire.link.as_ref()?;
     let (number, stream) = (*number, Arc::try_clone(stream).ok()?);
     let parcel = wire.take()?;
     Some(Turn {

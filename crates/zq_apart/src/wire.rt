@@ -1,6 +1,8 @@
 //! What is known of the link to a peer, and what waits for it.
 
-ghost use Rattle.std.specs.Prelude.{◌≡◌, ◌<◌, ◌+◌, ◌%◌, ◌^◌, [], IfErr, IfOk, IsErr, IsTrue, None, Some, false, if◌then◌else◌, option_map, option_to_list, true, ◌++◌, ◌↔◌, ◌&&◌};
+ghost use Rattle.std.specs.Prelude.{◌≡◌, ◌++◌, IfOk, None, Option, Some, if◌then◌else◌, is_some, option_map, option_to_list};
+ghost use Rattle.zq_apart.specs.Wire.{fresh, halted, is_up, lowered, next_number, put_on, raised, stream_of as link_stream};
+ghost use Rattle.zq_outbox.specs.Outbox.{parcel_of};
 
 use std::alloc::{AllocError, Global};
 use std::mem;
@@ -18,18 +20,22 @@ pub struct Up<S> {
 /// The link to a peer, if it is up, and the frames that wait for it. Where there is no link none waits.
 #[derive(Drop)]
 pub struct Wire<S> {
-    pub(crate) heaps: u8,
-    pub(crate) outbox: Outbox,
-    pub(crate) link: Option<Up<S>>,
-    pub(crate) last: u64,
-    pub(crate) over: bool,
+    /// What waits.
+    pub outbox: Outbox,
+    /// The link.
+    pub link: Option<Up<S>>,
+    /// The number of the latest link, and 0 before the first.
+    pub last: u64,
+    /// Whether the site ends.
+    pub over: bool,
 }
 
 impl<S> Wire<S> {
     /// No link, and nothing waits, of a site of this many heaps.
-    pub fn new(alloc: Global, heaps: u8) -> Result<Wire<S>, AllocError> {
+    pub fn new(alloc: Global, heaps: u8) -> Result<Wire<S>, AllocError>
+        ensures { IfOk result (λ wire. wire ≡ fresh heaps) }
+    {
         Ok(Wire {
-            heaps,
             outbox: Outbox::new(alloc, heaps)?,
             link: None,
             last: 0,
@@ -37,51 +43,10 @@ impl<S> Wire<S> {
         })
     }
 
-    /// Whether the site ends.
-    pub fn is_over(&self) -> bool {
-        self.over
-    }
-
-    /// The link, if it is up.
-    pub fn link(&self) -> Option<&Up<S>> {
-        self.link.as_ref()
-    }
-}
-
-impl<S: Drop> Wire<S> {
-    /// A link is up over this stream: its number, and the stream of the older link, which it replaces. What waited for the
-    /// older link waits no more. Where the site ends the link is not up, and its stream is dropped.
-    pub fn raise(&mut self, stream: S) -> Option<(u64, Option<S>)> {
-        if self.over {
-            return None;
-        }
-        self.outbox.clear();
-        let number = self.last.wrapping_add(1);
-        self.last = number;
-        let up = Up { number, stream };
-        let older = mem::replace(&mut self.link, Some(up));
-        Some((number, stream_of(older)))
-    }
-
-    /// The link of this number is down: its stream. Where it was replaced, or was down before, nothing happens.
-    pub fn lower(&mut self, number: u64) -> Option<S> {
-        if self.is_up(number) {
-            self.outbox.clear();
-            stream_of(self.link.take())
-        } else {
-            None
-        }
-    }
-
-    /// The site ends: the link is down, and none is up again. It gives the link's stream.
-    pub fn halt(&mut self) -> Option<S> {
-        self.over = true;
-        self.outbox.clear();
-        stream_of(self.link.take())
-    }
-
     /// Whether the link of this number is up.
-    fn is_up(&self, number: u64) -> bool {
+    fn is_up(&self, number: u64) -> bool
+        ensures { result ≡ is_up number self.now.link }
+    {
         match &self.link {
             Some(up) => up.number == number,
             None => false,
@@ -90,20 +55,70 @@ impl<S: Drop> Wire<S> {
 
     /// The frame waits, in the place of an older one of its topic. Where there is no link, or the site has no such heap, it
     /// is dropped.
-    pub fn put(&mut self, topic: Topic, frame: Vec<u8>) {
-        if self.link.is_some() && topic.heap() < self.heaps {
+    pub fn put(&mut self, topic: Topic, frame: Vec<u8>)
+        ensures { self.new ≡ put_on topic frame.items self.old }
+    {
+        if self.link.is_some() && topic.heap() < self.outbox.heaps() {
             self.outbox.put(topic, frame);
         }
     }
 
     /// The frame that waits first, which then waits no more, if one does.
-    pub fn take(&mut self) -> Option<Parcel> {
+    pub fn take(&mut self) -> Option<Parcel>
+        ensures heaps { self.new.outbox.heaps ≡ self.old.outbox.heaps }
+        ensures first { self.old.outbox.parcels ≡ option_to_list (option_map parcel_of result) ++ self.new.outbox.parcels }
+        ensures link { self.new.link ≡ self.old.link }
+        ensures last { self.new.last ≡ self.old.last }
+        ensures over { self.new.over ≡ self.old.over }
+    {
         self.outbox.take()
     }
 }
 
+impl<S: Drop> Wire<S> {
+    /// A link is up over this stream: its number, and the stream of the older link, which it replaces. What waited for the
+    /// older link waits no more. Where the site ends the link is not up, and its stream is dropped.
+    pub fn raise(&mut self, stream: S) -> Option<(u64, Option<S>)>
+        ensures there { result ≡ (if self.old.over then None else Some (next_number self.old, option_map link_stream self.old.link)) }
+        ensures up { self.new ≡ (if self.old.over then self.old else raised stream self.old) }
+    {
+        if self.over {
+            return None;
+        }
+        self.outbox.clear();
+        let number = self.last.wrapping_add(1);
+        self.last = number;
+        let older = mem::replace(&mut self.link, Some(Up { number, stream }));
+        Some((number, stream_of(older)))
+    }
+
+    /// The link of this number is down: its stream. Where it was replaced, or was down before, nothing happens.
+    pub fn lower(&mut self, number: u64) -> Option<S>
+        ensures stream { result ≡ (if is_up number self.old.link then option_map link_stream self.old.link else None) }
+        ensures down { self.new ≡ lowered number self.old }
+    {
+        if !self.is_up(number) {
+            return None;
+        }
+        self.outbox.clear();
+        stream_of(self.link.take())
+    }
+
+    /// The site ends: the link is down, and none is up again. It gives the link's stream.
+    pub fn halt(&mut self) -> Option<S>
+        ensures stream { result ≡ option_map link_stream self.old.link }
+        ensures over { self.new ≡ halted self.old }
+    {
+        self.over = true;
+        self.outbox.clear();
+        stream_of(self.link.take())
+    }
+}
+
 /// The stream of a link.
-fn stream_of<S: Drop>(link: Option<Up<S>>) -> Option<S> {
+fn stream_of<S: Drop>(link: Option<Up<S>>) -> Option<S>
+    ensures { result ≡ option_map link_stream link }
+{
     match link {
         Some(Up { stream, .. }) => Some(stream),
         None => None,
