@@ -1,6 +1,6 @@
 -- The link to a peer, and what waits for it.
 
-use Rattle.std.specs.Prelude.{Bool, List, None, Option, Some, [], false, if◌then◌else◌, is_some, nat_lt, true, ℕ, ◌%◌, ◌&&◌, ◌+◌, ◌==◌, ◌^◌, ◌≡◌, ◌≢◌}
+use Rattle.std.specs.Prelude.{Bool, List, None, Option, Some, [], false, if◌then◌else◌, is_some, nat_lt, true, ℕ, ◌%◌, ◌&&◌, ◌+◌, ◌==◌, ◌^◌}
 use Rattle.zq_apart.specs.declared.wire.Up.{Up}
 use Rattle.zq_apart.specs.declared.wire.Wire.{Wire}
 use Rattle.zq_outbox.specs.Outbox.{Waiting, put_in}
@@ -51,11 +51,3 @@ put_on topic frame wire =
     if is_some wire.link && nat_lt (heap_of topic) wire.outbox.heaps
     then record { outbox = record { heaps = wire.outbox.heaps; parcels = put_in topic frame wire.outbox.parcels }; link = wire.link; last = wire.last; over = wire.over }
     else wire
-
--- The end of an older link does not take the newer one down.
-abbrev pub OlderEndsAlone : Type 1
-OlderEndsAlone = {S : Type 0} (number : ℕ) (stream : S) (wire : Wire S) → number ≢ next_number wire → lowered number (raised stream wire) ≡ raised stream wire
-
--- where there is no link nothing waits
-abbrev pub IsIdle : {S : Type 0} → Wire S → Type 0
-IsIdle wire = wire.link ≡ None → wire.outbox.parcels ≡ []

@@ -8,8 +8,10 @@ use zq_stream::StreamFault;
 pub enum Loss {
     /// The peer closed it.
     Closed,
-    /// A read or a write failed, or nothing came for too long.
+    /// A read or a write failed.
     Broken,
+    /// Nothing came for as long as a peer may say nothing.
+    Silent,
     /// A frame is longer than a frame may be.
     TooLong,
     /// There was no memory for what came.
@@ -32,6 +34,7 @@ impl fmt::Display for Loss {
         f.write_str(match self {
             Loss::Closed => "it was closed",
             Loss::Broken => "it broke",
+            Loss::Silent => "nothing came for 20 seconds",
             Loss::TooLong => "a frame is too long",
             Loss::NoMemory => "there was no memory for what came",
         })

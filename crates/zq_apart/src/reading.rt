@@ -45,6 +45,7 @@ fn read_piece<'a>(stream: &TcpStream, piece: &'a mut [u8]) -> Result<&'a [u8], L
         Ok(0) => Err(Loss::Closed),
         Ok(count) => Ok(&piece[..count]),
         Err(error) if error.kind() == ErrorKind::Interrupted => Ok(&[]),
+        Err(error) if error.kind() == ErrorKind::WouldBlock => Err(Loss::Silent),
         Err(_) => Err(Loss::Broken),
     }
 }

@@ -183,8 +183,8 @@ where
     })
 }
 
-/// How many threads accept peers, of which so many dial: two for each, and at least one. So a peer whose old link has not
-/// ended yet comes in, and strangers do not keep all others out.
+/// How many threads accept peers, of which so many dial: two for each, and at least one. So a peer comes in whose old link
+/// has not ended yet.
 fn acceptors(dialers: usize) -> usize {
     dialers.saturating_mul(2).max(1)
 }

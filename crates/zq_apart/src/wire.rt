@@ -1,6 +1,6 @@
 //! What is known of the link to a peer, and what waits for it.
 
-ghost use Rattle.std.specs.Prelude.{◌≡◌, ◌++◌, IfOk, None, Option, Some, if◌then◌else◌, is_some, option_map, option_to_list};
+ghost use Rattle.std.specs.Prelude.{◌≡◌, ◌++◌, ◌≢◌, ℕ, IfOk, IsSome, None, Option, Some, if◌then◌else◌, is_some, option_map, option_to_list};
 ghost use Rattle.zq_apart.specs.Wire.{fresh, halted, is_up, lowered, next_number, put_on, raised, stream_of as link_stream};
 ghost use Rattle.zq_outbox.specs.Outbox.{parcel_of};
 
@@ -17,7 +17,7 @@ pub struct Up<S> {
     pub stream: S,
 }
 
-/// The link to a peer, if it is up, and the frames that wait for it. Where there is no link none waits.
+/// The link to a peer, if it is up, and the frames that wait for it.
 #[derive(Drop)]
 pub struct Wire<S> {
     /// What waits.
@@ -77,10 +77,12 @@ impl<S> Wire<S> {
 
 impl<S: Drop> Wire<S> {
     /// A link is up over this stream: its number, and the stream of the older link, which it replaces. What waited for the
-    /// older link waits no more. Where the site ends the link is not up, and its stream is dropped.
+    /// older link waits no more, and the older link's end does not take this one down. Where the site ends the link is not
+    /// up, and its stream is dropped.
     pub fn raise(&mut self, stream: S) -> Option<(u64, Option<S>)>
         ensures there { result ≡ (if self.old.over then None else Some (next_number self.old, option_map link_stream self.old.link)) }
         ensures up { self.new ≡ (if self.old.over then self.old else raised stream self.old) }
+        ensures alone { IsSome result → (number : ℕ) → number ≢ next_number self.old → lowered number self.new ≡ self.new }
     {
         if self.over {
             return None;
