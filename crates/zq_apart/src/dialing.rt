@@ -6,7 +6,7 @@ use crate::pause::{Pause, pause_after};
 use crate::shared::Shared;
 use crate::times::CONNECTING;
 use log::Log;
-use std::net::{Net, TcpStream};
+use std::net::{Net, TcpListener, TcpStream};
 use std::random::RandomSource;
 use std::sync::Wait;
 use std::time::{Clock, Duration};
@@ -14,7 +14,7 @@ use std::time::{Clock, Duration};
 /// Dials the peer of a line, and dials it again after each end of the link, until the site ends.
 pub fn dial_line<N, L>(net: &N, log: &L, shared: Shared<'_>, line: &Line)
 where
-    N: Net<Stream = TcpStream>,
+    N: Net<Listener = TcpListener, Stream = TcpStream>,
     L: Log + RandomSource + Clock + Wait,
 {
     let mut pause = Pause::first();
@@ -33,7 +33,7 @@ where
 /// Dials the peer of a line, and says whether it was welcome.
 fn dial_once<N, L>(net: &N, log: &L, shared: Shared<'_>, line: &Line) -> bool
 where
-    N: Net<Stream = TcpStream>,
+    N: Net<Listener = TcpListener, Stream = TcpStream>,
     L: Log + RandomSource + Clock + Wait,
 {
     let peer = line.peer();

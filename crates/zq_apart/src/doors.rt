@@ -39,7 +39,12 @@ impl Doors {
 
     /// Connects to the listener's address, until no thread accepts any more: each ends where it has accepted a connection
     /// after the site's end was told.
-    pub fn wake<N: Net<Stream = TcpStream>, R: Clock>(&self, net: &N, rt: &R, address: SocketAddr) {
+    pub fn wake<N: Net<Listener = TcpListener, Stream = TcpStream>, R: Clock>(
+        &self,
+        net: &N,
+        rt: &R,
+        address: SocketAddr,
+    ) {
         for _ in 0..u64::MAX {
             if self.kept.load(Ordering::SeqCst) == 0 {
                 break;

@@ -10,7 +10,7 @@ use crate::teller::Teller;
 use crate::times::TELLING;
 use crate::writing::write_line;
 use log::Log;
-use std::net::{Net, TcpStream};
+use std::net::{Net, TcpListener, TcpStream};
 use std::random::RandomSource;
 use std::sync::Wait;
 use std::thread;
@@ -37,7 +37,7 @@ pub fn run_site<N, L>(
     seeds: Seeds,
 ) -> Result<(), ServeFault>
 where
-    N: Net<Stream = TcpStream> + Sync,
+    N: Net<Listener = TcpListener, Stream = TcpStream> + Sync,
     L: Log + RandomSource + Clock + Threads + Wait + Sync,
 {
     let Crew { workers, linkers } = crew;
@@ -84,7 +84,7 @@ fn run_writers<N, L>(
     seed: u64,
 ) -> Result<(), ServeFault>
 where
-    N: Net<Stream = TcpStream> + Sync,
+    N: Net<Listener = TcpListener, Stream = TcpStream> + Sync,
     L: Log + RandomSource + Clock + Threads + Wait + Sync,
 {
     thread::scope(thread::scope_env(), log, move |scope| {
@@ -113,7 +113,7 @@ fn run_dialers<N, L>(
     seed: u64,
 ) -> Result<(), ServeFault>
 where
-    N: Net<Stream = TcpStream> + Sync,
+    N: Net<Listener = TcpListener, Stream = TcpStream> + Sync,
     L: Log + RandomSource + Clock + Threads + Wait + Sync,
 {
     thread::scope(thread::scope_env(), log, move |scope| {
@@ -158,7 +158,7 @@ fn run_acceptors<N, L>(
     seed: u64,
 ) -> Result<(), ServeFault>
 where
-    N: Net<Stream = TcpStream> + Sync,
+    N: Net<Listener = TcpListener, Stream = TcpStream> + Sync,
     L: Log + RandomSource + Clock + Threads + Wait + Sync,
 {
     thread::scope(thread::scope_env(), log, move |scope| {

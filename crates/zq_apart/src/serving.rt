@@ -31,6 +31,7 @@ use zq_settings::SiteSettings;
 /// site has, and those that lack something are sent it. A link over which nothing came for 20 seconds is given up.
 ///
 /// What goes wrong at a connection, with a peer or on a link ends that alone, and is warned of in the log.
+/// The log's own handle does not connect within a time, so the net is passed beside it.
 ///
 /// # Errors
 ///

@@ -184,7 +184,15 @@ pub fn open_all<R: Net<Listener = TcpListener, Stream = TcpStream>>(
     let mut rest = ports;
     let mut place = 0u8;
     while let Some((port, others)) = rest.split_first() {
-        open_one(net, alloc, &plan_of(settings, place), *port, sites, hasher, &mut crew)?;
+        open_one(
+            net,
+            alloc,
+            &plan_of(settings, place),
+            *port,
+            sites,
+            hasher,
+            &mut crew,
+        )?;
         rest = others;
         place += 1;
     }

@@ -85,13 +85,7 @@ fn run_all<L: Log + Threads + Wait + Sync>(
 }
 
 /// Links a site to the others, whose mailboxes these are, until it is to stop. Site N's is at place N.
-fn link_one<R: Wait>(
-    rt: &R,
-    alloc: Global,
-    linker: Linker,
-    mailboxes: &[Mailbox],
-    hasher: Seeded,
-) {
+fn link_one<R: Wait>(rt: &R, alloc: Global, linker: Linker, mailboxes: &[Mailbox], hasher: Seeded) {
     let number = linker.number();
     let mut carrier = Straight::new(rt, number, mailboxes);
     if let Some(inbox) = mailboxes.get(usize::from(number.value())) {
