@@ -11,6 +11,7 @@ mod name;
 mod number;
 mod ports;
 mod read;
+mod site;
 mod table;
 #[cfg(test)]
 mod tests;
@@ -23,6 +24,7 @@ pub use key::Key;
 pub use name::Name;
 pub use ports::{MOST_PORTS, Port, Ports};
 pub use read::settings;
+pub use site::{Peer, Peers, SiteSettings};
 pub use values::{ConnectionCount, HeapCount, Seed, Settings, WorkerCount};
 pub use why::Why;
 pub use within::Within;
