@@ -1,4 +1,4 @@
-// Laws of openings, over every list of bytes.
+//! Laws of openings, over every list of bytes.
 
 ghost use Rattle.zq_greet.specs.Laws as law;
 
