@@ -16,9 +16,7 @@ use std::thread::Threads;
 use std::time::Clock;
 use zq_peers::Mailbox;
 use zq_posheap::Seeded;
-use zq_serve::{
-    Crew, Plan, ServeFault, address_of, draw_hasher, hire, listen, most_waiting, open_station,
-};
+use zq_serve::{Crew, Plan, ServeFault, address_of, draw_hasher, listen, most_waiting, open_site};
 use zq_settings::SiteSettings;
 
 /// Serves the site of the settings in this process: `workers` connections of its port at once, the others as these end.
@@ -86,10 +84,9 @@ fn open_crew<R: Net<Listener = TcpListener, Stream = TcpStream>>(
         connections: settings.connections,
     };
     let address = address_of(settings.bind, settings.port);
-    let (station, passes) = open_station(net, alloc, &plan, address, hasher)?;
     let mut crew = Crew::new(alloc);
     let peers = peers_of(alloc, settings)?;
-    hire(&station, passes, peers, &mut crew)?;
+    open_site(net, alloc, &plan, address, peers, hasher, &mut crew)?;
     Ok(crew)
 }
 

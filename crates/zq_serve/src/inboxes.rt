@@ -1,7 +1,5 @@
 //! Where the mailboxes of sites are.
 
-ghost use Rattle.std.specs.Prelude.{◌≡◌};
-
 use zq_dots::SiteNo;
 use zq_peers::Mailbox;
 

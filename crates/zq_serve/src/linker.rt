@@ -1,7 +1,6 @@
 //! What links a site to the others.
 
 ghost use Rattle.std.specs.Arc.{arc_value};
-ghost use Rattle.std.specs.Prelude.{◌≡◌};
 ghost use Rattle.zq_server.specs.PassFacts.{pass_fact};
 ghost use Rattle.zq_spread.specs.Passes.{IsPassOf};
 
@@ -24,14 +23,6 @@ pub struct Linker {
 }
 
 impl Linker {
-    /// The number of its site.
-    pub fn number(&self) -> SiteNo
-        ensures { result ≡ (arc_value self.now.station).number }
-    {
-        let station: &Station = &self.station;
-        station.number
-    }
-
     /// Hears what comes to its site's mailbox, and tells the other sites what this one has, until Stop comes. What it sends
     /// goes to the carrier; of frames that it drops the witness is told. A state that is heard lies by the hasher.
     pub fn run<R: Wait, C: Carry, T: Witness>(

@@ -81,10 +81,7 @@ impl Crew {
 }
 
 /// Makes a site and its station, which listens on this address, with passes for its workers and one more for its linker.
-/// The site's members lie by the hasher.
-///
-/// `Device` where the address could not be listened on, and `NoMemory`.
-pub fn open_station<R: Net<Listener = TcpListener, Stream = TcpStream>>(
+fn open_station<R: Net<Listener = TcpListener, Stream = TcpStream>>(
     net: &R,
     alloc: Global,
     plan: &Plan,
@@ -118,9 +115,7 @@ pub fn open_station<R: Net<Listener = TcpListener, Stream = TcpStream>>(
 
 /// Appends a linker with the last of the passes where the site has others beside it, and a worker for each of the other
 /// passes.
-///
-/// `NoMemory`: then some may have been appended.
-pub fn hire(
+fn hire(
     station: &Arc<Station>,
     passes: Vec<Pass>,
     others: Vec<SiteNo>,
@@ -225,8 +220,24 @@ fn open_one<R: Net<Listener = TcpListener, Stream = TcpStream>>(
     requires { sites ≤ 64 }
 {
     let address = address_of(IpAddr::V4(Ipv4Addr::LOCALHOST), port);
-    let (station, passes) = open_station(net, alloc, plan, address, hasher)?;
     let others = others(alloc, plan.number, sites)?;
+    open_site(net, alloc, plan, address, others, hasher, crew)
+}
+
+/// Makes a site that has done nothing, whose members lie by the hasher, listens on the address for its clients, and appends
+/// what works for it: its workers and, where it has others beside it, its linker.
+///
+/// `Device` where the address could not be listened on, and `NoMemory`: then some may have been appended.
+pub fn open_site<R: Net<Listener = TcpListener, Stream = TcpStream>>(
+    net: &R,
+    alloc: Global,
+    plan: &Plan,
+    address: SocketAddr,
+    others: Vec<SiteNo>,
+    hasher: Seeded,
+    crew: &mut Crew,
+) -> Result<(), ServeFault> {
+    let (station, passes) = open_station(net, alloc, plan, address, hasher)?;
     hire(&station, passes, others, crew)
 }
 

@@ -6,6 +6,7 @@ use crate::inboxes::Inboxes;
 use crate::linker::Linker;
 use crate::opening::{Crew, draw_hasher, open_all, open_mailboxes};
 use crate::running::run_workers;
+use crate::station::Station;
 use log::Log;
 use std::alloc::Global;
 use std::io::Write;
@@ -14,6 +15,7 @@ use std::random::RandomSource;
 use std::sync::Wait;
 use std::thread;
 use std::thread::Threads;
+use zq_dots::SiteNo;
 use zq_peers::{Mailbox, Silent, Straight};
 use zq_posheap::Seeded;
 use zq_settings::Settings;
@@ -86,9 +88,15 @@ fn run_all<L: Log + Threads + Wait + Sync>(
 
 /// Links a site to the others, whose mailboxes these are, until it is to stop. Site N's is at place N.
 fn link_one<R: Wait>(rt: &R, alloc: Global, linker: Linker, mailboxes: &[Mailbox], hasher: Seeded) {
-    let number = linker.number();
+    let number = site_of(&linker);
     let mut carrier = Straight::new(rt, number, mailboxes);
     if let Some(inbox) = mailboxes.get(usize::from(number.value())) {
         linker.run(rt, alloc, inbox, hasher, &mut carrier, &Silent);
     }
+}
+
+/// The number of a linker's site.
+fn site_of(linker: &Linker) -> SiteNo {
+    let station: &Station = &linker.station;
+    station.number
 }
