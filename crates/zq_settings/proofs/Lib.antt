@@ -4,5 +4,6 @@ pub mod Meant
 pub mod MeantNumbers
 pub mod MeantPorts
 pub mod Seen
+pub mod Spelled
 pub mod Steps
 pub mod Told
