@@ -49,7 +49,7 @@ SiteBreaks table (Kind key) = HasValue key (IsOfOtherKind key) table
 SiteBreaks table (Range key) = HasValue key (IsOutOfRange key) table
 SiteBreaks table (PeerTwice site) = HasTwice site table
 SiteBreaks table (OwnPeer site) = (value_at key.Site table ≡ Some (integer (pos site))) × HasPeer (λ peer. value_at key.PeerSite peer ≡ Some (integer (pos site))) table
-SiteBreaks table (Exposed key) = (value_at key.Secret table ≡ None) × HasValue key IsExposed table
+SiteBreaks table (Exposed address) = (value_at key.Secret table ≡ None) × HasValue address IsExposed table
 SiteBreaks table _ = ⊥
 
 -- a table is refused for a rule that it breaks

@@ -63,8 +63,14 @@ pub(crate) fn find_site_twice(peers: &[Peer]) -> Option<SiteNo>
 }
 
 /// Whether one of the peers has this number.
+#[tactic(auto, using(crate::proofs::Seen::sites_drop))]
 fn has_site(peers: &[Peer], site: SiteNo) -> bool
     ensures { result ≡ list_any (λ other. other == site) (sites_of peers.now) }
 {
-    peers.iter().any(|peer| peer.site == site)
+    for peer in peers {
+        if peer.site == site {
+            return true;
+        }
+    }
+    false
 }

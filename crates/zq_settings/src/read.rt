@@ -57,7 +57,7 @@ pub fn settings(alloc: Global, text: &str) -> Result<Settings, SettingsFault>
 ///
 /// `Refused` with the first rule that the text breaks, and never where it breaks none. `NoMemory` where there was no
 /// memory to read the text.
-#[tactic(auto, using(crate::proofs::Told::given_since, crate::proofs::Told::refused_since, crate::proofs::Told::no_table_since))]
+#[tactic(auto, using(crate::proofs::Told::site_given_since, crate::proofs::Told::site_refused_since, crate::proofs::Told::no_site_table_since))]
 pub fn site_settings(alloc: Global, text: &str) -> Result<SiteSettings, SettingsFault>
     ensures given { IfOk result (HasSiteSettings text.now) }
     ensures refused { IfErr result (IsSiteRefusal text.now) }
