@@ -50,6 +50,6 @@ none_read read done entries i d why within is = rw (items_view-drop entries i d 
 pub sites_drop : (peers : List Peer) (i : ℕ) (d : Peer) → i < length peers → sites_of (drop i peers) ≡ (get_or peers i d).site ∷ sites_of (drop (i + 1) peers)
 sites_drop peers i d within = rw (drop_more peers i d within)
 
-pub no_peers : ArePeers []
+pub no_peers : (peers : List Peer) → peers ≡ [] → ArePeers peers
 unfolding IsDistinct
-no_peers = (omega arith, tt)
+no_peers peers none = rw none (omega arith, tt)

@@ -165,6 +165,10 @@ record HasSplit (R : Data → Peer → Type 0) (list : List Data) (site : ℕ) (
   are : AreEach R back rest
   left : sites_of rest ≡ others
 
+one_further : (R : Data → Peer → Type 0) (entry : Data) (list : List Data) (site : ℕ) (others : List ℕ) → HasSplit R list site others → HasSplit R (entry ∷ list) site others
+one_further R entry list site others found =
+    record { front = entry ∷ found.front; entry = found.entry; back = found.back; peer = found.peer; rest = found.rest; split = ap (λ l. entry ∷ l) found.split; says = found.says; same = found.same; are = found.are; left = found.left }
+
 split_at : (R : Data → Peer → Type 0) (list : List Data) (peers : List Peer) (before : List ℕ) (site : ℕ) (others : List ℕ) → AreEach R list peers → sites_of peers ≡ before ++ site ∷ others → HasSplit R list site others
 split_at R [] [] [] site others are h = cc
 split_at R [] [] (b ∷ before) site others are h = cc
@@ -174,8 +178,7 @@ split_at R (entry ∷ list) (peer ∷ peers) [] site others are h =
     record { front = []; entry = entry; back = list; peer = peer; rest = peers; split = refl; says = are.0; same = cc; are = are.1; left = cc }
 split_at R (entry ∷ list) (peer ∷ peers) (b ∷ before) site others are h =
     let tail : sites_of peers ≡ before ++ site ∷ others = cc in
-    let found = split_at R list peers before site others are.1 tail in
-    record { front = entry ∷ found.front; entry = found.entry; back = found.back; peer = found.peer; rest = found.rest; split = ap (λ l. entry ∷ l) found.split; says = found.says; same = found.same; are = found.are; left = found.left }
+    one_further R entry list site others (split_at R list peers before site others are.1 tail)
 
 twice_breaks : (own : ℕ) (secret : Option (List ℕ)) (table : Members) (list : List Data) (peers : List Peer) (site : ℕ) → value_at key.Peers table ≡ Some (array (items_of list)) → AreEach (IsPeer own secret) list peers
     → first_twice (sites_of peers) ≡ Some site → HasTwice site table
