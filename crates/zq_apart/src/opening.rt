@@ -57,7 +57,7 @@ pub fn open_link<R: RandomSource + Clock>(
     let settings = shared.settings;
     let secret = match &settings.secret {
         Some(key) => Some(Secret {
-            key,
+            key: key.as_bytes(),
             nonce: draw_nonce(rt)?,
         }),
         None => None,

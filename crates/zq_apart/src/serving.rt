@@ -92,7 +92,7 @@ fn open_crew<R: Net<Listener = TcpListener, Stream = TcpStream>>(
 
 /// Where frames wait for the site's link thread.
 fn open_mailbox(alloc: Global, settings: &SiteSettings) -> Result<Mailbox, ServeFault> {
-    let peers = settings.peers.as_slice().len().min(63);
+    let peers = settings.peers.as_slice().len();
     let mailbox = Mailbox::new(alloc, most_waiting(peers, settings.heaps))?;
     Ok(mailbox)
 }

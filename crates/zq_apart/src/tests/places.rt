@@ -5,10 +5,9 @@ use std::net::{IpAddr, Ipv4Addr, Net, SocketAddr, TcpListener, TcpStream};
 use std::test::Fail;
 use std::thread;
 use std::time::{Clock, Duration};
-use zq_dots::{Rule, SiteNo};
-use zq_settings::{Peer, Peers, Port, SiteSettings, Within};
+use zq_settings::{SiteSettings, site_settings};
 
-pub const LOOPBACK: IpAddr = IpAddr::V4(Ipv4Addr::LOCALHOST);
+const LOOPBACK: IpAddr = IpAddr::V4(Ipv4Addr::LOCALHOST);
 
 /// Where a site of the tests is: its number, and the ports of its clients and of its peers.
 #[derive(Clone, Copy)]
@@ -21,10 +20,6 @@ pub struct Place {
 impl Place {
     pub fn door(self) -> SocketAddr {
         SocketAddr::from((LOOPBACK, self.peers))
-    }
-
-    pub fn number(self) -> Result<SiteNo, Fail> {
-        Ok(SiteNo::new(self.site).ok_or("a site")?)
     }
 }
 
@@ -52,51 +47,37 @@ pub fn free_places<R: Net<Listener = TcpListener, Stream = TcpStream>>(
     Ok(places)
 }
 
-/// All sites of these places but this one, as its peers.
-pub fn peers_of(alloc: Global, own: Place, places: &[Place]) -> Result<Peers, Fail> {
-    let mut peers = Vec::new(alloc);
-    for place in places {
-        if place.site != own.site {
-            let site = place.number()?;
-            peers.push(Peer {
-                site,
-                address: place.door(),
-            })?;
-        }
-    }
-    Ok(Peers::new(peers))
-}
-
-/// A number that is within its bounds.
-pub fn within<const LEAST: u64, const MOST: u64>(number: i64) -> Result<Within<LEAST, MOST>, Fail> {
-    Ok(Within::new(number).ok_or("within bounds")?)
-}
-
-/// The settings of one of the sites, of two heaps, which accepts one connection.
+/// The settings of one of the sites, of two heaps, which accepts one connection. The other places are its peers.
 pub fn settings_of(
     alloc: Global,
     own: Place,
     places: &[Place],
-    secret: Option<&[u8]>,
+    secret: Option<&str>,
 ) -> Result<SiteSettings, Fail> {
-    let secret = match secret {
-        Some(secret) => Some(Vec::from_slice(alloc, secret)?),
-        None => None,
-    };
-    let port: Port = within(i64::from(own.clients))?;
-    Ok(SiteSettings {
-        site: own.number()?,
-        port,
-        bind: LOOPBACK,
-        listen: own.door(),
-        peers: peers_of(alloc, own, places)?,
-        heaps: within(2)?,
-        rule: Rule::High,
-        workers: within(1)?,
-        connections: Some(within(1)?),
-        seed: within(1)?,
-        secret,
-    })
+    let Place {
+        site,
+        clients,
+        peers,
+    } = own;
+    let mut text = format!(in alloc;
+        "site = {site}\nport = {clients}\nlisten = \"127.0.0.1:{peers}\"\n"
+    )?;
+    text.push_str("heaps = 2\nworkers = 1\nconnections = 1\n")?;
+    if let Some(secret) = secret {
+        text.push_str(format!(in alloc; "secret = \"{secret}\"\n")?.as_str())?;
+    }
+    for place in places {
+        if place.site != site {
+            text.push_str(peer_table(alloc, *place)?.as_str())?;
+        }
+    }
+    Ok(site_settings(alloc, text.as_str())?)
+}
+
+/// The table of a peer at this place.
+fn peer_table(alloc: Global, place: Place) -> Result<String, Fail> {
+    let Place { site, peers, .. } = place;
+    Ok(format!(in alloc; "[[peers]]\nsite = {site}\naddress = \"127.0.0.1:{peers}\"\n")?)
 }
 
 /// A stream to the port, once somebody listens there.
