@@ -40,7 +40,7 @@ fn steps_to(last: usize) -> [Step; 6] {
 }
 
 /// Serves so many sites with a secret, the clients of the first and of the last of which find what both were told.
-fn meet<R>(rt: &R, alloc: Global, sites: u8, secret: Option<&[u8]>) -> Result<bool, Fail>
+fn meet<R>(rt: &R, alloc: Global, sites: u8, secret: Option<&str>) -> Result<bool, Fail>
 where
     R: Net<Listener = TcpListener, Stream = TcpStream>
         + RandomSource
@@ -61,7 +61,7 @@ where
 
 #[test]
 fn what_one_site_is_told_others_have(rt: HostRuntime) -> Result<(), Fail> {
-    let rounds: [(u8, Option<&[u8]>); 2] = [(2, None), (3, Some(b"a secret of sites"))];
+    let rounds = [(2, None), (3, Some("a secret of sites"))];
     for (sites, secret) in rounds {
         assert!(rt; meet(&rt, rt.alloc(), sites, secret)?, "{sites}");
     }
