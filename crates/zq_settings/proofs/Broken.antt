@@ -1,9 +1,9 @@
 -- A table is refused for a rule that it breaks.
-use Rattle.std.proofs.Common.{◌≡◌, ◌<◌, ◌⊎◌, ℕ, suc, true, false, not, eqb, ltb, ◌||◌, List, [], ◌∷◌, ◌++◌, length, map, Option, Some, None, Result, Ok, Err, refl, sym, ap, ◌∙◌, inl, inr}
+use Rattle.std.proofs.Common.{◌≡◌, ◌<◌, ◌⊎◌, ℕ, true, eqb, ltb, ◌||◌, List, [], ◌∷◌, ◌++◌, length, map, Option, Some, None, Ok, Err, refl, sym, ap, ◌∙◌, inl, inr}
 use Rattle.std.proofs.lemmas.Bool.{cases_Bool, or_cases, ltb-true, eqb-true}
 use Rattle.std.specs.List.{list_any}
 use Rattle.std.specs.Option.{ok_or}
-use Rattle.toml.specs.Data.{Data, Members, array, Items, no_items, item, as_integer, as_array, as_str}
+use Rattle.toml.specs.Data.{Data, Members, array, Items, no_items, item, as_integer, as_array}
 use Rattle.toml.specs.View.{items_of}
 use Rattle.zq_settings.proofs.Faults.{HasFault, by_steps, common_fault, count_listed, listed, unknown_fault, whole_fault}
 use Rattle.zq_settings.proofs.MeantPorts.{port_since, each_since}

@@ -1,13 +1,13 @@
 -- The values of keys that take an address or a secret.
 use Rattle.zq_settings.proofs.Spelled.{address_since, address_from, ip_since, ip_from, loopback_since, loopback_from}
 use Rattle.zq_settings.proofs.Steps.{both_ok, some_since, text_since}
-use Rattle.std.proofs.Common.{◌≡◌, ◌≤◌, ◌||◌, ℕ, Bool, true, false, ltb, List, length, Option, Some, None, Ok, Err, refl, sym, ap, ◌∙◌, inl, inr, arith}
-use Rattle.std.proofs.lemmas.Bool.{cases_Bool, or_cases, ltb-false, le-ltb}
+use Rattle.std.proofs.Common.{◌≡◌, ℕ, Bool, true, false, ltb, List, length, Option, Some, None, Ok, Err, refl, ap, inl, inr}
+use Rattle.std.proofs.lemmas.Bool.{cases_Bool, ltb-false, le-ltb}
 use Rattle.std.specs.Option.{is_some, ok_or}
 use Rattle.std.specs.declared.net.ip_addr.IpAddr.{IpAddr}
 use Rattle.std.specs.declared.net.socket_addr.SocketAddr.{SocketAddr}
 use Rattle.toml.specs.Data.{Data, as_str}
-use Rattle.zq_settings.specs.Addresses.{address_of, ip_of, is_local}
+use Rattle.zq_settings.specs.Addresses.{address_of, is_local}
 use Rattle.zq_settings.specs.Site.{unless_exposed, address_at, bind_of, unless_short, secret_of}
 use Rattle.zq_settings.specs.SiteRules.{IsAddress, IsBind, IsLoopback, IsSecret}
 use Rattle.zq_settings.specs.declared.key.Key.{Key}

@@ -4,10 +4,10 @@ use Rattle.zq_settings.proofs.Meant.{known_since, known_from}
 use Rattle.zq_settings.proofs.MeantAddresses.{address_at_since, address_at_from}
 use Rattle.zq_settings.proofs.MeantNumbers.{required_since, required_from}
 use Rattle.zq_settings.proofs.Steps.{both_ok, some_since, array_since, table_since}
-use Rattle.std.proofs.Common.{◌≡◌, ◌≤◌, ℕ, suc, eqb, ltb, List, [], ◌∷◌, length, Option, Some, None, Result, Ok, Err, refl, sym, ap, ◌∙◌, inl, inr, arith}
+use Rattle.std.proofs.Common.{◌≡◌, ◌≤◌, ℕ, suc, eqb, ltb, List, [], ◌∷◌, length, Option, Some, None, Result, Ok, Err, refl, ap, ◌∙◌, inl, inr, arith}
 use Rattle.std.proofs.lemmas.Bool.{cases_Bool, ltb-false, le-ltb, eqb-false, ne_eqb}
 use Rattle.std.specs.Option.{is_some, ok_or}
-use Rattle.toml.specs.Data.{Data, Items, no_items, item, Members, array, as_array, as_table, table as subtable}
+use Rattle.toml.specs.Data.{Data, Items, no_items, item, Members, array, as_array, as_table}
 use Rattle.toml.specs.View.{items_of}
 use Rattle.zq_settings.specs.Peers.{sites_of}
 use Rattle.zq_settings.specs.Ports.{first_twice}

@@ -6,7 +6,7 @@ use Rattle.std.proofs.lemmas.Bool.{cases_Bool, or_parts, or_from, le-ltb, ltb-fa
 use Rattle.std.proofs.lemmas.List.Elements.{All-nil, All-cons, All-head, All-tail}
 use Rattle.std.specs.List.{All}
 use Rattle.std.specs.Option.{ok_or}
-use Rattle.toml.specs.Data.{Data, integer, array, Items, no_items, item, as_integer, as_array}
+use Rattle.toml.specs.Data.{Data, array, Items, no_items, item, as_array}
 use Rattle.toml.specs.View.{items_of}
 use Rattle.zq_settings.proofs.Apart.{distinct_since, none_twice}
 use Rattle.zq_settings.specs.Ports.{first_twice}

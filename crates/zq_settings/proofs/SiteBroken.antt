@@ -6,7 +6,7 @@ use Rattle.zq_settings.proofs.MeantNumbers.{required_since}
 use Rattle.zq_settings.proofs.MeantPeers.{each_since, peer_since}
 use Rattle.zq_settings.proofs.Spelled.{address_since, loopback_from, no_address, no_ip}
 use Rattle.zq_settings.proofs.Steps.{both_err, some_since, none_since, text_since, array_since, table_since}
-use Rattle.std.proofs.Common.{◌≡◌, ◌<◌, ◌⊎◌, ◌||◌, ℕ, pos, Bool, true, false, eqb, ltb, List, [], ◌∷◌, ◌++◌, length, map, Option, Some, None, Result, Ok, Err, refl, sym, ap, ◌∙◌, inl, inr}
+use Rattle.std.proofs.Common.{◌≡◌, ◌⊎◌, ℕ, pos, Bool, true, false, eqb, ltb, List, [], ◌∷◌, ◌++◌, length, Option, Some, None, Result, Ok, Err, refl, sym, ap, ◌∙◌, inl, inr}
 use Rattle.std.proofs.lemmas.Bool.{cases_Bool, ltb-true, eqb-true}
 use Rattle.std.specs.Option.{is_some, ok_or}
 use Rattle.std.specs.declared.net.socket_addr.SocketAddr.{SocketAddr}
@@ -16,7 +16,7 @@ use Rattle.zq_settings.specs.Addresses.{address_of, ip_of, is_local}
 use Rattle.zq_settings.specs.Breaks.{HasUnknown, IsNoAddress, IsOfOtherKind, IsOutOfRange, IsText}
 use Rattle.zq_settings.specs.Peers.{sites_of}
 use Rattle.zq_settings.specs.Ports.{first_twice}
-use Rattle.zq_settings.specs.Settings.{◌>>=◌, common_of, count_of, each, known_keys, required_of, site_of}
+use Rattle.zq_settings.specs.Settings.{common_of, count_of, each, known_keys, required_of, site_of}
 use Rattle.zq_settings.specs.Site.{address_at, apart, bind_of, peer_at, peer_of, peers_in, peers_of, secret_of, unless_exposed, unless_met, unless_own, unless_short}
 use Rattle.zq_settings.specs.SiteBreaks.{EachRefusalOfASiteIsOfABrokenRule, HasKey, HasPeer, HasTwice, IsExposed, SiteBreaks}
 use Rattle.zq_settings.specs.SiteRules.{AreEach, IsLoopback, IsPeer}

@@ -1,14 +1,14 @@
 -- The address that a text writes is the one that the library's grammar gives it.
-use Rattle.std.proofs.Common.{◌≡◌, ◌≤◌, ◌⊎◌, ℕ, suc, Bool, true, false, eqb, List, [], ◌∷◌, ◌++◌, length, take, Option, Some, None, Result, Ok, Err, option_map, refl, sym, ap, ◌∙◌, subst, inl, inr, append-nil, lit≤, ne_eqb, arith}
+use Rattle.std.proofs.Common.{◌≡◌, ◌≤◌, ◌⊎◌, ℕ, true, eqb, List, [], ◌∷◌, ◌++◌, length, take, Option, Some, None, Result, Ok, Err, option_map, refl, sym, ap, ◌∙◌, subst, inl, inr, append-nil, lit≤, ne_eqb, arith}
 use Rattle.std.proofs.NetLemmas.Ipv4.{read_ipv4_complete, read_ipv4_sound}
 use Rattle.std.proofs.NetLemmas.Ipv6.{EndsGroups-nil, IsDotted-not_colon_hex, read_ipv6_complete, read_ipv6_sound}
 use Rattle.std.proofs.NetLemmas.Sockets.{IsSocketV4Text-not_v6, read_socket_v4_complete, read_socket_v4_sound, read_socket_v6_complete, read_socket_v6_sound}
 use Rattle.std.proofs.lemmas.Bool.{cases_Bool, eqb-true, eqb-false}
 use Rattle.std.proofs.lemmas.Slice.Eq.{bytes_eq-Decides}
 use Rattle.std.specs.Net.Addr.{ipv4_octets, ipv6_segments}
-use Rattle.std.specs.Net.Grammar.{IsIpText, IsIpv4Text, IsIpv6Text, IsSocketText, IsSocketV4Text, IsSocketV6Text, Parses}
+use Rattle.std.specs.Net.Grammar.{IsIpText, IsSocketText, Parses}
 use Rattle.std.specs.Net.Reader.{Read, read_ipv4, read_ipv6, read_socket_v4, read_socket_v6, v4_parts, v6_parts, whole_value}
-use Rattle.std.specs.Net.Socket.{socket_ip, socket_port}
+use Rattle.std.specs.Net.Socket.{socket_port}
 use Rattle.std.specs.Result.{result_ok}
 use Rattle.std.specs.declared.net.ip_addr.IpAddr.{IpAddr}
 use Rattle.std.specs.declared.net.ip_addr.IpAddr.TheVariants as ip

@@ -16,7 +16,7 @@ use Rattle.zq_settings.specs.declared.form.Form.TheVariants as form
 use Rattle.zq_settings.specs.declared.key.Key.{Key}
 use Rattle.zq_settings.specs.declared.key.Key.TheVariants as key
 use Rattle.zq_settings.specs.declared.why.Why.{Why}
-use Rattle.zq_settings.specs.declared.why.Why.TheVariants.{Text, Unknown, Missing, Count, Kind, Range, Twice}
+use Rattle.zq_settings.specs.declared.why.Why.TheVariants.{Unknown, Missing, Count, Kind, Range, Twice}
 
 -- a whole number that does not lie between the bounds
 abbrev pub IsOutside : ℕ → ℕ → Data → Type 0

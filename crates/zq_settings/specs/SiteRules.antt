@@ -1,5 +1,5 @@
 -- What a table of settings of one site has to say, key by key.
-use Rattle.std.specs.Prelude.{◌≡◌, ◌≤◌, ◌⊎◌, ◌↔◌, ℕ, pos, Bool, true, List, [], ◌∷◌, length, All, IsTrue, Option, Some, None, Ok}
+use Rattle.std.specs.Prelude.{◌≡◌, ◌≤◌, ◌⊎◌, ◌↔◌, ℕ, pos, List, [], ◌∷◌, length, All, IsTrue, Option, Some, None, Ok}
 use Rattle.std.specs.Net.Addr.{MatchIp, IsLoopbackV4, IsLoopbackV6}
 use Rattle.std.specs.Net.Grammar.{IsIpText, IsSocketText}
 use Rattle.std.specs.Net.Socket.{socket_ip, socket_port}

@@ -80,7 +80,8 @@ const ROWS: [Row; 5] = [
 ];
 
 fn address_of(place: Place) -> SocketAddr {
-    SocketAddr::from((place.0, place.1))
+    let (octets, port) = place;
+    SocketAddr::new(IpAddr::from(octets), port)
 }
 
 fn is_peer(peer: &Peer, row: &(u8, Place)) -> bool {
@@ -100,9 +101,10 @@ fn has_secret(settings: &SiteSettings, secret: Option<&'static str>) -> bool {
 }
 
 fn is_row(settings: &SiteSettings, row: &Row) -> bool {
+    let bind = row.bind;
     settings.site.value() == row.site
         && settings.port.value() == row.port
-        && settings.bind == IpAddr::from(row.bind)
+        && settings.bind == IpAddr::from(bind)
         && settings.listen == address_of(row.listen)
         && are_peers(settings.peers.as_slice(), row.peers)
         && settings.heaps.value() == row.heaps
