@@ -2,7 +2,7 @@
 
 use crate::shared::Shared;
 use crate::times::OPENING;
-use std::alloc::AllocError;
+use std::alloc::{AllocError, Global};
 use std::io;
 use std::io::{Read, Write};
 use std::net::TcpStream;
@@ -101,19 +101,37 @@ fn hear_peer<R: Clock>(
     let mut owed = true;
     for _ in 0..MOST_READS {
         read_some(rt, stream, start, &mut heard)?;
-        match hear_opening(side, &heard) {
-            Ok(Opening::Waits) => {}
-            Ok(Opening::Answers { answer }) => owed = pay(stream, owed, Some(answer))?,
-            Ok(Opening::Welcome { peer, answer, used }) => {
-                pay(stream, owed, answer)?;
-                let used = used.min(heard.len());
-                let first = Vec::from_slice(shared.alloc, &heard[used..])?;
-                return Ok(Opened { peer, first });
-            }
-            Err(refusal) => return Err(Unopened::Refused(refusal)),
+        let opening = hear_opening(side, &heard).map_err(Unopened::Refused)?;
+        owed = pay(stream, owed, answer_of(&opening))?;
+        if let Some((peer, used)) = welcomed(&opening) {
+            return open(shared.alloc, peer, &heard, used);
         }
     }
     Err(Unopened::Lost)
+}
+
+/// What this site owes to the peer, as far as the opening has come.
+fn answer_of(opening: &Opening) -> Option<[u8; 32]> {
+    match opening {
+        Opening::Waits => None,
+        Opening::Answers { answer } => Some(*answer),
+        Opening::Welcome { answer, .. } => *answer,
+    }
+}
+
+/// The peer, where it is welcome, and how many bytes its opening has.
+fn welcomed(opening: &Opening) -> Option<(SiteNo, usize)> {
+    match opening {
+        Opening::Welcome { peer, used, .. } => Some((*peer, *used)),
+        Opening::Waits | Opening::Answers { .. } => None,
+    }
+}
+
+/// The link to a peer whose opening has so many of the bytes that were heard.
+fn open(alloc: Global, peer: SiteNo, heard: &[u8], used: usize) -> Result<Opened, Unopened> {
+    let used = used.min(heard.len());
+    let first = Vec::from_slice(alloc, &heard[used..])?;
+    Ok(Opened { peer, first })
 }
 
 /// Sends the answer where it is still owed, and says whether it is owed any longer.
