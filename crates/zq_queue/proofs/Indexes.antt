@@ -9,7 +9,9 @@ use Rattle.std.specs.FinMap as map
 use Rattle.std.specs.List.{insert, remove}
 use Rattle.std.specs.List.Sorted.{IsPermutation, IsStrictlySortedBy}
 use Rattle.std.specs.Ordering.{eq_by_cmp}
-use Rattle.std.specs.Prelude.{Bool, Contains, List, None, Some, [], cond, false, get_or, if◌then◌else◌, length, map as map_of, option_map, suc, true, zero, ℕ, ℤ, ◌++◌, ◌<◌, ◌∷◌, ◌≡◌, ◌≢◌}
+use Rattle.std.specs.declared.alloc.Global.{Global}
+use Rattle.std.specs.declared.boxed.Box.{Box}
+use Rattle.std.specs.Prelude.{Bool, Contains, List, None, Option, Some, [], cond, false, get_or, if◌then◌else◌, length, map as map_of, option_map, suc, true, zero, ℕ, ℤ, ◌++◌, ◌<◌, ◌∷◌, ◌≡◌, ◌≢◌}
 use Rattle.zq_model.proofs.Maps.{key_same, same_key}
 use Rattle.zq_model.specs.Image.{Entry}
 use Rattle.zq_model.specs.Meaning.{Scored, scored_cmp}
@@ -21,11 +23,19 @@ use Rattle.zq_posheap.specs.InOrder.{ListsInOrder}
 use Rattle.zq_posheap.specs.Listing.{IsListing, Row, scored_of}
 use Rattle.zq_posheap.specs.Members.{Scores, scores_of}
 use Rattle.zq_queue.proofs.Helds.{by_test, get_inserted, get_removed, same_at_each}
-use Rattle.zq_queue.proofs.Listeds.{contains_in, in_contains}
+use Rattle.zq_queue.proofs.Listeds.{contains_in, in_contains, order_one}
 use Rattle.zq_queue.specs.Entries.{bytes_cmp}
+use Rattle.zq_queue.specs.Indexed.{IsIndexOf}
 use Rattle.zq_queue.specs.Queued.{Held}
 use Rattle.zq_ranked.proofs.Sorted.{rank_there, sorted_insert, sorted_remove}
 use Rattle.zq_ranked.specs.Order.{rank_of}
+use Rattle.zq_ranked.specs.declared.ranked.Ranked.{Ranked}
+
+-- ---- an index
+
+-- what an index lists, where there is one
+pub index_lists : (scores : Scores) (index : Option (Box Ranked Global)) (box : Box Ranked Global) → index ≡ Some box → IsIndexOf scores index → (pairs : List Scored) → ListsInOrder scores pairs → box.value ≡ pairs
+index_lists scores index box is its pairs order = order_one scores box.value pairs (subst (IsIndexOf scores) is its) order
 
 -- ---- the scores of what is held
 
@@ -41,6 +51,16 @@ pub scores_of-remove : (held : Held) (m : List ℕ) → scores_of (map.remove he
 scores_of-remove held m = same_at_each _ _ (λ q.
     get-scores_of (map.remove held m) q ∙ ap (option_map score_beside) (get_removed held m q) ∙ option_map-cond score_beside (eq_by_cmp bytes_cmp q m) None (map.get held q)
     ∙ ap (cond (eq_by_cmp bytes_cmp q m) None) (sym (get-scores_of held q)) ∙ sym (get_removed (scores_of held) m q))
+
+pub scores_of-empty : scores_of {V = Entry} map.empty ≡ map.empty
+scores_of-empty = same_at_each _ _ (λ q. get-scores_of map.empty q ∙ ap (option_map score_beside) (map.get-empty bytes_cmp q) ∙ sym (map.get-empty bytes_cmp q))
+
+-- a member that is not held has no score, and one that is has its own
+pub no_score : (held : Held) (m : List ℕ) → map.get held m ≡ None → map.get (scores_of held) m ≡ None
+no_score held m none = get-scores_of held m ∙ ap (option_map score_beside) none
+
+pub its_score : (held : Held) (m : List ℕ) (p : ℤ × Entry) → map.get held m ≡ Some p → map.get (scores_of held) m ≡ Some p.0
+its_score held m p some = get-scores_of held m ∙ ap (option_map score_beside) some
 
 module _ (scores : Scores) (m : List ℕ) (x : ℤ) where
   itself : eq_by_cmp bytes_cmp m m ≡ true

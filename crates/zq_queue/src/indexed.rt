@@ -5,7 +5,7 @@ ghost use Rattle.std.specs.FinMap.{contains_key, empty, get, insert, len as map_
 ghost use Rattle.zq_posheap.specs.Listing.{IsListing};
 ghost use Rattle.zq_posheap.specs.Members.{AreInRange, HasPlace, IsPlaceOf};
 
-use crate::index::{index_of, with_moved, with_pair, without_pair};
+use crate::index::{index_of, with_pair, with_score, without_place};
 use std::alloc::{AllocError, Global};
 use std::marker::Model;
 use zq_entry::Entry;
@@ -117,10 +117,7 @@ impl Indexed {
         ensures given { option_map (λ e. e.1) (get self.old.held member.now) ≡ Some result }
         ensures held { self.new.held ≡ insert self.old.held member.now (score, entry) }
     {
-        if self.index.is_some() {
-            let (before, _) = self.members.at(place);
-            self.index = with_moved(self.index.take(), before, score, member);
-        }
+        self.index = with_score(self.index.take(), &self.members, member, place, score);
         self.members.replace_at(place, score, entry)
     }
 
@@ -131,10 +128,8 @@ impl Indexed {
         ensures given { option_map (λ e. e.1) (get self.old.held member.now) ≡ Some result }
         ensures held { self.new.held ≡ remove self.old.held member.now }
     {
-        let (score, entry) = self.members.remove_at(place);
-        if self.index.is_some() {
-            self.index = without_pair(self.index.take(), score, member);
-        }
+        self.index = without_place(self.index.take(), &self.members, member, place);
+        let (_, entry) = self.members.remove_at(place);
         entry
     }
 
@@ -142,12 +137,10 @@ impl Indexed {
     pub fn insert(&mut self, member: &[u8], score: i128, entry: Entry) -> Result<(), AllocError>
         requires { get self.old.held member.now ≡ None }
         ensures done { OnOk result (self.new.held ≡ insert self.old.held member.now (score, entry)) }
-        ensures unchanged { OnErr result (self.new ≡ self.old) }
+        ensures unchanged { OnErr result (self.new.held ≡ self.old.held) }
     {
         self.members.insert(member, score, entry)?;
-        if self.index.is_some() {
-            self.index = with_pair(self.index.take(), score, member);
-        }
+        self.index = with_pair(self.index.take(), score, member);
         Ok(())
     }
 
@@ -161,7 +154,7 @@ impl Indexed {
     ) -> Result<Option<Entry>, AllocError>
         ensures done { OnOk result (self.new.held ≡ insert self.old.held member.now (score, entry)) }
         ensures given { IfOk result (λ given. given ≡ option_map (λ e. e.1) (get self.old.held member.now)) }
-        ensures unchanged { OnErr result (self.new ≡ self.old) }
+        ensures unchanged { OnErr result (self.new.held ≡ self.old.held) }
         ensures absent { OnErr result (get self.old.held member.now ≡ None) }
     {
         match self.find(member) {

@@ -99,10 +99,10 @@ fn firsts<'a>(
     mut pairs: Forward<'a>,
     count: usize,
 ) -> Result<Vec<(i128, &'a [u8])>, AllocError>
-    ensures { IfOk result (λ firsts. map lent_pair firsts.items ≡ take count pairs) }
+    ensures { IfOk result (λ firsts. map lent_pair firsts.items ≡ take count pairs.entry) }
 {
     let mut firsts = Vec::with_capacity(alloc, count)?;
-    for _ in 0..count {
+    while firsts.len() < count {
         let Some(pair) = pairs.next() else {
             break;
         };
