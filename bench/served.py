@@ -4,6 +4,7 @@ import pathlib
 import shutil
 import socket
 import subprocess
+import sys
 import tempfile
 import time
 
@@ -16,6 +17,18 @@ def built():
     """The path of the program, which is proved and built first where it is not yet."""
     subprocess.run([ROOT / "zqueue", "pipe"], stdin=subprocess.DEVNULL, stdout=subprocess.DEVNULL, check=True)
     return ROOT / "crates" / "zqueue" / "out" / "zqueue"
+
+
+def rt_command():
+    """The toolchain's command."""
+    return subprocess.run([ROOT / "tools" / "find-rt"], stdout=subprocess.PIPE, text=True, check=True).stdout.strip()
+
+
+def built_crate(name):
+    """The path of the program of that crate, which is proved and built first where it is not yet, and run over no input."""
+    folder = ROOT / "crates" / name
+    subprocess.run([rt_command(), "run"], cwd=folder, stdin=subprocess.DEVNULL, stdout=sys.stderr, check=True)
+    return folder / "out" / name
 
 
 def free_ports(count):

@@ -10,7 +10,7 @@ use std::alloc::{AllocError, Global};
 use std::sync::Wait;
 use zq_dots::{Rule, SiteNo};
 use zq_node::Node;
-use zq_peers::{Link, Lossy, Mailbox, Straight, others};
+use zq_peers::{Link, Lossy, Mailbox, Silent, Straight, others};
 use zq_posheap::Seeded;
 
 /// What carries the frames of the site of this number: a faulty link to each site, which holds nothing back yet, with
@@ -26,7 +26,7 @@ fn faulty<'a, R: Wait>(
     ensures words { IfOk result (λ lossy. lossy.words ≡ pcg32_of_seed (pcg32_seed 16 ((seed + (8 + number)) % 2 ^ 64))) }
 {
     let words = seed.wrapping_add(8 + u64::from(number.value()));
-    Lossy::new(alloc, SITES, words, Straight::new(rt, inboxes))
+    Lossy::new(alloc, SITES, words, Straight::new(rt, number, inboxes))
 }
 
 /// Hears what comes to the site, and answers over links that fail by the words of this seed, until it is to stop.
@@ -48,6 +48,6 @@ pub fn attend<R: Wait>(
         hasher: Seeded::new(0),
     };
     let mut node = Node::new(alloc, &station.site, number, HEAPS, Rule::High, pass);
-    link.attend(rt, alloc, &mut node, &mut carrier);
+    link.attend(rt, alloc, &mut node, &mut carrier, &Silent);
     Ok(())
 }

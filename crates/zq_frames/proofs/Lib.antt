@@ -3,3 +3,4 @@ pub mod Again
 mod Repeated
 mod Taken
 mod Same
+mod Topics

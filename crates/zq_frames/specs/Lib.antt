@@ -5,3 +5,4 @@ pub mod Ops
 pub mod Have
 pub mod Reading
 pub mod Answer
+pub mod About

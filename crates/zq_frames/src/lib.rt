@@ -14,6 +14,7 @@
 //! the newest versions inside. The first fault from the left is the answer.
 #![tactic(auto)]
 
+mod about;
 mod fault;
 mod frame;
 mod have;
@@ -23,6 +24,7 @@ mod ops;
 mod read;
 mod write;
 
+pub use about::topic_of;
 pub use fault::FrameFault;
 pub use frame::{Frame, Have};
 pub use laws::one_spelling;

@@ -40,6 +40,13 @@ impl Outbox {
         Ok(Outbox { heaps, waiting })
     }
 
+    /// The number of the site's heaps.
+    pub fn heaps(&self) -> u8
+        ensures { result ≡ self.now.heaps }
+    {
+        self.heaps
+    }
+
     /// The frame waits, in the place of an older one of its topic, or else behind all others.
     pub fn put(&mut self, topic: Topic, frame: Vec<u8>)
         requires { heap_of topic < self.old.heaps }

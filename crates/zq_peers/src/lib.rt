@@ -9,6 +9,7 @@ mod mailbox;
 mod sites;
 mod straight;
 mod unheard;
+mod witness;
 
 pub use carry::Carry;
 pub use link::{Link, hear, tell};
@@ -17,6 +18,7 @@ pub use mailbox::Mailbox;
 pub use sites::others;
 pub use straight::Straight;
 pub use unheard::Unheard;
+pub use witness::{Silent, Witness};
 
 #[cfg(test)]
 mod tests;

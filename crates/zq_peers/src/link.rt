@@ -9,6 +9,7 @@ ghost use Rattle.zq_peers.specs.Moves.{AreMoves, Hears, Move, Tells};
 use crate::carry::{Carry, both};
 use crate::mailbox::Mailbox;
 use crate::unheard::Unheard;
+use crate::witness::{Witness, report};
 use std::alloc::Global;
 use std::sync::Wait;
 use zq_dots::SiteNo;
@@ -121,13 +122,14 @@ pub struct Link<'a> {
 
 impl Link<'_> {
     /// Works until Stop comes. At a Tick it tells the other sites what this one has; a frame it hears, and sends what
-    /// comes of it. What fails is dropped as if it had been lost.
-    pub fn attend<R: Wait, C: Carry>(
+    /// comes of it. What fails is dropped as if it had been lost; of a frame that was not heard the witness is told.
+    pub fn attend<R: Wait, C: Carry, T: Witness>(
         &self,
         rt: &R,
         alloc: Global,
         node: &mut Node<'_>,
         carrier: &mut C,
+        witness: &T,
     )
         requires node { IsNode node.old }
         ensures node { IsNode node.new }
@@ -137,8 +139,9 @@ impl Link<'_> {
         for _ in rt.forever() {
             match self.inbox.take(rt) {
                 Message::Tick => drop(tell(rt, alloc, &self.others, node, carrier)),
-                Message::Frame(bytes) => {
-                    drop(hear(rt, alloc, self.hasher, node, carrier, &bytes));
+                Message::Frame { from, bytes } => {
+                    let heard = hear(rt, alloc, self.hasher, node, carrier, &bytes);
+                    report(witness, from, heard);
                 }
                 Message::Stop => break,
             }

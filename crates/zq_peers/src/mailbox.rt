@@ -4,6 +4,7 @@ use crossbeam_channel::{Receiver, Sender, unbounded};
 use std::alloc::{AllocError, Global};
 use std::sync::Wait;
 use std::sync::atomic::{AtomicBool, Ordering};
+use zq_dots::SiteNo;
 use zq_links::Message;
 
 /// Where messages wait for a site's link thread. Any thread may send to it; the link thread alone takes from it.
@@ -50,14 +51,15 @@ impl Mailbox {
         }
     }
 
-    /// Sends a frame, and says whether there was memory for it. Where too many messages wait it is lost, and a Tick is
-    /// sent.
-    pub fn give<R: Wait>(&self, rt: &R, frame: Vec<u8>) -> bool {
+    /// Sends a frame that came from this site, and says whether there was memory for it. Where too many messages wait it is
+    /// lost, and a Tick is sent.
+    pub fn give<R: Wait>(&self, rt: &R, from: SiteNo, bytes: Vec<u8>) -> bool {
         if self.to.len() >= self.most {
             self.tick(rt);
             return true;
         }
-        self.to.send(rt, Message::Frame(frame)).is_ok()
+        let frame = Message::Frame { from, bytes };
+        self.to.send(rt, frame).is_ok()
     }
 
     /// Waits for the next message.

@@ -7,18 +7,23 @@ use std::alloc::Global;
 use std::sync::Wait;
 use zq_dots::SiteNo;
 
-/// Carries each frame straight into its site's mailbox. Site N's is at place N; a frame for a site that has none is
-/// dropped.
+/// Carries each frame of a site straight into the mailbox of the site that it goes to. Site N's is at place N; a frame
+/// for a site that has none is dropped.
 #[derive(Drop)]
 pub struct Straight<'a, R: Wait> {
     rt: &'a R,
+    from: SiteNo,
     mailboxes: &'a [Mailbox],
 }
 
 impl<'a, R: Wait> Straight<'a, R> {
-    /// Into these mailboxes.
-    pub fn new(rt: &'a R, mailboxes: &'a [Mailbox]) -> Straight<'a, R> {
-        Straight { rt, mailboxes }
+    /// From this site into these mailboxes.
+    pub fn new(rt: &'a R, from: SiteNo, mailboxes: &'a [Mailbox]) -> Straight<'a, R> {
+        Straight {
+            rt,
+            from,
+            mailboxes,
+        }
     }
 }
 
@@ -29,7 +34,7 @@ impl<'a, R: Wait> Carry for Straight<'a, R> {
 
     fn carry(&mut self, _alloc: Global, to: SiteNo, frame: Vec<u8>) -> bool {
         match self.mailboxes.get(usize::from(to.value())) {
-            Some(mailbox) => mailbox.give(self.rt, frame),
+            Some(mailbox) => mailbox.give(self.rt, self.from, frame),
             None => true,
         }
     }

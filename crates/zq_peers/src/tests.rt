@@ -10,7 +10,7 @@ use zq_links::Message;
 fn letter_of(message: &Message) -> u8 {
     match message {
         Message::Tick => b't',
-        Message::Frame(_) => b'f',
+        Message::Frame { .. } => b'f',
         Message::Stop => b's',
     }
 }
@@ -18,10 +18,11 @@ fn letter_of(message: &Message) -> u8 {
 #[test]
 fn one_tick_waits_and_no_frame_past_the_most(rt: HostRuntime) -> Result<(), Fail> {
     let mailbox = Mailbox::new(rt.alloc(), 2)?;
+    let from = SiteNo::new(1).ok_or("a site")?;
     mailbox.tick(&rt);
     mailbox.tick(&rt);
     for _frame in 0..3 {
-        assert!(rt; mailbox.give(&rt, Vec::new(rt.alloc())));
+        assert!(rt; mailbox.give(&rt, from, Vec::new(rt.alloc())));
     }
     mailbox.stop(&rt);
     for want in [b't', b'f', b's'] {

@@ -9,7 +9,7 @@ use std::alloc::Global;
 use std::sync::{Arc, Wait};
 use zq_dots::SiteNo;
 use zq_node::Node;
-use zq_peers::{Link, Mailbox, Straight};
+use zq_peers::{Carry, Link, Mailbox, Witness};
 use zq_posheap::Seeded;
 use zq_spread::Pass;
 
@@ -23,18 +23,23 @@ pub struct Linker {
 }
 
 impl Linker {
-    /// Hears what comes to its site's mailbox, and tells the other sites what this one has, until Stop comes. Site N's
-    /// mailbox is at place N.
-    pub(crate) fn run<R: Wait>(self, rt: &R, alloc: Global, mailboxes: &[Mailbox], hasher: Seeded) {
+    /// Hears what comes to its site's mailbox, and tells the other sites what this one has, until Stop comes. What it sends
+    /// goes to the carrier; of frames that it drops the witness is told. A state that is heard lies by the hasher.
+    pub fn run<R: Wait, C: Carry, T: Witness>(
+        self,
+        rt: &R,
+        alloc: Global,
+        inbox: &Mailbox,
+        hasher: Seeded,
+        carrier: &mut C,
+        witness: &T,
+    ) {
         let Linker {
             station,
             pass,
             others,
         } = self;
         let station: &Station = &station;
-        let Some(inbox) = mailboxes.get(usize::from(station.number.value())) else {
-            return;
-        };
         let mut node = Node::new(
             alloc,
             &station.site,
@@ -43,12 +48,11 @@ impl Linker {
             station.rule,
             pass,
         );
-        let mut carrier = Straight::new(rt, mailboxes);
         let link = Link {
             inbox,
             others,
             hasher,
         };
-        link.attend(rt, alloc, &mut node, &mut carrier);
+        link.attend(rt, alloc, &mut node, carrier, witness);
     }
 }

@@ -1,7 +1,7 @@
 //! Opening the ports of sites.
 
 ghost use Rattle.std.specs.Arc.{arc_value};
-ghost use Rattle.std.specs.Prelude.{All, IfOk, ◌<◌, ◌≡◌, ◌≤◌};
+ghost use Rattle.std.specs.Prelude.{All, IfOk, ◌*◌, ◌<◌, ◌≡◌, ◌≤◌};
 ghost use Rattle.zq_spread.specs.Passes.{IsPassOf};
 
 use crate::fault::ServeFault;
@@ -10,13 +10,13 @@ use crate::station::Station;
 use crate::turns::Turns;
 use crate::worker::Worker;
 use std::alloc::{AllocError, Global};
-use std::net::{Ipv4Addr, Net, SocketAddr, TcpListener, TcpStream};
+use std::net::{IpAddr, Ipv4Addr, Net, SocketAddr, TcpListener, TcpStream};
 use std::random::RandomSource;
 use std::sync::{Arc, Mutex};
-use zq_dots::SiteNo;
+use zq_dots::{Rule, SiteNo};
 use zq_peers::{Mailbox, others};
 use zq_posheap::Seeded;
-use zq_settings::{Port, Settings};
+use zq_settings::{ConnectionCount, HeapCount, Port, Settings, WorkerCount};
 use zq_spread::{Pass, Site, SiteFault};
 
 /// A hasher of a seed that strangers do not know.
@@ -28,40 +28,73 @@ pub fn draw_hasher<R: RandomSource>(rt: &R) -> Result<Seeded, ServeFault> {
     }
 }
 
-/// Listens on the port, on loopback alone.
-fn listen<R: Net<Listener = TcpListener, Stream = TcpStream>>(
+/// The address of a port.
+pub fn address_of(ip: IpAddr, port: Port) -> SocketAddr {
+    SocketAddr::from((ip, port.value() as u16))
+}
+
+/// Listens on an address.
+///
+/// `Device` where that failed.
+pub fn listen<R: Net<Listener = TcpListener, Stream = TcpStream>>(
     net: &R,
-    port: Port,
+    address: SocketAddr,
 ) -> Result<TcpListener, ServeFault> {
-    let address = SocketAddr::from((Ipv4Addr::LOCALHOST, port.value() as u16));
     match TcpListener::bind(net, address) {
         Ok(listener) => Ok(listener),
         Err(_) => Err(ServeFault::Device),
     }
 }
 
-/// What works for the sites: workers, and linkers where there are several sites.
+/// How a site is served.
+#[derive(Clone, Copy, Debug)]
+pub struct Plan {
+    /// Its number.
+    pub number: SiteNo,
+    /// Its number of heaps.
+    pub heaps: HeapCount,
+    /// Which of a member's values is its score.
+    pub rule: Rule,
+    /// How many connections are served at once.
+    pub workers: WorkerCount,
+    /// How many connections its port accepts; with `None` there is no end of them.
+    pub connections: Option<ConnectionCount>,
+}
+
+/// What works for sites: workers, and a linker for each site that is not alone.
 #[derive(Drop)]
 pub struct Crew {
+    /// A worker for each connection that is served at once.
     pub workers: Vec<Worker>,
+    /// The linkers.
     pub linkers: Vec<Linker>,
 }
 
-/// Makes the site of this number, and its station, with passes for its workers and one more for its linker.
-fn station<R: Net<Listener = TcpListener, Stream = TcpStream>>(
+impl Crew {
+    /// Nobody. It takes no memory.
+    pub fn new(alloc: Global) -> Crew {
+        Crew {
+            workers: Vec::new(alloc),
+            linkers: Vec::new(alloc),
+        }
+    }
+}
+
+/// Makes a site and its station, which listens on this address, with passes for its workers and one more for its linker.
+fn open_station<R: Net<Listener = TcpListener, Stream = TcpStream>>(
     net: &R,
     alloc: Global,
-    settings: &Settings,
-    number: SiteNo,
-    port: Port,
+    plan: &Plan,
+    address: SocketAddr,
     hasher: Seeded,
 ) -> Result<(Arc<Station>, Vec<Pass>), ServeFault>
     ensures { IfOk result (λ made. All (IsPassOf (arc_value made.0).site) made.1.items) }
 {
-    let listener = listen(net, port)?;
-    let heaps = settings.heaps.value() as u8;
-    let passes = settings.workers.value() as usize + 1;
-    let rule = settings.rule;
+    let listener = listen(net, address)?;
+    let number = plan.number;
+    let heaps = plan.heaps.value() as u8;
+    let passes = plan.workers.value() as usize + 1;
+    let rule = plan.rule;
     let made = Site::new_ruled(alloc, number, heaps, passes, rule, hasher);
     let (site, passes) = match made {
         Ok(made) => made,
@@ -74,28 +107,26 @@ fn station<R: Net<Listener = TcpListener, Stream = TcpStream>>(
         rule,
         site,
         listener,
-        turns: Mutex::new(Turns::new(settings.connections)),
+        turns: Mutex::new(Turns::new(plan.connections)),
     };
     let station = Arc::new(alloc, station).map_err(AllocError::from)?;
     Ok((station, passes))
 }
 
-/// Appends a linker with the last of the passes where there are other sites, and a worker for each of the others.
+/// Appends a linker with the last of the passes where the site has others beside it, and a worker for each of the other
+/// passes.
 fn hire(
-    alloc: Global,
     station: &Arc<Station>,
     passes: Vec<Pass>,
-    sites: u8,
+    others: Vec<SiteNo>,
     crew: &mut Crew,
 ) -> Result<(), ServeFault>
-    requires passes { All (IsPassOf (arc_value station.now).site) passes.items }
-    requires sites { sites ≤ 64 }
+    requires { All (IsPassOf (arc_value station.now).site) passes.items }
 {
     let mut passes = passes;
     if let Some(pass) = passes.pop()
-        && sites > 1
+        && !others.is_empty()
     {
-        let others = others(alloc, station.number, sites)?;
         let linker = Linker {
             station: Arc::try_clone(station)?,
             pass,
@@ -142,30 +173,88 @@ pub fn open_all<R: Net<Listener = TcpListener, Stream = TcpStream>>(
     settings: &Settings,
     hasher: Seeded,
 ) -> Result<Crew, ServeFault> {
-    let mut crew = Crew {
-        workers: Vec::new(alloc),
-        linkers: Vec::new(alloc),
-    };
+    let mut crew = Crew::new(alloc);
     let ports = settings.ports.as_slice();
     let sites = ports.len() as u8;
     let mut rest = ports;
     let mut place = 0u8;
     while let Some((port, others)) = rest.split_first() {
-        let (station, passes) = station(net, alloc, settings, site_at(place), *port, hasher)?;
-        hire(alloc, &station, passes, sites, &mut crew)?;
+        open_one(
+            net,
+            alloc,
+            &plan_of(settings, place),
+            *port,
+            sites,
+            hasher,
+            &mut crew,
+        )?;
         rest = others;
         place += 1;
     }
     Ok(crew)
 }
 
-/// A mailbox for each of the sites where there are several. In one, four rounds of what the other sites have wait at
-/// most.
+/// How the site of a place among the ports is served.
+fn plan_of(settings: &Settings, place: u8) -> Plan
+    requires { place < 64 }
+{
+    Plan {
+        number: site_at(place),
+        heaps: settings.heaps,
+        rule: settings.rule,
+        workers: settings.workers,
+        connections: settings.connections,
+    }
+}
+
+/// Listens on a site's port, on loopback alone, and appends what works for it, one of so many sites.
+fn open_one<R: Net<Listener = TcpListener, Stream = TcpStream>>(
+    net: &R,
+    alloc: Global,
+    plan: &Plan,
+    port: Port,
+    sites: u8,
+    hasher: Seeded,
+    crew: &mut Crew,
+) -> Result<(), ServeFault>
+    requires { sites ≤ 64 }
+{
+    let address = address_of(IpAddr::V4(Ipv4Addr::LOCALHOST), port);
+    let others = others(alloc, plan.number, sites)?;
+    open_site(net, alloc, plan, address, others, hasher, crew)
+}
+
+/// Makes a site that has done nothing, whose members lie by the hasher, listens on the address for its clients, and appends
+/// what works for it: its workers and, where it has others beside it, its linker.
+///
+/// `Device` where the address could not be listened on, and `NoMemory`: then some may have been appended.
+pub fn open_site<R: Net<Listener = TcpListener, Stream = TcpStream>>(
+    net: &R,
+    alloc: Global,
+    plan: &Plan,
+    address: SocketAddr,
+    others: Vec<SiteNo>,
+    hasher: Seeded,
+    crew: &mut Crew,
+) -> Result<(), ServeFault> {
+    let (station, passes) = open_station(net, alloc, plan, address, hasher)?;
+    hire(&station, passes, others, crew)
+}
+
+/// How many messages wait in a site's mailbox at most: four rounds of what so many other sites have, at most 63.
+pub fn most_waiting(others: usize, heaps: HeapCount) -> usize
+    requires { others < 64 }
+    ensures { result ≡ 4 * others * heaps }
+{
+    4 * others * heaps.value() as usize
+}
+
+/// A mailbox for each of the sites where there are several.
 pub fn open_mailboxes(alloc: Global, settings: &Settings) -> Result<Vec<Mailbox>, ServeFault> {
     let mut mailboxes = Vec::new(alloc);
     let sites = settings.ports.as_slice().len();
     if sites > 1 {
-        let most = 4 * (sites - 1) * settings.heaps.value() as usize;
+        let most = most_waiting(sites - 1, settings.heaps);
         for _ in 0..sites {
             let mailbox = Mailbox::new(alloc, most)?;
             mailboxes.push(mailbox).map_err(AllocError::from)?;

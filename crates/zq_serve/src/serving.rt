@@ -2,17 +2,21 @@
 
 use crate::announcing::announce;
 use crate::fault::ServeFault;
+use crate::inboxes::Inboxes;
+use crate::linker::Linker;
 use crate::opening::{Crew, draw_hasher, open_all, open_mailboxes};
-use crate::worker::Worker;
+use crate::running::run_workers;
+use crate::station::Station;
 use log::Log;
 use std::alloc::Global;
 use std::io::Write;
 use std::net::{Net, TcpListener, TcpStream};
 use std::random::RandomSource;
-use std::sync::{Mutex, Wait};
+use std::sync::Wait;
 use std::thread;
 use std::thread::Threads;
-use zq_peers::Mailbox;
+use zq_dots::SiteNo;
+use zq_peers::{Mailbox, Silent, Straight};
 use zq_posheap::Seeded;
 use zq_settings::Settings;
 
@@ -65,14 +69,14 @@ fn run_all<L: Log + Threads + Wait + Sync>(
             let mut ended = Ok(());
             for linker in linkers {
                 if scope
-                    .spawn(move || linker.run(log, alloc, mailboxes, hasher))
+                    .spawn(move || link_one(log, alloc, linker, mailboxes, hasher))
                     .is_err()
                 {
                     ended = Err(ServeFault::Device);
                 }
             }
             if ended.is_ok() {
-                ended = run_workers(log, alloc, workers, mailboxes, seed);
+                ended = run_workers(log, alloc, workers, Inboxes::Each(mailboxes), seed);
             }
             for mailbox in mailboxes {
                 mailbox.stop(log);
@@ -82,32 +86,17 @@ fn run_all<L: Log + Threads + Wait + Sync>(
     )
 }
 
-/// Runs each worker in a thread of its own, and waits for all. No worker begins before all threads have started: where
-/// one does not start, none serves.
-fn run_workers<L: Log + Threads + Wait + Sync>(
-    log: &L,
-    alloc: Global,
-    workers: Vec<Worker>,
-    mailboxes: &[Mailbox],
-    seed: u64,
-) -> Result<(), ServeFault> {
-    let gate = Mutex::new(false);
-    let gate = &gate;
-    thread::scope(
-        thread::scope_env(),
-        log,
-        move |scope| -> Result<(), ServeFault> {
-            let mut open = gate.lock(log);
-            for worker in workers {
-                if scope
-                    .spawn(move || worker.run(log, alloc, gate, mailboxes, seed))
-                    .is_err()
-                {
-                    return Err(ServeFault::Device);
-                }
-            }
-            *open = true;
-            Ok(())
-        },
-    )
+/// Links a site to the others, whose mailboxes these are, until it is to stop. Site N's is at place N.
+fn link_one<R: Wait>(rt: &R, alloc: Global, linker: Linker, mailboxes: &[Mailbox], hasher: Seeded) {
+    let number = site_of(&linker);
+    let mut carrier = Straight::new(rt, number, mailboxes);
+    if let Some(inbox) = mailboxes.get(usize::from(number.value())) {
+        linker.run(rt, alloc, inbox, hasher, &mut carrier, &Silent);
+    }
+}
+
+/// The number of a linker's site.
+fn site_of(linker: &Linker) -> SiteNo {
+    let station: &Station = &linker.station;
+    station.number
 }

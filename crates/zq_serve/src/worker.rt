@@ -4,12 +4,12 @@ ghost use Rattle.std.specs.Arc.{arc_value};
 ghost use Rattle.zq_server.specs.PassFacts.{pass_fact};
 ghost use Rattle.zq_spread.specs.Passes.{IsPassOf};
 
+use crate::inboxes::Inboxes;
 use crate::station::Station;
 use crate::ticking::Ticking;
 use log::Log;
 use std::alloc::Global;
 use std::sync::{Arc, Mutex, Wait};
-use zq_peers::Mailbox;
 use zq_server::Passing;
 use zq_spread::{Draws, Pass};
 
@@ -23,13 +23,13 @@ pub struct Worker {
 
 impl Worker {
     /// Serves connections, once the gate is open, until none is left. A gate that was never opened ends it at once. After
-    /// each call a Tick goes to the site's mailbox; site N's is at place N, and where there is none, none goes.
+    /// each call a Tick goes to the site's mailbox, where it has one.
     pub(crate) fn run<L: Log + Wait>(
         self,
         log: &L,
         alloc: Global,
         gate: &Mutex<bool>,
-        mailboxes: &[Mailbox],
+        inboxes: Inboxes<'_>,
         seed: u64,
     ) {
         if !*gate.lock(log) {
@@ -38,7 +38,7 @@ impl Worker {
         let Worker { station, pass } = self;
         let station: &Station = &station;
         let passing = Passing::new(log, &station.site, pass, Draws::new(seed));
-        let mailbox = mailboxes.get(usize::from(station.number.value()));
+        let mailbox = inboxes.of(station.number);
         let mut ticking = Ticking::new(log, passing, mailbox);
         station.attend(log, alloc, &mut ticking);
     }

@@ -1,8 +1,14 @@
 pub mod Apart
 pub mod Broken
+pub mod Faults
 pub mod Meant
+pub mod MeantAddresses
 pub mod MeantNumbers
+pub mod MeantPeers
 pub mod MeantPorts
+pub mod MeantSite
 pub mod Seen
+pub mod SiteBroken
+pub mod Spelled
 pub mod Steps
 pub mod Told

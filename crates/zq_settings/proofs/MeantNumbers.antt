@@ -1,6 +1,6 @@
 -- The values of keys that take a number or a text.
 use Rattle.zq_settings.proofs.Steps.{both_ok, some_since, integer_since, text_since, within_since, within_from}
-use Rattle.std.proofs.Common.{◌≡◌, ℕ, List, Option, Some, None, Ok, codes, refl, ap, ◌∙◌, inl, inr}
+use Rattle.std.proofs.Common.{◌≡◌, ◌≤◌, ℕ, pos, List, Option, Some, None, Ok, codes, refl, ap, ◌∙◌, inl, inr}
 use Rattle.std.proofs.lemmas.Bool.{cases_Bool}
 use Rattle.std.proofs.lemmas.Slice.Eq.{bytes_eq-Decides}
 use Rattle.std.specs.Str.{bytes_eq}
@@ -9,21 +9,36 @@ use Rattle.toml.specs.Data.{Data, string, integer, as_integer, as_str}
 use Rattle.zq_dots.specs.declared.rule.Rule.{Rule}
 use Rattle.zq_dots.specs.declared.rule.Rule.TheVariants.{High, Low}
 use Rattle.zq_settings.specs.Rules.{IsNumber, IsLimit, IsRule, word_of}
-use Rattle.zq_settings.specs.Settings.{number_of, limit_of, connections_of, rule_of, rule_named}
+use Rattle.zq_settings.specs.Settings.{whole_of, number_of, required_of, limit_of, connections_of, rule_of, rule_named}
+use Rattle.zq_settings.specs.SiteRules.{IsRequired}
 use Rattle.zq_settings.specs.declared.key.Key.{Key}
 
 -- a number
+pub whole_since : (key : Key) (least most n : ℕ) (d : Data) → whole_of key least most d ≡ Ok n → (d ≡ integer (pos n)) × (least ≤ n) × (n ≤ most)
+whole_since key least most n d h =
+    let (z, whole, fits) = both_ok (ok_or (as_integer d) _) _ n h in
+    let (same, low, high) = within_since least most n z (some_since _ _ n fits) in
+    (integer_since d z (some_since _ _ z whole) ∙ ap integer same, low, high)
+
 pub number_since : (key : Key) (least most default n : ℕ) (value : Option Data) → number_of key least most default value ≡ Ok n → IsNumber least most default value n
 number_since key least most default n None h = inl (refl, cc)
 number_since key least most default n (Some d) h =
-    let (z, whole, fits) = both_ok (ok_or (as_integer d) _) _ n h in
-    let (same, low, high) = within_since least most n z (some_since _ _ n fits) in
-    let seen = integer_since d z (some_since _ _ z whole) in
-    inr (ap Some (seen ∙ ap integer same), low, high)
+    let (same, low, high) = whole_since key least most n d h in
+    inr (ap Some same, low, high)
 
 pub number_from : (key : Key) (least most default n : ℕ) (value : Option Data) → IsNumber least most default value n → number_of key least most default value ≡ Ok n
 number_from key least most default n value (inl (none, same)) = rw (none, same)
 number_from key least most default n value (inr (some, low, high)) = rw (some, within_from least most n low high)
+
+-- a number that has to be there
+pub required_since : (key : Key) (least most n : ℕ) (value : Option Data) → required_of key least most value ≡ Ok n → IsRequired least most value n
+required_since key least most n None h = cc
+required_since key least most n (Some d) h =
+    let (same, low, high) = whole_since key least most n d h in
+    (ap Some same, low, high)
+
+pub required_from : (key : Key) (least most n : ℕ) (value : Option Data) → IsRequired least most value n → required_of key least most value ≡ Ok n
+required_from key least most n value (some, low, high) = rw (some, within_from least most n low high)
 
 pub limit_since : (limit : Option ℕ) (value : Option Data) → connections_of value ≡ Ok limit → IsLimit value limit
 limit_since limit value h =

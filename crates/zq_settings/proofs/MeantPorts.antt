@@ -1,16 +1,18 @@
 -- The ports of an array.
-use Rattle.zq_settings.proofs.Steps.{both_ok, some_since, integer_since, array_since, within_since, within_from}
+use Rattle.zq_settings.proofs.MeantNumbers.{whole_since}
+use Rattle.zq_settings.proofs.Steps.{both_ok, some_since, array_since, within_from}
 use Rattle.std.proofs.Common.{◌≡◌, ◌≤◌, ℕ, suc, false, eqb, ltb, ◌||◌, List, [], ◌∷◌, length, map, Option, Some, None, Ok, Err, refl, ap, ◌∙◌, inl, inr, arith}
 use Rattle.std.proofs.lemmas.Bool.{cases_Bool, or_parts, or_from, le-ltb, ltb-false, eqb-false, ne_eqb}
 use Rattle.std.proofs.lemmas.List.Elements.{All-nil, All-cons, All-head, All-tail}
 use Rattle.std.specs.List.{All}
 use Rattle.std.specs.Option.{ok_or}
-use Rattle.toml.specs.Data.{Data, integer, array, Items, no_items, item, as_integer, as_array}
+use Rattle.toml.specs.Data.{Data, array, Items, no_items, item, as_array}
 use Rattle.toml.specs.View.{items_of}
 use Rattle.zq_settings.proofs.Apart.{distinct_since, none_twice}
 use Rattle.zq_settings.specs.Ports.{first_twice}
 use Rattle.zq_settings.specs.Rules.{AreEntries, entry_of}
-use Rattle.zq_settings.specs.Settings.{count_of, port_of, each_port, unless_twice, distinct, ports_in, ports_of}
+use Rattle.zq_settings.specs.Settings.{count_of, each, port_of, unless_twice, distinct, ports_in, ports_of}
+use Rattle.zq_settings.specs.declared.key.Key.TheVariants as key
 
 -- the bounds of a port
 abbrev pub IsPort : ℕ → Type 0
@@ -18,25 +20,24 @@ IsPort port = (1 ≤ port) × (port ≤ 65535)
 
 pub port_since : (entry : Data) (port : ℕ) → port_of entry ≡ Ok port → (entry ≡ entry_of port) × IsPort port
 port_since entry port h =
-    let (z, whole, fits) = both_ok (ok_or (as_integer entry) _) _ port h in
-    let (same, low, high) = within_since 1 65535 port z (some_since _ _ port fits) in
-    (integer_since entry z (some_since _ _ z whole) ∙ ap integer same, (low, high))
+    let (same, low, high) = whole_since key.Ports 1 65535 port entry h in
+    (same, (low, high))
 
 pub port_from : (port : ℕ) → IsPort port → port_of (entry_of port) ≡ Ok port
 port_from port (low, high) = rw (within_from 1 65535 port low high)
 
-pub each_since : (entries : Items) (ports : List ℕ) → each_port entries ≡ Ok ports → (entries ≡ items_of (map entry_of ports)) × All IsPort ports
+pub each_since : (entries : Items) (ports : List ℕ) → each port_of entries ≡ Ok ports → (entries ≡ items_of (map entry_of ports)) × All IsPort ports
 each_since no_items ports h = let none : [] ≡ ports = cc in rw (← none) (refl, All-nil IsPort)
 each_since (item entry entries) ports h =
     let (first, read, rest) = both_ok (port_of entry) _ ports h in
-    let (others, others_read, joined) = both_ok (each_port entries) _ ports rest in
+    let (others, others_read, joined) = both_ok (each port_of entries) _ ports rest in
     let whole : first ∷ others ≡ ports = cc in
     let (same, in_range) = port_since entry first read in
     let (all_same, all_in_range) = each_since entries others others_read in
     let entries_same : item entry entries ≡ item (entry_of first) (items_of (map entry_of others)) = cc in
     rw (← whole) (entries_same, All-cons IsPort first others in_range all_in_range)
 
-pub each_from : (ports : List ℕ) → All IsPort ports → each_port (items_of (map entry_of ports)) ≡ Ok ports
+pub each_from : (ports : List ℕ) → All IsPort ports → each port_of (items_of (map entry_of ports)) ≡ Ok ports
 each_from [] all = refl
 each_from (port ∷ ports) all = rw (port_from port (All-head IsPort port ports all), each_from ports (All-tail IsPort port ports all))
 
@@ -56,7 +57,7 @@ ports_since ports (Some d) h =
     elim (cases_Bool (eqb (count_of entries) 0 || ltb 64 (count_of entries))) [
       | inl wrong ↦ let none : Err _ ≡ Ok ports = rw wrong at read in cc
       | inr right ↦
-          let (each, each_read, apart) = both_ok (each_port entries) distinct ports (rw right at read) in
+          let (each, each_read, apart) = both_ok (each port_of entries) distinct ports (rw right at read) in
           let (once, same) = once_since (first_twice each) each ports apart in
           let (entries_same, in_range) = each_since entries each each_read in
           let seen : d ≡ array entries = array_since d entries (some_since _ _ entries an_array) in

@@ -1,8 +1,8 @@
 -- Steps of a reading.
-use Rattle.std.proofs.Common.{◌≡◌, ◌≤◌, ◌⊎◌, ℕ, ℤ, pos, negsuc, leb, ◌&&◌, List, Option, Some, None, Result, Ok, Err, refl, ap, inl, inr, arith}
+use Rattle.std.proofs.Common.{◌≡◌, ◌≤◌, ◌⊎◌, ℕ, ℤ, pos, negsuc, leb, ◌&&◌, List, Option, Some, None, Result, Ok, Err, refl, sym, ap, ◌∙◌, inl, inr, arith}
 use Rattle.std.proofs.lemmas.Bool.{cases_Bool, and_parts, leb-true, le-leb}
 use Rattle.std.specs.Option.{ok_or}
-use Rattle.toml.specs.Data.{Data, string, integer, float, boolean, datetime, array, table as subtable, Items, as_integer, as_array, as_str}
+use Rattle.toml.specs.Data.{Data, string, integer, float, boolean, datetime, array, table as subtable, Items, Members, as_integer, as_array, as_str, as_table}
 use Rattle.zq_settings.specs.Numbers.{within}
 use Rattle.zq_settings.specs.Settings.{◌>>=◌}
 use Rattle.zq_settings.specs.declared.why.Why.{Why}
@@ -12,12 +12,16 @@ pub both_ok : {A B : Type 0} (r : Result A Why) (f : A → Result B Why) (b : B)
 both_ok (Ok a) f b h = (a, refl, h)
 both_ok (Err why) f b h = cc
 
+-- the value of one step, twice
+pub ok_same : {A : Type 0} (a b : A) (r s : Result A Why) → r ≡ Ok a → s ≡ Ok b → r ≡ s → a ≡ b
+ok_same a b r s is_a is_b same = let there : Ok a ≡ Ok b = sym is_a ∙ same ∙ is_b in cc
+
 -- the value of a step
 pub some_since : {A : Type 0} (o : Option A) (why : Why) (a : A) → ok_or o why ≡ Ok a → o ≡ Some a
 some_since (Some x) why a h = cc
 some_since None why a h = cc
 
--- the one kind of value of which there is a whole number, an array, a text
+-- the one kind of value of which there is a whole number, an array, a text, a table
 pub integer_since : (d : Data) (z : ℤ) → as_integer d ≡ Some z → d ≡ integer z
 integer_since (integer x) z h = cc
 integer_since (string s) z h = cc
@@ -44,6 +48,15 @@ text_since (float x) word h = cc
 text_since (boolean b) word h = cc
 text_since (datetime t) word h = cc
 text_since (subtable ms) word h = cc
+
+pub table_since : (d : Data) (ms : Members) → as_table d ≡ Some ms → d ≡ subtable ms
+table_since (subtable ns) ms h = cc
+table_since (string s) ms h = cc
+table_since (integer x) ms h = cc
+table_since (float x) ms h = cc
+table_since (boolean b) ms h = cc
+table_since (datetime t) ms h = cc
+table_since (array ds) ms h = cc
 
 -- a number that lies between the bounds
 pub within_since : (least most n : ℕ) (z : ℤ) → within least most z ≡ Some n → (z ≡ pos n) × (least ≤ n) × (n ≤ most)

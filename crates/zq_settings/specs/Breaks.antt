@@ -1,16 +1,22 @@
--- The rules of settings that a table can break.
+-- The rules of settings of several sites that a table can break.
 use Rattle.std.specs.Prelude.{◌≡◌, ◌<◌, ◌⊎◌, ℕ, ℤ, false, List, ◌∷◌, ◌++◌, length, map, Some, None, Err}
-use Rattle.toml.specs.Data.{Data, Members, integer, string, array, as_integer, as_array, as_str}
+use Rattle.std.specs.Net.Grammar.{IsIpText, IsSocketText}
+use Rattle.std.specs.Net.Socket.{socket_port}
+use Rattle.std.specs.declared.net.ip_addr.IpAddr.{IpAddr}
+use Rattle.std.specs.declared.net.socket_addr.SocketAddr.{SocketAddr}
+use Rattle.toml.specs.Data.{Data, Members, integer, string, array, as_integer, as_array, as_str, as_table}
 use Rattle.toml.specs.View.{items_of}
 use Rattle.zq_settings.specs.Keys.{is_known}
 use Rattle.zq_settings.specs.Numbers.{within}
 use Rattle.zq_settings.specs.Rules.{entry_of}
 use Rattle.zq_settings.specs.Settings.{rule_named, settings_of}
 use Rattle.zq_settings.specs.Tables.{names_in, value_at}
+use Rattle.zq_settings.specs.declared.form.Form.{Form}
+use Rattle.zq_settings.specs.declared.form.Form.TheVariants as form
 use Rattle.zq_settings.specs.declared.key.Key.{Key}
 use Rattle.zq_settings.specs.declared.key.Key.TheVariants as key
 use Rattle.zq_settings.specs.declared.why.Why.{Why}
-use Rattle.zq_settings.specs.declared.why.Why.TheVariants.{Text, Unknown, NoPorts, PortCount, Kind, Range, Twice}
+use Rattle.zq_settings.specs.declared.why.Why.TheVariants.{Unknown, Missing, Count, Kind, Range, Twice}
 
 -- a whole number that does not lie between the bounds
 abbrev pub IsOutside : ℕ → ℕ → Data → Type 0
@@ -20,34 +26,69 @@ IsOutside least most value = (z : ℤ) × (value ≡ integer z) × (within least
 abbrev pub HasEntry : (Data → Type 0) → Data → Type 0
 HasEntry P value = (before : List ℕ) × (entry : Data) × (others : List Data) × (value ≡ array (items_of (map entry_of before ++ entry ∷ others))) × P entry
 
--- the value, or one of the entries of `ports`, is of another kind than the key takes
+-- an array with such an entry
+abbrev pub HasItem : (Data → Type 0) → Data → Type 0
+HasItem P value = (before : List Data) × (entry : Data) × (others : List Data) × (value ≡ array (items_of (before ++ entry ∷ others))) × P entry
+
+-- a text of which this holds
+abbrev pub IsText : (List ℕ → Type 0) → Data → Type 0
+IsText P value = (text : List ℕ) × (value ≡ string text) × P text
+
+-- it writes no IP address, and no address with a port that is not 0
+abbrev pub IsNoIp : List ℕ → Type 0
+IsNoIp text = (ip : IpAddr) → ¬ IsIpText text ip
+
+abbrev pub IsNoAddress : List ℕ → Type 0
+IsNoAddress text = (address : SocketAddr) → IsSocketText text address → socket_port address ≡ 0
+
+-- the value, or one of the entries of an array, is of another kind than the key takes
 abbrev pub IsOfOtherKind : Key → Data → Type 0
 IsOfOtherKind key.Ports value = (as_array value ≡ None) ⊎ HasEntry (λ entry. as_integer entry ≡ None) value
+IsOfOtherKind key.Peers value = (as_array value ≡ None) ⊎ HasItem (λ entry. as_table entry ≡ None) value
 IsOfOtherKind key.Heaps value = as_integer value ≡ None
 IsOfOtherKind key.Workers value = as_integer value ≡ None
 IsOfOtherKind key.Connections value = as_integer value ≡ None
 IsOfOtherKind key.Seed value = as_integer value ≡ None
+IsOfOtherKind key.Site value = as_integer value ≡ None
+IsOfOtherKind key.Port value = as_integer value ≡ None
+IsOfOtherKind key.PeerSite value = as_integer value ≡ None
 IsOfOtherKind key.Rule value = as_str value ≡ None
+IsOfOtherKind key.Bind value = as_str value ≡ None
+IsOfOtherKind key.Secret value = as_str value ≡ None
+IsOfOtherKind key.Listen value = as_str value ≡ None
+IsOfOtherKind key.PeerAddress value = as_str value ≡ None
 
 -- the value, or one of the entries of `ports`, is not one that the key takes
 abbrev pub IsOutOfRange : Key → Data → Type 0
 IsOutOfRange key.Ports value = HasEntry (IsOutside 1 65535) value
+IsOutOfRange key.Peers value = ⊥
 IsOutOfRange key.Heaps value = IsOutside 2 16 value
 IsOutOfRange key.Workers value = IsOutside 1 64 value
 IsOutOfRange key.Connections value = IsOutside 0 1000000 value
 IsOutOfRange key.Seed value = IsOutside 0 9223372036854775807 value
-IsOutOfRange key.Rule value = (word : List ℕ) × (value ≡ string word) × (rule_named word ≡ None)
+IsOutOfRange key.Site value = IsOutside 0 63 value
+IsOutOfRange key.Port value = IsOutside 1 65535 value
+IsOutOfRange key.PeerSite value = IsOutside 0 63 value
+IsOutOfRange key.Rule value = IsText (λ word. rule_named word ≡ None) value
+IsOutOfRange key.Bind value = IsText IsNoIp value
+IsOutOfRange key.Secret value = IsText (λ text. length text < 16) value
+IsOutOfRange key.Listen value = IsText IsNoAddress value
+IsOutOfRange key.PeerAddress value = IsText IsNoAddress value
+
+-- a key that such a table does not have
+abbrev pub HasUnknown : Form → List ℕ → Members → Type 0
+HasUnknown form name table = (before : List (List ℕ)) × (others : List (List ℕ)) × (names_in table ≡ before ++ name ∷ others) × (is_known form name ≡ false)
 
 -- the rule that is broken, apart from the order of rules
 abbrev pub Breaks : Members → Why → Type 0
-Breaks table (Text line error) = ⊥
-Breaks table (Unknown name) = (before : List (List ℕ)) × (others : List (List ℕ)) × (names_in table ≡ before ++ name ∷ others) × (is_known name ≡ false)
-Breaks table NoPorts = value_at key.Ports table ≡ None
-Breaks table (PortCount count) = (entries : List Data) × (value_at key.Ports table ≡ Some (array (items_of entries))) × (length entries ≡ count) × ((count ≡ 0) ⊎ (64 < count))
+Breaks table (Unknown form.Sites name) = HasUnknown form.Sites name table
+Breaks table (Missing key.Ports) = value_at key.Ports table ≡ None
+Breaks table (Count key.Ports count) = (entries : List Data) × (value_at key.Ports table ≡ Some (array (items_of entries))) × (length entries ≡ count) × ((count ≡ 0) ⊎ (64 < count))
 Breaks table (Kind key) = (value : Data) × (value_at key table ≡ Some value) × IsOfOtherKind key value
 Breaks table (Range key) = (value : Data) × (value_at key table ≡ Some value) × IsOutOfRange key value
 Breaks table (Twice port) = (before : List ℕ) × (between : List ℕ) × (others : List ℕ)
     × (value_at key.Ports table ≡ Some (array (items_of (map entry_of (before ++ port ∷ (between ++ port ∷ others))))))
+Breaks table _ = ⊥
 
 -- a table is refused for a rule that it breaks
 abbrev pub EachRefusalIsOfABrokenRule : Type 0

@@ -2,18 +2,35 @@
 use Rattle.std.specs.Prelude.{ℕ, List, [], ◌∷◌, Bool, codes}
 use Rattle.std.specs.List.{list_any}
 use Rattle.std.specs.Str.{bytes_eq}
+use Rattle.zq_settings.specs.declared.form.Form.{Form}
+use Rattle.zq_settings.specs.declared.form.Form.TheVariants as form
 use Rattle.zq_settings.specs.declared.key.Key.{Key}
-use Rattle.zq_settings.specs.declared.key.Key.TheVariants.{Ports, Heaps, Workers, Connections, Seed, Rule}
+use Rattle.zq_settings.specs.declared.key.Key.TheVariants as key
 
 -- how a key is written
 abbrev pub name_of : Key → List ℕ
-name_of Ports = codes "ports"
-name_of Heaps = codes "heaps"
-name_of Workers = codes "workers"
-name_of Connections = codes "connections"
-name_of Seed = codes "seed"
-name_of Rule = codes "rule"
+name_of key.Ports = codes "ports"
+name_of key.Heaps = codes "heaps"
+name_of key.Workers = codes "workers"
+name_of key.Connections = codes "connections"
+name_of key.Seed = codes "seed"
+name_of key.Rule = codes "rule"
+name_of key.Site = codes "site"
+name_of key.Port = codes "port"
+name_of key.Bind = codes "bind"
+name_of key.Secret = codes "secret"
+name_of key.Listen = codes "listen"
+name_of key.Peers = codes "peers"
+name_of key.PeerSite = codes "site"
+name_of key.PeerAddress = codes "address"
 
--- one of the keys has this name
-abbrev pub is_known : List ℕ → Bool
-is_known name = list_any (λ key. bytes_eq name (name_of key)) (Ports ∷ Heaps ∷ Workers ∷ Connections ∷ Seed ∷ Rule ∷ [])
+-- the keys that a table of each kind may have
+abbrev pub keys_of : Form → List Key
+keys_of form.Sites = key.Ports ∷ key.Heaps ∷ key.Workers ∷ key.Connections ∷ key.Seed ∷ key.Rule ∷ []
+keys_of form.Site =
+    key.Site ∷ key.Port ∷ key.Bind ∷ key.Secret ∷ key.Listen ∷ key.Peers ∷ key.Heaps ∷ key.Workers ∷ key.Connections ∷ key.Seed ∷ key.Rule ∷ []
+keys_of form.Peer = key.PeerSite ∷ key.PeerAddress ∷ []
+
+-- one of the keys of such a table has this name
+abbrev pub is_known : Form → List ℕ → Bool
+is_known form name = list_any (λ key. bytes_eq name (name_of key)) (keys_of form)

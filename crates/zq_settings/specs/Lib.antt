@@ -1,8 +1,13 @@
 pub mod Numbers
 pub mod Keys
 pub mod Ports
+pub mod Peers
 pub mod Tables
+pub mod Addresses
 pub mod Settings
+pub mod Site
 pub mod Texts
 pub mod Rules
+pub mod SiteRules
 pub mod Breaks
+pub mod SiteBreaks

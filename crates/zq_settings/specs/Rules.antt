@@ -1,4 +1,4 @@
--- What a table of settings has to say, key by key.
+-- What a table of settings of several sites has to say, key by key.
 use Rattle.std.specs.Prelude.{◌≡◌, ◌≤◌, ◌⊎◌, ◌↔◌, ℕ, pos, List, codes, map, All, IsTrue, Option, Some, None, Ok}
 use Rattle.toml.specs.Data.{Data, Members, integer, string, array}
 use Rattle.toml.specs.View.{items_of}
@@ -8,6 +8,7 @@ use Rattle.zq_settings.specs.Keys.{is_known}
 use Rattle.zq_settings.specs.Ports.{ArePorts}
 use Rattle.zq_settings.specs.Settings.{limit_of, settings_of}
 use Rattle.zq_settings.specs.Tables.{names_in, value_at}
+use Rattle.zq_settings.specs.declared.form.Form.TheVariants as form
 use Rattle.zq_settings.specs.declared.key.Key.TheVariants as key
 use Rattle.zq_settings.specs.declared.values.Settings.{Settings}
 
@@ -38,7 +39,7 @@ AreEntries value ports = (value ≡ Some (array (items_of (map entry_of ports)))
 
 -- each key of the table is known, and each value is as its key wants it
 pub record IsSettings (table : Members) (settings : Settings) : Type 0 where
-  pub known : All (λ name. IsTrue (is_known name)) (names_in table)
+  pub known : All (λ name. IsTrue (is_known form.Sites name)) (names_in table)
   pub ports : AreEntries (value_at key.Ports table) settings.ports
   pub heaps : IsNumber 2 16 4 (value_at key.Heaps table) settings.heaps
   pub workers : IsNumber 1 64 4 (value_at key.Workers table) settings.workers

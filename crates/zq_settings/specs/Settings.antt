@@ -1,4 +1,4 @@
--- The settings of a table, or the first rule that it breaks.
+-- The settings of several sites that a table has, or the first rule that it breaks.
 use Rattle.std.specs.Prelude.{ℕ, suc, ◌==◌, nat_lt, ◌||◌, List, [], ◌∷◌, codes, Option, Some, None, Result, Ok, Err, if◌then◌else◌}
 use Rattle.std.specs.Option.{ok_or}
 use Rattle.std.specs.Str.{bytes_eq}
@@ -8,11 +8,14 @@ use Rattle.zq_dots.specs.declared.rule.Rule.TheVariants.{High, Low}
 use Rattle.zq_settings.specs.Numbers.{within}
 use Rattle.zq_settings.specs.Ports.{first_twice}
 use Rattle.zq_settings.specs.Tables.{value_at, first_unknown}
+use Rattle.zq_settings.specs.declared.form.Form.{Form}
+use Rattle.zq_settings.specs.declared.form.Form.TheVariants as form
 use Rattle.zq_settings.specs.declared.key.Key.{Key}
 use Rattle.zq_settings.specs.declared.key.Key.TheVariants as key
+use Rattle.zq_settings.specs.declared.values.Common.{Common}
 use Rattle.zq_settings.specs.declared.values.Settings.{Settings}
 use Rattle.zq_settings.specs.declared.why.Why.{Why}
-use Rattle.zq_settings.specs.declared.why.Why.TheVariants.{Unknown, NoPorts, PortCount, Kind, Range, Twice}
+use Rattle.zq_settings.specs.declared.why.Why.TheVariants.{Unknown, Missing, Count, Kind, Range, Twice}
 
 -- the next step, where this one gave a value
 infixl 10 ◌>>=◌
@@ -20,10 +23,23 @@ abbrev pub ◌>>=◌ : {A B : Type 0} → Result A Why → (A → Result B Why) 
 Ok a >>= f = f a
 Err why >>= f = Err why
 
--- a whole number between the bounds, and the default where there is no value
+-- a whole number between the bounds
+abbrev pub whole_of : Key → ℕ → ℕ → Data → Result ℕ Why
+whole_of key least most value = ok_or (as_integer value) (Kind key) >>= (λ z. ok_or (within least most z) (Range key))
+
+-- the same, and the default where there is no value
 abbrev pub number_of : Key → ℕ → ℕ → ℕ → Option Data → Result ℕ Why
 number_of key least most default None = Ok default
-number_of key least most default (Some value) = ok_or (as_integer value) (Kind key) >>= (λ z. ok_or (within least most z) (Range key))
+number_of key least most default (Some value) = whole_of key least most value
+
+-- the same, of a key that has to be there
+abbrev pub required_of : Key → ℕ → ℕ → Option Data → Result ℕ Why
+required_of key least most None = Err (Missing key)
+required_of key least most (Some value) = whole_of key least most value
+
+-- the number of a site, which has to be there
+abbrev pub site_of : Key → Option Data → Result ℕ Why
+site_of key value = required_of key 0 63 value
 
 -- a limit, of which 0 is none
 abbrev pub limit_of : ℕ → Option ℕ
@@ -42,19 +58,29 @@ abbrev pub rule_of : Option Data → Result Rule Why
 rule_of None = Ok High
 rule_of (Some value) = ok_or (as_str value) (Kind key.Rule) >>= (λ word. ok_or (rule_named word) (Range key.Rule))
 
+-- what all settings have
+abbrev pub common_of : Members → Result Common Why
+common_of table =
+    number_of key.Heaps 2 16 4 (value_at key.Heaps table) >>= (λ heaps.
+    number_of key.Workers 1 64 4 (value_at key.Workers table) >>= (λ workers.
+    connections_of (value_at key.Connections table) >>= (λ connections.
+    number_of key.Seed 0 9223372036854775807 1 (value_at key.Seed table) >>= (λ seed.
+    rule_of (value_at key.Rule table) >>= (λ rule.
+    Ok (record { heaps = heaps; workers = workers; connections = connections; seed = seed; rule = rule }))))))
+
 -- the number of entries of an array
 abbrev pub count_of : Items → ℕ
 count_of no_items = 0
 count_of (item entry entries) = suc (count_of entries)
 
+-- what each entry is read as, or what is wrong with the first of them that cannot be read
+abbrev pub each : {A : Type 0} → (Data → Result A Why) → Items → Result (List A) Why
+each read no_items = Ok []
+each read (item entry entries) = read entry >>= (λ first. each read entries >>= (λ others. Ok (first ∷ others)))
+
 -- an entry that is a port
 abbrev pub port_of : Data → Result ℕ Why
-port_of entry = ok_or (as_integer entry) (Kind key.Ports) >>= (λ z. ok_or (within 1 65535 z) (Range key.Ports))
-
--- the entries as ports, or what is wrong with the first of them that is no port
-abbrev pub each_port : Items → Result (List ℕ) Why
-each_port no_items = Ok []
-each_port (item entry entries) = port_of entry >>= (λ port. each_port entries >>= (λ ports. Ok (port ∷ ports)))
+port_of entry = whole_of key.Ports 1 65535 entry
 
 -- the ports, unless two of them are equal
 abbrev pub unless_twice : Option ℕ → List ℕ → Result (List ℕ) Why
@@ -67,30 +93,27 @@ distinct ports = unless_twice (first_twice ports) ports
 -- the ports of 1 to 64 entries, which are different ports
 abbrev pub ports_in : Items → Result (List ℕ) Why
 ports_in entries =
-    if count_of entries == 0 || nat_lt 64 (count_of entries) then Err (PortCount (count_of entries))
-    else each_port entries >>= distinct
+    if count_of entries == 0 || nat_lt 64 (count_of entries) then Err (Count key.Ports (count_of entries))
+    else each port_of entries >>= distinct
 
 -- the ports of an array, which has to be there
 abbrev pub ports_of : Option Data → Result (List ℕ) Why
-ports_of None = Err NoPorts
+ports_of None = Err (Missing key.Ports)
 ports_of (Some value) = ok_or (as_array value) (Kind key.Ports) >>= ports_in
 
--- the values of the keys in turn, in a table with no other key
-abbrev pub values_of : Members → Result Settings Why
-values_of table =
-    ports_of (value_at key.Ports table) >>= (λ ports.
-    number_of key.Heaps 2 16 4 (value_at key.Heaps table) >>= (λ heaps.
-    number_of key.Workers 1 64 4 (value_at key.Workers table) >>= (λ workers.
-    connections_of (value_at key.Connections table) >>= (λ connections.
-    number_of key.Seed 0 9223372036854775807 1 (value_at key.Seed table) >>= (λ seed.
-    rule_of (value_at key.Rule table) >>= (λ rule.
-    Ok (record { ports = ports; heaps = heaps; workers = workers; connections = connections; seed = seed; rule = rule })))))))
+-- there is no unknown key
+abbrev pub unless_unknown : Form → Option (List ℕ) → Result (Unit {0}) Why
+unless_unknown form None = Ok tt
+unless_unknown form (Some name) = Err (Unknown form name)
 
--- the reading, unless there is an unknown key
-abbrev pub unless_unknown : Option (List ℕ) → Result Settings Why → Result Settings Why
-unless_unknown None reading = reading
-unless_unknown (Some name) reading = Err (Unknown name)
+-- the table has keys of its kind alone
+abbrev pub known_keys : Form → Members → Result (Unit {0}) Why
+known_keys form table = unless_unknown form (first_unknown form table)
 
 -- the settings that a table has, or the first rule that it breaks
 abbrev pub settings_of : Members → Result Settings Why
-settings_of table = unless_unknown (first_unknown table) (values_of table)
+settings_of table =
+    known_keys form.Sites table >>= (λ known.
+    ports_of (value_at key.Ports table) >>= (λ ports.
+    common_of table >>= (λ common.
+    Ok (record { ports = ports; heaps = common.heaps; workers = common.workers; connections = common.connections; seed = common.seed; rule = common.rule }))))

@@ -6,9 +6,11 @@ use Rattle.toml.specs.Data.{Members}
 use Rattle.toml.specs.Errors.{IsWithin, span_start}
 use Rattle.toml.specs.Parse.{parse_document}
 use Rattle.zq_settings.specs.Settings.{settings_of}
+use Rattle.zq_settings.specs.Site.{site_settings_of}
 use Rattle.zq_settings.specs.declared.fault.SettingsFault.{SettingsFault}
 use Rattle.zq_settings.specs.declared.fault.SettingsFault.TheVariants.{Refused, NoMemory}
 use Rattle.zq_settings.specs.declared.values.Settings.{Settings}
+use Rattle.zq_settings.specs.declared.values.SiteSettings.{SiteSettings}
 use Rattle.zq_settings.specs.declared.why.Why.{Why}
 use Rattle.zq_settings.specs.declared.why.Why.TheVariants.{Text}
 
@@ -28,16 +30,35 @@ ReadsAll (Err NoMemory) reading = Unit {0}
 abbrev pub line_of : List ℕ → ℕ → ℕ
 line_of text place = count_by (λ byte. byte == 10) (take place text) + 1
 
--- the text writes a table of these settings
-abbrev pub HasSettings : List ℕ → Settings → Type 0
-HasSettings text settings = (table : Members) × (parse_document text ≡ Some table) × (settings_of table ≡ Ok settings)
-
 -- the text is no TOML, with the line of its fault
 abbrev pub IsNoToml : List ℕ → Why → Type 0
 IsNoToml text (Text line error) = (parse_document text ≡ None) × IsWithin text error × (line ≡ line_of text (span_start error))
 IsNoToml text _ = ⊥
 
+-- the same of a fault; want of memory says nothing of the text
+abbrev pub IsNoTable : List ℕ → SettingsFault → Type 0
+IsNoTable text (Refused why) = IsNoToml text why
+IsNoTable text NoMemory = Unit {0}
+
+-- the text writes a table that is read as this
+abbrev pub Writes : {A : Type 0} → (Members → Result A Why) → List ℕ → Result A Why → Type 0
+Writes reading text read = (table : Members) × (parse_document text ≡ Some table) × (reading table ≡ read)
+
 -- the text is no TOML, or it writes a table that breaks this rule first; want of memory says nothing of the text
+abbrev pub IsRefusedBy : {A : Type 0} → (Members → Result A Why) → List ℕ → SettingsFault → Type 0
+IsRefusedBy reading text (Refused why) = IsNoToml text why ⊎ Writes reading text (Err why)
+IsRefusedBy reading text NoMemory = Unit {0}
+
+-- the text writes a table of these settings of several sites, or why it does not
+abbrev pub HasSettings : List ℕ → Settings → Type 0
+HasSettings text settings = Writes settings_of text (Ok settings)
+
 abbrev pub IsRefusal : List ℕ → SettingsFault → Type 0
-IsRefusal text (Refused why) = IsNoToml text why ⊎ ((table : Members) × (parse_document text ≡ Some table) × (settings_of table ≡ Err why))
-IsRefusal text NoMemory = Unit {0}
+IsRefusal text fault = IsRefusedBy settings_of text fault
+
+-- the text writes a table of these settings of one site, or why it does not
+abbrev pub HasSiteSettings : List ℕ → SiteSettings → Type 0
+HasSiteSettings text settings = Writes site_settings_of text (Ok settings)
+
+abbrev pub IsSiteRefusal : List ℕ → SettingsFault → Type 0
+IsSiteRefusal text fault = IsRefusedBy site_settings_of text fault

@@ -2,13 +2,14 @@
 
 ghost use Rattle.std.specs.Prelude.{◌≡◌, length, vec_len, IfOk};
 ghost use Rattle.toml.specs.View.{items_view, table_view, view};
-ghost use Rattle.zq_settings.specs.Settings.{each_port as ports_in_turn, port_of as port_in, ports_in, ports_of as ports_at};
+ghost use Rattle.zq_settings.specs.Settings.{each, port_of as port_in, ports_in, ports_of as ports_at};
 ghost use Rattle.zq_settings.specs.Tables.{value_at as value_in};
 ghost use Rattle.zq_settings.specs.Texts.{Reads, ReadsAll};
 
 use crate::fault::SettingsFault;
 use crate::key::Key;
 use crate::lookup::value_at;
+use crate::number::whole_of;
 use crate::ports::{MOST_PORTS, Port, Ports, find_twice};
 use crate::why::Why;
 use std::alloc::{AllocError, Global};
@@ -19,7 +20,7 @@ pub fn read_ports(alloc: Global, table: &Table) -> Result<Ports, SettingsFault>
     ensures { Reads result (ports_at (value_in Key.Ports (table_view table.now))) }
 {
     let Some(value) = value_at(table, Key::Ports) else {
-        return Err(Why::NoPorts.into());
+        return Err(Why::Missing(Key::Ports).into());
     };
     match value.as_array() {
         Some(entries) => ports_of(alloc, entries.as_slice()),
@@ -33,7 +34,7 @@ fn ports_of(alloc: Global, entries: &[Value]) -> Result<Ports, SettingsFault>
     ensures { Reads result (ports_in (items_view entries.now)) }
 {
     if entries.is_empty() || MOST_PORTS < entries.len() {
-        return Err(Why::PortCount(entries.len()).into());
+        return Err(Why::Count(Key::Ports, entries.len()).into());
     }
     let ports = each_port(alloc, entries)?;
     match find_twice(&ports) {
@@ -44,7 +45,7 @@ fn ports_of(alloc: Global, entries: &[Value]) -> Result<Ports, SettingsFault>
 
 /// The entries as ports, unless one of them is none.
 fn each_port(alloc: Global, entries: &[Value]) -> Result<Vec<Port>, SettingsFault>
-    ensures ports { ReadsAll result (ports_in_turn (items_view entries.now)) }
+    ensures ports { ReadsAll result (each port_in (items_view entries.now)) }
     ensures len { IfOk result (λ ports. vec_len ports ≡ length entries.now) }
 {
     let mut ports = Vec::with_capacity(alloc, entries.len())?;
@@ -57,8 +58,5 @@ fn each_port(alloc: Global, entries: &[Value]) -> Result<Vec<Port>, SettingsFaul
 fn port_of(entry: &Value) -> Result<Port, Why>
     ensures { result ≡ port_in (view entry.now) }
 {
-    match entry.as_integer() {
-        Some(number) => Port::new(number).ok_or(Why::Range(Key::Ports)),
-        None => Err(Why::Kind(Key::Ports)),
-    }
+    whole_of(entry, Key::Ports)
 }

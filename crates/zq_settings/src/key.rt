@@ -1,7 +1,7 @@
 //! The keys of settings.
 
 ghost use Rattle.std.specs.Prelude.{◌≡◌};
-ghost use Rattle.zq_settings.specs.Keys.{is_known, name_of};
+ghost use Rattle.zq_settings.specs.Keys.{name_of};
 
 /// A key that settings may have.
 #[derive(Clone, Copy, Debug, PartialEq, Eq)]
@@ -18,6 +18,22 @@ pub enum Key {
     Seed,
     /// Which of a member's values is its score.
     Rule,
+    /// The number of the one site.
+    Site,
+    /// The port of its clients.
+    Port,
+    /// The address at which that port is.
+    Bind,
+    /// What it shares with its peers alone.
+    Secret,
+    /// Where it listens for its peers.
+    Listen,
+    /// Its peers.
+    Peers,
+    /// The number of a peer.
+    PeerSite,
+    /// Where a peer listens.
+    PeerAddress,
 }
 
 impl Key {
@@ -32,6 +48,21 @@ impl Key {
             Key::Connections => "connections",
             Key::Seed => "seed",
             Key::Rule => "rule",
+            Key::Site | Key::PeerSite => "site",
+            Key::Port => "port",
+            Key::Bind => "bind",
+            Key::Secret => "secret",
+            Key::Listen => "listen",
+            Key::Peers => "peers",
+            Key::PeerAddress => "address",
+        }
+    }
+
+    /// Whose key it is, before its name.
+    pub(crate) fn owner(self) -> &'static str {
+        match self {
+            Key::PeerSite | Key::PeerAddress => "a peer's ",
+            _ => "",
         }
     }
 
@@ -44,16 +75,14 @@ impl Key {
             Key::Connections => "a whole number from 0 to 1000000",
             Key::Seed => "a whole number from 0 to 9223372036854775807",
             Key::Rule => "\"HIGH\" or \"LOW\"",
+            Key::Site | Key::PeerSite => "a whole number from 0 to 63",
+            Key::Port => "a whole number from 1 to 65535",
+            Key::Bind => "an IP address, as \"127.0.0.1\"",
+            Key::Secret => "a text of at least 16 bytes",
+            Key::Listen | Key::PeerAddress => {
+                "an IP address with a port from 1 to 65535, as \"127.0.0.1:7101\""
+            }
+            Key::Peers => "an array of at most 63 tables of other sites",
         }
     }
-}
-
-/// Whether a key of this name is one of them.
-pub(crate) fn is_key(name: &str) -> bool
-    ensures { result ≡ is_known name.now }
-{
-    matches!(
-        name,
-        "ports" | "heaps" | "workers" | "connections" | "seed" | "rule"
-    )
 }

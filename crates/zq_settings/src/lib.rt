@@ -1,28 +1,40 @@
-//! The settings of a server of sites, read from a TOML text: its values, or the first reason for which the text has
-//! none, in words that its author can act on.
+//! The settings of a server of sites, and those of one site, read from a TOML text: its values, or the first reason for
+//! which the text has none, in words that its author can act on.
 #![tactic(auto)]
 
+mod address;
+mod common;
 mod entries;
 mod fault;
+mod form;
 mod key;
 pub mod laws;
 mod lookup;
 mod name;
 mod number;
+mod peer;
+mod peering;
+mod peers;
 mod ports;
 mod read;
+mod secret;
 mod table;
 #[cfg(test)]
 mod tests;
+mod unknown;
 mod values;
 mod why;
 mod within;
 
 pub use fault::SettingsFault;
+pub use form::Form;
 pub use key::Key;
 pub use name::Name;
+pub use peer::Peer;
+pub use peers::{MOST_PEERS, Peers};
 pub use ports::{MOST_PORTS, Port, Ports};
-pub use read::settings;
-pub use values::{ConnectionCount, HeapCount, Seed, Settings, WorkerCount};
+pub use read::{settings, site_settings};
+pub use secret::{LEAST_SECRET, Secret};
+pub use values::{ConnectionCount, HeapCount, Seed, Settings, SiteSettings, WorkerCount};
 pub use why::Why;
 pub use within::Within;

@@ -3,11 +3,11 @@
 ghost use Rattle.std.specs.Prelude.{◌≡◌, ◌+◌, ◌≤◌, ◌==◌, count_by, take, length, IfOk, IfErr};
 ghost use Rattle.toml.specs.Errors.{IsMemory, IsWithin};
 ghost use Rattle.toml.specs.Parse.{parse_document};
-ghost use Rattle.zq_settings.specs.Texts.{HasSettings, IsRefusal, line_of};
+ghost use Rattle.zq_settings.specs.Texts.{HasSettings, HasSiteSettings, IsNoTable, IsRefusal, IsSiteRefusal, line_of};
 
 use crate::fault::SettingsFault;
-use crate::table::read_table;
-use crate::values::Settings;
+use crate::table::{read_site_table, read_table};
+use crate::values::{Settings, SiteSettings};
 use crate::why::Why;
 use std::alloc::Global;
 use toml::de;
@@ -27,7 +27,7 @@ use toml::de;
 ///
 /// `Refused` with the first rule that the text breaks, and never where it breaks none. `NoMemory` where there was no
 /// memory to read the text.
-#[tactic(auto, using(crate::proofs::Told::given_since, crate::proofs::Told::refused_since))]
+#[tactic(auto, using(crate::proofs::Told::given_since, crate::proofs::Told::refused_since, crate::proofs::Told::no_table_since))]
 pub fn settings(alloc: Global, text: &str) -> Result<Settings, SettingsFault>
     ensures given { IfOk result (HasSettings text.now) }
     ensures refused { IfErr result (IsRefusal text.now) }
@@ -38,11 +38,41 @@ pub fn settings(alloc: Global, text: &str) -> Result<Settings, SettingsFault>
     }
 }
 
+/// The settings of one site that the TOML text writes. The keys `site`, `port` and `listen` have to be there.
+///
+/// | key | value | if missing |
+/// |---|---|---|
+/// | `site` | its number, 0 to 63 | refused |
+/// | `port` | the port of its clients, 1 to 65535 | refused |
+/// | `bind` | the IP address at which that port is, as `"127.0.0.1"` | 127.0.0.1 |
+/// | `secret` | what it shares with its peers, a text of at least 16 bytes | there is none |
+/// | `listen` | where it listens for its peers: an IP address with a port that is not 0, as `"127.0.0.1:7101"` | refused |
+/// | `peers` | an array of at most 63 tables, each with the keys `site` and `address` and no other: the number of another site, and where it listens | there are none |
+/// | `heaps`, `workers`, `connections`, `seed`, `rule` | as of [`settings`] | as of [`settings`] |
+///
+/// No two peers have the same number. Where there is no `secret`, `listen` and each peer's `address` are loopback
+/// addresses.
+///
+/// # Errors
+///
+/// `Refused` with the first rule that the text breaks, and never where it breaks none. `NoMemory` where there was no
+/// memory to read the text.
+#[tactic(auto, using(crate::proofs::Told::site_given_since, crate::proofs::Told::site_refused_since, crate::proofs::Told::no_site_table_since))]
+pub fn site_settings(alloc: Global, text: &str) -> Result<SiteSettings, SettingsFault>
+    ensures given { IfOk result (HasSiteSettings text.now) }
+    ensures refused { IfErr result (IsSiteRefusal text.now) }
+{
+    match toml::table_from_str(alloc, text) {
+        Ok(table) => read_site_table(alloc, &table),
+        Err(error) => Err(text_fault(text, error)),
+    }
+}
+
 /// What a text that TOML does not take is refused for.
 fn text_fault(text: &str, error: de::Error) -> SettingsFault
     requires within { IsWithin text.now error }
     requires refused { ¬ IsMemory error → parse_document text.now ≡ None }
-    ensures { IsRefusal text.now result }
+    ensures { IsNoTable text.now result }
 {
     match error.span() {
         Some(span) => {

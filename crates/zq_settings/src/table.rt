@@ -1,70 +1,73 @@
 //! Settings from a table.
 
-ghost use Rattle.std.specs.BTreeMap.{keys};
-ghost use Rattle.std.specs.Prelude.{◌≡◌, find, not, option_copied, string_bytes};
+ghost use Rattle.std.specs.Prelude.{◌≡◌};
 ghost use Rattle.toml.specs.View.{table_view};
-ghost use Rattle.zq_settings.specs.Settings.{rule_of, settings_of, values_of};
-ghost use Rattle.zq_settings.specs.Keys.{is_known};
-ghost use Rattle.zq_settings.specs.Tables.{value_at as value_in};
+ghost use Rattle.zq_settings.specs.Settings.{settings_of};
+ghost use Rattle.zq_settings.specs.Site.{site_settings_of, site_values_of};
 ghost use Rattle.zq_settings.specs.Texts.{Reads};
 
+use crate::address::{read_address, read_bind};
+use crate::common::read_common;
 use crate::entries::read_ports;
 use crate::fault::SettingsFault;
-use crate::key::{Key, is_key};
-use crate::lookup::value_at;
-use crate::name::Name;
-use crate::number::{read_connections, read_number};
-use crate::values::Settings;
-use crate::why::Why;
-use crate::within::Within;
+use crate::form::Form;
+use crate::key::Key;
+use crate::number::{read_required, read_site};
+use crate::peering::read_peers;
+use crate::secret::read_secret;
+use crate::unknown::refuse_unknown;
+use crate::values::{Settings, SiteSettings};
 use std::alloc::Global;
 use toml::Table;
-use zq_dots::Rule;
 
-/// The settings of the table, or the first rule that it breaks.
-#[tactic(auto, using(crate::proofs::Seen::unknown_seen))]
+/// The settings of several sites that the table has, or the first rule that it breaks.
 pub fn read_table(alloc: Global, table: &Table) -> Result<Settings, SettingsFault>
     ensures { Reads result (settings_of (table_view table.now)) }
 {
-    if let Some(name) = find_unknown(table) {
-        let name = Name::copy(alloc, name.as_str())?;
-        return Err(SettingsFault::Refused(Why::Unknown(name)));
-    }
-    read_values(alloc, table)
-}
-
-/// The values of the keys in their order, in a table that has no other key.
-fn read_values(alloc: Global, table: &Table) -> Result<Settings, SettingsFault>
-    ensures { Reads result (values_of (table_view table.now)) }
-{
+    refuse_unknown(alloc, table, Form::Sites)?;
+    let ports = read_ports(alloc, table)?;
+    let common = read_common(table)?;
     Ok(Settings {
-        ports: read_ports(alloc, table)?,
-        heaps: read_number(table, Key::Heaps, Within::of(4))?,
-        workers: read_number(table, Key::Workers, Within::of(4))?,
-        connections: read_connections(table)?,
-        seed: read_number(table, Key::Seed, Within::of(1))?,
-        rule: read_rule(table)?,
+        ports,
+        heaps: common.heaps,
+        workers: common.workers,
+        connections: common.connections,
+        seed: common.seed,
+        rule: common.rule,
     })
 }
 
-/// The least key of the table that settings do not have.
-fn find_unknown(table: &Table) -> Option<&String>
-    ensures { option_copied result ≡ find (λ name. not (is_known (string_bytes name))) (keys table.now) }
+/// The settings of one site that the table has, or the first rule that it breaks.
+pub fn read_site_table(alloc: Global, table: &Table) -> Result<SiteSettings, SettingsFault>
+    ensures { Reads result (site_settings_of (table_view table.now)) }
 {
-    table.keys().find(|name| !is_key(name.as_str()))
+    refuse_unknown(alloc, table, Form::Site)?;
+    read_site_values(alloc, table)
 }
 
-/// The rule of scores: `"HIGH"` or `"LOW"`, and High where the table does not have the key.
-fn read_rule(table: &Table) -> Result<Rule, Why>
-    ensures { result ≡ rule_of (value_in Key.Rule (table_view table.now)) }
+/// The values of the keys of one site in their order, in a table that has no other key.
+fn read_site_values(alloc: Global, table: &Table) -> Result<SiteSettings, SettingsFault>
+    ensures { Reads result (site_values_of (table_view table.now)) }
 {
-    let Some(value) = value_at(table, Key::Rule) else {
-        return Ok(Rule::High);
-    };
-    match value.as_str() {
-        Some("HIGH") => Ok(Rule::High),
-        Some("LOW") => Ok(Rule::Low),
-        Some(_) => Err(Why::Range(Key::Rule)),
-        None => Err(Why::Kind(Key::Rule)),
-    }
+    let site = read_site(table, Key::Site)?;
+    let port = read_required(table, Key::Port)?;
+    let bind = read_bind(table)?;
+    let secret = read_secret(alloc, table)?;
+    let secured = secret.is_some();
+    let listen = read_address(table, Key::Listen, secured)?;
+    let peers = read_peers(alloc, table, site, secured)?;
+    let common = read_common(table)?;
+    Ok(SiteSettings {
+        site,
+        port,
+        bind,
+        listen,
+        peers,
+        heaps: common.heaps,
+        rule: common.rule,
+        workers: common.workers,
+        connections: common.connections,
+        seed: common.seed,
+        secret,
+    })
 }

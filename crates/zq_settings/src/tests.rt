@@ -2,3 +2,5 @@
 
 mod given;
 mod refused;
+mod site_given;
+mod site_refused;

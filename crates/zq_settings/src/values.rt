@@ -1,8 +1,11 @@
 //! The values of settings.
 
-use crate::ports::Ports;
+use crate::peers::Peers;
+use crate::ports::{Port, Ports};
+use crate::secret::Secret;
 use crate::within::Within;
-use zq_dots::Rule;
+use std::net::{IpAddr, SocketAddr};
+use zq_dots::{Rule, SiteNo};
 
 /// A number of heaps, 2 to 16.
 pub type HeapCount = Within<2, 16>;
@@ -31,4 +34,41 @@ pub struct Settings {
     pub seed: Seed,
     /// Which of a member's values is its score.
     pub rule: Rule,
+}
+
+/// The settings of one site in a process of its own.
+#[derive(Debug, Drop)]
+pub struct SiteSettings {
+    /// Its number.
+    pub site: SiteNo,
+    /// The port of its clients.
+    pub port: Port,
+    /// The address at which that port is.
+    pub bind: IpAddr,
+    /// Where it listens for its peers: a loopback address where there is no secret. The port is not 0.
+    pub listen: SocketAddr,
+    /// Its peers, none of which has its number. Their addresses are as its own is.
+    pub peers: Peers,
+    /// Its number of heaps.
+    pub heaps: HeapCount,
+    /// Which of a member's values is its score.
+    pub rule: Rule,
+    /// How many connections are served at once.
+    pub workers: WorkerCount,
+    /// How many connections its port accepts before the site ends. With `None` it does not end.
+    pub connections: Option<ConnectionCount>,
+    /// What each worker's draws are made with.
+    pub seed: Seed,
+    /// What it shares with its peers, to know them by. With `None` whoever comes is believed.
+    pub secret: Option<Secret>,
+}
+
+/// What both kinds of settings have.
+#[derive(Debug, Drop)]
+pub(crate) struct Common {
+    pub(crate) heaps: HeapCount,
+    pub(crate) workers: WorkerCount,
+    pub(crate) connections: Option<ConnectionCount>,
+    pub(crate) seed: Seed,
+    pub(crate) rule: Rule,
 }

@@ -1,13 +1,18 @@
 //! Why a text of settings is refused.
 
+use crate::form::Form;
 use crate::key::Key;
 use crate::name::Name;
 use crate::ports::Port;
 use std::fmt;
 use toml::de;
+use zq_dots::SiteNo;
 
 /// The first rule that a text of settings breaks. First comes that it is TOML, then that it has no other keys, and
-/// then the rules of `ports`, `heaps`, `workers`, `connections`, `seed` and `rule`, in this order.
+/// then the rules of its keys. Of several sites these are `ports`, `heaps`, `workers`, `connections`, `seed` and `rule`,
+/// in this order. Of one site they are `site`, `port`, `bind`, `secret`, `listen`, `peers`, and then `heaps` and the
+/// others. The entries of `peers` come one by one: that it is a table, that it has no other keys, then the rules of its
+/// `site` and of its `address`.
 #[derive(Debug, Drop)]
 pub enum Why {
     /// The text is not TOML.
@@ -17,20 +22,26 @@ pub enum Why {
         /// What TOML does not take.
         error: de::Error,
     },
-    /// A key that settings do not have: of several the least, by the bytes of their names.
-    Unknown(Name),
-    /// There is no key `ports`.
-    NoPorts,
-    /// `ports` has this number of entries, which is not 1 to 64.
-    PortCount(usize),
-    /// The key has a value of another kind. For `ports` the value may be an array: then its first entry that is no
-    /// port is no whole number.
+    /// A key that a table of this kind does not have: of several the least, by the bytes of their names.
+    Unknown(Form, Name),
+    /// There is no such key.
+    Missing(Key),
+    /// The array at the key has this number of entries, which is too few or too many.
+    Count(Key, usize),
+    /// The key has a value of another kind. For `ports` and `peers` the value may be an array: then its first entry
+    /// that is no port is no whole number, and its first entry that is no peer is no table.
     Kind(Key),
     /// The key has a value of its kind that it does not take. For `ports` the first entry that is no port is a whole
     /// number out of range.
     Range(Key),
     /// Two sites have this port: of several such ports the one that stands first.
     Twice(Port),
+    /// Two peers have this number: of several such numbers the one that stands first.
+    PeerTwice(SiteNo),
+    /// A peer has this number, which is the site's own.
+    OwnPeer(SiteNo),
+    /// The address at the key is no loopback address, and there is no secret.
+    Exposed(Key),
 }
 
 impl fmt::Display for Why {
@@ -41,23 +52,32 @@ impl fmt::Display for Why {
                 let message = error.message();
                 write!(f, "line {line} is not TOML: {message}")
             }
-            Why::Unknown(name) => {
+            Why::Unknown(form, name) => {
                 let name = name.as_str();
-                write!(f, "{name:?} is not a key of settings, which are ")?;
-                f.write_str("ports, heaps, workers, connections, seed and rule")
+                let keys = form.keys();
+                write!(f, "{name:?} is not a key of {keys}")
             }
-            Why::NoPorts => write_fault(f, Key::Ports, "is missing"),
-            Why::PortCount(count) => write_fault(
-                f,
-                Key::Ports,
-                format_args!("has {count} entries"),
-            ),
+            Why::Missing(key) => write_fault(f, *key, "is missing"),
+            Why::Count(key, count) => write_fault(f, *key, format_args!("has {count} entries")),
             Why::Kind(key) => write_fault(f, *key, "has a value of another kind"),
             Why::Range(key) => write_fault(f, *key, "has a value out of range"),
             Why::Twice(port) => {
                 let port = port.value();
                 write_fault(f, Key::Ports, format_args!("has {port} twice"))
             }
+            Why::PeerTwice(site) => {
+                let site = site.value();
+                write_fault(f, Key::Peers, format_args!("has site {site} twice"))
+            }
+            Why::OwnPeer(site) => {
+                let site = site.value();
+                write_fault(
+                    f,
+                    Key::Peers,
+                    format_args!("has the site's own number {site}"),
+                )
+            }
+            Why::Exposed(key) => write_exposed(f, *key),
         }
     }
 }
@@ -68,7 +88,18 @@ fn write_fault<W: fmt::Write>(
     key: Key,
     fault: impl fmt::Display + Drop,
 ) -> fmt::Result {
+    let owner = key.owner();
     let name = key.name();
     let takes = key.takes();
-    write!(f, "{name} {fault}: it takes {takes}")
+    write!(f, "{owner}{name} {fault}: it takes {takes}")
+}
+
+/// That the key's address is open to others, and what belongs there.
+fn write_exposed<W: fmt::Write>(f: &mut fmt::Formatter<W>, key: Key) -> fmt::Result {
+    let owner = key.owner();
+    let name = key.name();
+    write!(
+        f,
+        "{owner}{name} is no loopback address: without a secret of at least 16 bytes it takes one"
+    )
 }

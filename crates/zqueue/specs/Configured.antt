@@ -2,11 +2,24 @@
 
 use Rattle.std.specs.Prelude.{List, ℕ}
 use Rattle.std.specs.Str.{IsUtf8}
-use Rattle.zq_settings.specs.Texts.{IsRefusal}
+use Rattle.zq_settings.specs.Texts.{IsRefusal, IsSiteRefusal}
+use Rattle.zq_settings.specs.declared.fault.SettingsFault.TheVariants.{NoMemory}
 use Rattle.zqueue.specs.declared.configured.Unsettled.TheVariants.{Fault, NotText}
 use Rattle.zqueue.specs.declared.configured.Unsettled.{Unsettled}
+use Rattle.zqueue.specs.declared.refusal.Refusal.TheVariants.{Memory, Settings}
+use Rattle.zqueue.specs.declared.refusal.Refusal.{Refusal}
 
--- they are no UTF-8, or the text that they are breaks this rule first
+-- they are no UTF-8, or the text that they are breaks this rule first: of the settings of several sites
 abbrev pub IsUnsettled : List ℕ → Unsettled → Type 0
 IsUnsettled bytes NotText = IsUtf8 bytes → ⊥
 IsUnsettled bytes (Fault fault) = IsRefusal bytes fault
+
+-- and of the settings of one site
+abbrev pub IsSiteUnsettled : List ℕ → Unsettled → Type 0
+IsSiteUnsettled bytes NotText = IsUtf8 bytes → ⊥
+IsSiteUnsettled bytes (Fault fault) = IsSiteRefusal bytes fault
+
+-- what the program says then
+abbrev pub refusal_of : Unsettled → Refusal
+refusal_of (Fault NoMemory) = Memory
+refusal_of _ = Settings

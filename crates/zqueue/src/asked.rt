@@ -17,6 +17,8 @@ pub enum Command {
     Pipe,
     /// To serve the sites of the settings file of this name.
     Serve(String),
+    /// To serve the one site of the settings file of this name.
+    Site(String),
     /// To drill three sites by a seed, each called so many times.
     Drill { seed: u64, rounds: u32 },
 }
@@ -56,6 +58,10 @@ fn named(alloc: Global, name: &str, rest: &[String]) -> Result<Option<Command>, 
         ("serve", [path]) => {
             let path = String::from_str(alloc, path.as_str())?;
             Ok(Some(Command::Serve(path)))
+        }
+        ("site", [path]) => {
+            let path = String::from_str(alloc, path.as_str())?;
+            Ok(Some(Command::Site(path)))
         }
         ("drill", [seed, rounds]) => Ok(drill_of(seed.as_str(), rounds.as_str())),
         _ => Ok(None),

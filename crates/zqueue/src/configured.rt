@@ -1,12 +1,12 @@
 //! Settings from the bytes of a file.
 
 ghost use Rattle.std.specs.Prelude.{IfErr, IfOk};
-ghost use Rattle.zq_settings.specs.Texts.{HasSettings};
-ghost use Rattle.zqueue.specs.Configured.{IsUnsettled};
+ghost use Rattle.zq_settings.specs.Texts.{HasSettings, HasSiteSettings};
+ghost use Rattle.zqueue.specs.Configured.{IsSiteUnsettled, IsUnsettled};
 
 use std::alloc::Global;
 use std::{fmt, str};
-use zq_settings::{Settings, SettingsFault, settings};
+use zq_settings::{Settings, SettingsFault, SiteSettings, settings, site_settings};
 
 /// Why bytes give no settings.
 #[derive(Debug, Drop)]
@@ -26,13 +26,27 @@ impl fmt::Display for Unsettled {
     }
 }
 
-/// The settings that the bytes write, or the first reason for which they write none.
+/// The settings of several sites that the bytes write, or the first reason for which they write none.
 pub fn configured(alloc: Global, bytes: &[u8]) -> Result<Settings, Unsettled>
     ensures given { IfOk result (HasSettings bytes.now) }
     ensures refused { IfErr result (IsUnsettled bytes.now) }
 {
     match str::from_utf8(bytes) {
         Ok(text) => match settings(alloc, text) {
+            Ok(settings) => Ok(settings),
+            Err(fault) => Err(Unsettled::Fault(fault)),
+        },
+        Err(_) => Err(Unsettled::NotText),
+    }
+}
+
+/// The settings of one site that the bytes write, or the first reason for which they write none.
+pub fn site_configured(alloc: Global, bytes: &[u8]) -> Result<SiteSettings, Unsettled>
+    ensures given { IfOk result (HasSiteSettings bytes.now) }
+    ensures refused { IfErr result (IsSiteUnsettled bytes.now) }
+{
+    match str::from_utf8(bytes) {
+        Ok(text) => match site_settings(alloc, text) {
             Ok(settings) => Ok(settings),
             Err(fault) => Err(Unsettled::Fault(fault)),
         },

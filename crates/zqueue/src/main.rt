@@ -8,6 +8,7 @@ mod number;
 mod piping;
 mod refusal;
 mod serving;
+mod settling;
 #[cfg(test)]
 mod tests;
 
@@ -15,7 +16,7 @@ use asked::{Command, asked};
 use drilling::drill_out;
 use piping::pipe;
 use refusal::{DEVICE, Refusal, refuse};
-use serving::serve_file;
+use serving::{serve_file, serve_site_file};
 use std::alloc::AllocError;
 use std::io;
 use std::process::ExitCode;
@@ -24,6 +25,7 @@ use std::process::ExitCode;
 const HELP: &str = "zqueue has these commands:
   zqueue pipe         reads requests on standard input and writes their replies on standard output
   zqueue serve FILE   serves the sites of a settings file, each on a port of its own on loopback
+  zqueue site FILE    serves the one site of a settings file, and links it to its peers in other processes
   zqueue drill SEED ROUNDS
                       drills three sites over links that fail, and writes whether they end equal
 README.md says what each of them does, and docs/COMMANDS.md what clients can send.";
@@ -32,6 +34,10 @@ fn main(rt: HostRuntime) -> ExitCode {
     let code = match asked(&rt) {
         Ok(Some(Command::Pipe)) => pipe(&rt, rt.alloc(), &mut rt.reader(), &mut io::writer(&rt)),
         Ok(Some(Command::Serve(path))) => match serve_file(&rt, rt.alloc(), path.as_str()) {
+            Ok(()) => 0,
+            Err(refusal) => refuse(refusal, &mut io::writer(&rt)),
+        },
+        Ok(Some(Command::Site(path))) => match serve_site_file(&rt, rt.alloc(), path.as_str()) {
             Ok(()) => 0,
             Err(refusal) => refuse(refusal, &mut io::writer(&rt)),
         },

@@ -1,7 +1,7 @@
 //! What command lines and settings come to.
 
 use crate::asked::{Command, asked};
-use crate::configured::{Unsettled, configured};
+use crate::configured::{Unsettled, configured, site_configured};
 use crate::drilling::drill_out;
 use crate::piping::pipe;
 use crate::refusal::{Refusal, refuse};
@@ -50,13 +50,14 @@ fn words_of(command: &Option<Command>) -> (&str, &str) {
         None => ("none", ""),
         Some(Command::Pipe) => ("pipe", ""),
         Some(Command::Serve(path)) => ("serve", path.as_str()),
+        Some(Command::Site(path)) => ("site", path.as_str()),
         Some(Command::Drill { .. }) => ("drill", ""),
     }
 }
 
 #[test]
 fn a_command_has_its_words_and_no_others(rt: HostRuntime) -> Result<(), Fail> {
-    let rows: [(&[&[u8]], (&str, &str)); 9] = [
+    let rows: [(&[&[u8]], (&str, &str)); 13] = [
         (&[b"zqueue", b"pipe"], ("pipe", "")),
         (&[b"zqueue"], ("none", "")),
         (&[b"zqueue", b"PIPE"], ("none", "")),
@@ -66,6 +67,10 @@ fn a_command_has_its_words_and_no_others(rt: HostRuntime) -> Result<(), Fail> {
         (&[b"zqueue", b"serve"], ("none", "")),
         (&[b"zqueue", b"serve", b"a", b"b"], ("none", "")),
         (&[b"zqueue", b"two.toml", b"serve"], ("none", "")),
+        (&[b"zqueue", b"site", b"three.toml"], ("site", "three.toml")),
+        (&[b"zqueue", b"site"], ("none", "")),
+        (&[b"zqueue", b"site", b"a", b"b"], ("none", "")),
+        (&[b"zqueue", b"sites", b"three.toml"], ("none", "")),
     ];
     for (words, named) in rows {
         let command = asked(&(Line { words }, rt.alloc()))?;
@@ -124,24 +129,33 @@ fn each_refusal_has_its_line_and_status(rt: HostRuntime) {
 }
 
 /// How the bytes of a settings file are read.
-fn reading(settings: Result<zq_settings::Settings, Unsettled>) -> &'static str {
+fn reading<S: Drop>(settings: Result<S, Unsettled>) -> &'static str {
     match settings {
         Ok(_) => "settings",
         Err(Unsettled::NotText) => "no text",
-        Err(Unsettled::Fault(SettingsFault::Refused(Why::NoPorts))) => "no ports",
+        Err(Unsettled::Fault(SettingsFault::Refused(Why::Missing(_)))) => "no such key",
+        Err(Unsettled::Fault(SettingsFault::Refused(Why::Unknown(..)))) => "another key",
         Err(Unsettled::Fault(_)) => "a fault",
     }
 }
 
 #[test]
 fn bytes_are_settings_or_are_refused(rt: HostRuntime) {
-    let rows: [(&[u8], &str); 3] = [
-        (b"ports = [7001]", "settings"),
-        (b"heaps = 2", "no ports"),
-        (b"ports = [7001] # \xff", "no text"),
+    // The bytes, and how they are read as the settings of several sites and as those of one.
+    let rows: [(&[u8], &str, &str); 5] = [
+        (b"ports = [7001]", "settings", "another key"),
+        (
+            b"site = 0\nport = 7001\nlisten = '127.0.0.1:7101'",
+            "another key",
+            "settings",
+        ),
+        (b"heaps = 2", "no such key", "no such key"),
+        (b"ports = [7001] # \xff", "no text", "no text"),
+        (b"heaps", "a fault", "a fault"),
     ];
-    for (bytes, says) in rows {
-        assert_eq!(rt; reading(configured(rt.alloc(), bytes)), says);
+    for (bytes, of_sites, of_site) in rows {
+        assert_eq!(rt; reading(configured(rt.alloc(), bytes)), of_sites);
+        assert_eq!(rt; reading(site_configured(rt.alloc(), bytes)), of_site);
     }
 }
 

@@ -11,5 +11,5 @@ loop-preserved-in-Tick g c =
 pub loop-preserved : goal.loop-preserved
 loop-preserved g c =
     let is = c.loop.invariant in
-    let heard = subst (λ bytes. Hears g.C.Carry.carries bytes c.loop.node c.hear.new.node c.loop.carrier c.hear.new.carrier c.hear.result) c.deref-in-Frame.ensures.value c.hear.ensures.heard in
-    (c.hear.ensures.node, c.hear.ensures.home ∙ is.1, (Took c.in-Frame.bytes.items c.hear.result ∷ is.2.0, (c.loop.node, c.loop.carrier, is.2.1, heard)))
+    let heard = subst (λ bytes. Hears g.C.Carry.carries bytes c.loop.node c.hear-heard.new.node c.loop.carrier c.hear-heard.new.carrier c.hear-heard.result) c.deref-in-Frame.ensures.value c.hear-heard.ensures.heard in
+    (c.hear-heard.ensures.node, c.hear-heard.ensures.home ∙ is.1, (Took c.in-Frame.bytes.items c.hear-heard.result ∷ is.2.0, (c.loop.node, c.loop.carrier, is.2.1, heard)))

@@ -1,6 +1,6 @@
 use Rattle.std.proofs.Common.{arith, sym, ◌∙◌, ◌+◌}
 use Rattle.zq_peers.proofs.Made.{made_rule}
-use Rattle.zq_serve.proofs.opening.station.Goals as goal
+use Rattle.zq_serve.proofs.opening.open_station.Goals as goal
 
 pub invariant_of-station : goal.invariant_of-station
 invariant_of-station g c =
@@ -10,5 +10,5 @@ invariant_of-station g c =
     record {
       number_is = sym is.number_is;
       heaps_are = sym (is.heaps ∙ found.1.number);
-      rule_is = sym (made_rule c.value-heaps.result (c.value.result + 1) c.args.number c.args.settings.now.rule found.0 site c.in-Ok.made.1.items (omega (arith, c.value-heaps.ensures.within)) found.1 is);
+      rule_is = sym (made_rule c.value-heaps.result (c.value.result + 1) c.args.plan.now.number c.args.plan.now.rule found.0 site c.in-Ok.made.1.items (omega (arith, c.value-heaps.ensures.within)) found.1 is);
     }

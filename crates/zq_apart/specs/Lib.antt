@@ -1,0 +1,2 @@
+pub mod Pause
+pub mod Wire

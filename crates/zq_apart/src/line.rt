@@ -1,0 +1,110 @@
+//! The link to a peer, which threads share.
+
+use crate::wire::{Up, Wire};
+use std::alloc::{AllocError, Global};
+use std::net::{Shutdown, TcpStream};
+use std::sync::{Arc, Condvar, Mutex, Wait};
+use zq_outbox::Topic;
+use zq_settings::Peer;
+
+/// The link to a peer, and what waits for it.
+#[derive(Drop)]
+pub struct Line {
+    peer: Peer,
+    wire: Mutex<Wire<Arc<TcpStream>>>,
+    changed: Condvar,
+}
+
+/// A frame that goes over a link.
+#[derive(Drop)]
+pub struct Turn {
+    /// The link's number.
+    pub number: u64,
+    /// Its stream.
+    pub stream: Arc<TcpStream>,
+    /// The frame.
+    pub frame: Vec<u8>,
+}
+
+impl Line {
+    /// No link to this peer, of a site of so many heaps.
+    pub fn new(alloc: Global, peer: Peer, heaps: u8) -> Result<Line, AllocError> {
+        Ok(Line {
+            peer,
+            wire: Mutex::new(Wire::new(alloc, heaps)?),
+            changed: Condvar::new(),
+        })
+    }
+
+    /// The peer.
+    pub fn peer(&self) -> Peer {
+        self.peer
+    }
+
+    /// The frame waits for the link, in the place of an older one of its topic; where there is no link it is dropped.
+    pub fn put<R: Wait>(&self, rt: &R, topic: Topic, frame: Vec<u8>) {
+        self.wire.lock(rt).put(topic, frame);
+        self.changed.notify_all();
+    }
+
+    /// A link is up over this stream, in the place of an older one, whose stream is shut down: its number. Where the site
+    /// ends there is none.
+    pub fn raise<R: Wait>(&self, rt: &R, stream: Arc<TcpStream>) -> Option<u64> {
+        let (number, older) = self.wire.lock(rt).raise(stream)?;
+        shut(older);
+        self.changed.notify_all();
+        Some(number)
+    }
+
+    /// The link of this number is down, and its stream is shut down. It says whether that link was up.
+    pub fn lower<R: Wait>(&self, rt: &R, number: u64) -> bool {
+        let stream = self.wire.lock(rt).lower(number);
+        shut(stream)
+    }
+
+    /// The site ends: the link is down for good, and who waits is woken.
+    pub fn halt<R: Wait>(&self, rt: &R) {
+        let stream = self.wire.lock(rt).halt();
+        shut(stream);
+        self.changed.notify_all();
+    }
+
+    /// Waits for a frame that can be sent, and takes it. Where the site ends there is none.
+    pub fn next<R: Wait>(&self, rt: &R) -> Option<Turn> {
+        let mut wire = self.wire.lock(rt);
+        for _ in rt.forever() {
+            if wire.over {
+                return None;
+            }
+            if let Some(turn) = take_turn(&mut wire) {
+                return Some(turn);
+            }
+            wire = self.changed.wait(rt, wire);
+        }
+        unreachable!()
+    }
+}
+
+/// The frame that waits first, and the link over which it goes.
+fn take_turn(wire: &mut Wire<Arc<TcpStream>>) -> Option<Turn> {
+    let Up { number, stream } = wire.link.as_ref()?;
+    let (number, stream) = (*number, Arc::try_clone(stream).ok()?);
+    let parcel = wire.take()?;
+    Some(Turn {
+        number,
+        stream,
+        frame: parcel.frame,
+    })
+}
+
+/// Shuts a stream down, so that who reads or writes it ends, and says whether there was one.
+fn shut(stream: Option<Arc<TcpStream>>) -> bool {
+    match stream {
+        Some(stream) => {
+            let stream: &TcpStream = &stream;
+            let _ = stream.shutdown(Shutdown::Both);
+            true
+        }
+        None => false,
+    }
+}

@@ -1,0 +1,42 @@
+//! Why a link is down.
+
+use std::fmt;
+use zq_stream::StreamFault;
+
+/// Why a link is down.
+#[derive(Clone, Copy, Debug, PartialEq, Eq)]
+pub enum Loss {
+    /// The peer closed it.
+    Closed,
+    /// A read or a write failed.
+    Broken,
+    /// Nothing came for as long as a peer may say nothing.
+    Silent,
+    /// A frame is longer than a frame may be.
+    TooLong,
+    /// There was no memory for what came.
+    NoMemory,
+}
+
+impl From<StreamFault> for Loss {
+    fn from(fault: StreamFault) -> Loss {
+        match fault {
+            StreamFault::TooLong => Loss::TooLong,
+            StreamFault::NoMemory => Loss::NoMemory,
+            StreamFault::Over => Loss::Broken,
+        }
+    }
+}
+
+impl fmt::Display for Loss {
+    /// Why, on one line.
+    fn fmt<W: fmt::Write>(&self, f: &mut fmt::Formatter<W>) -> fmt::Result {
+        f.write_str(match self {
+            Loss::Closed => "it was closed",
+            Loss::Broken => "it broke",
+            Loss::Silent => "nothing came for 20 seconds",
+            Loss::TooLong => "a frame is too long",
+            Loss::NoMemory => "there was no memory for what came",
+        })
+    }
+}

@@ -1,0 +1,115 @@
+//! Sites over loopback.
+
+mod clients;
+mod guests;
+mod places;
+
+use clients::{Step, serve_all};
+use guests::{Guests, greeting, is_logged, logged_with};
+use log::sink::Locked;
+use log::{LevelFilter, Logged};
+use places::{free_places, settings_of};
+use std::alloc::Global;
+use std::net::{Net, TcpListener, TcpStream};
+use std::random::RandomSource;
+use std::sync::Wait;
+use std::test::Fail;
+use std::thread::Threads;
+use std::time::Clock;
+
+const ADD_A: &[u8] = b"*4\r\n$4\r\nZADD\r\n$1\r\nq\r\n$1\r\n3\r\n$1\r\na\r\n";
+
+const ADD_B: &[u8] = b"*4\r\n$4\r\nZADD\r\n$1\r\nq\r\n$1\r\n4\r\n$1\r\nb\r\n";
+
+const CARD: &[u8] = b"*2\r\n$5\r\nZCARD\r\n$1\r\nq\r\n";
+
+const RANGE: &[u8] = b"*4\r\n$6\r\nZRANGE\r\n$1\r\nq\r\n$1\r\n0\r\n$2\r\n-1\r\n";
+
+const BOTH: &[u8] = b"*2\r\n$1\r\na\r\n$1\r\nb\r\n";
+
+// What the first site is told and then the last one, with the number of the last one's place.
+fn steps_to(last: usize) -> [Step; 6] {
+    [
+        Step::Ask(0, ADD_A, b":1\r\n"),
+        Step::Await(last, CARD, b":1\r\n"),
+        Step::Ask(last, ADD_B, b":1\r\n"),
+        Step::Await(0, CARD, b":2\r\n"),
+        Step::Ask(0, RANGE, BOTH),
+        Step::Ask(last, RANGE, BOTH),
+    ]
+}
+
+/// Serves so many sites with a secret, the clients of the first and of the last of which find what both were told.
+fn meet<R>(rt: &R, alloc: Global, sites: u8, secret: Option<&str>) -> Result<bool, Fail>
+where
+    R: Net<Listener = TcpListener, Stream = TcpStream>
+        + RandomSource
+        + Clock
+        + Threads
+        + Wait
+        + Sync,
+{
+    let places = free_places(rt, alloc, sites)?;
+    let mut settings = Vec::new(alloc);
+    for place in &places {
+        settings.push(settings_of(alloc, *place, &places, secret)?)?;
+    }
+    let log = Logged::new(rt, LevelFilter::Warn, Locked::new(rt, Vec::new(alloc)));
+    let steps = steps_to(usize::from(sites).saturating_sub(1));
+    serve_all(rt, &log, alloc, &places, &settings, &steps)
+}
+
+#[test]
+fn what_one_site_is_told_others_have(rt: HostRuntime) -> Result<(), Fail> {
+    let rounds = [(2, None), (3, Some("a secret of sites"))];
+    for (sites, secret) in rounds {
+        assert!(rt; meet(&rt, rt.alloc(), sites, secret)?, "{sites}");
+    }
+    Ok(())
+}
+
+#[test]
+fn who_is_not_welcome_is_let_go(rt: HostRuntime) -> Result<(), Fail> {
+    let alloc = rt.alloc();
+    let places = free_places(&rt, alloc, 2)?;
+    let [own, _] = places.as_slice() else {
+        return Err("two places".into());
+    };
+    let settings = settings_of(alloc, *own, &places, None)?;
+    let strangers: [&[u8]; 4] = [
+        b"GET / HTTP/1.1\r\n\r\n",
+        &greeting(1, 2, 1),
+        &greeting(1, 3, 0),
+        &greeting(2, 2, 0),
+    ];
+    let guests = Guests::Strangers(&strangers, own.door());
+    let log = logged_with(&rt, alloc, &settings, &guests, own.clients)?;
+    let words = [
+        "site 0 refuses a peer: it does not greet as a site does",
+        "site 0 refuses a peer: it has another rule",
+        "site 0 refuses a peer: it has 3 heaps",
+        "site 0 refuses a peer: site 2 is not expected",
+    ];
+    assert!(rt; is_logged(&log, &words)?);
+    Ok(())
+}
+
+#[test]
+fn a_peer_is_dialled_again_after_a_break(rt: HostRuntime) -> Result<(), Fail> {
+    let alloc = rt.alloc();
+    let places = free_places(&rt, alloc, 2)?;
+    let [peer, own] = places.as_slice() else {
+        return Err("two places".into());
+    };
+    let settings = settings_of(alloc, *own, &places, None)?;
+    let listener = TcpListener::bind(&rt, peer.door())?;
+    let guests = Guests::Dialled(&listener);
+    let log = logged_with(&rt, alloc, &settings, &guests, own.clients)?;
+    let words = [
+        "site 1 lost its link to site 0: it ",
+        "site 1 lost its link to site 0: a frame is too long",
+        "site 1 drops a frame of site 0: it is no frame",
+    ];
+    assert!(rt; is_logged(&log, &words)?);
+    Ok(())
+}

@@ -1,0 +1,96 @@
+//! Where the sites of the tests are.
+
+use std::alloc::Global;
+use std::net::{IpAddr, Ipv4Addr, Net, SocketAddr, TcpListener, TcpStream};
+use std::test::Fail;
+use std::thread;
+use std::time::{Clock, Duration};
+use zq_settings::{SiteSettings, site_settings};
+
+const LOOPBACK: IpAddr = IpAddr::V4(Ipv4Addr::LOCALHOST);
+
+/// Where a site of the tests is: its number, and the ports of its clients and of its peers.
+#[derive(Clone, Copy)]
+pub struct Place {
+    pub site: u8,
+    pub clients: u16,
+    pub peers: u16,
+}
+
+impl Place {
+    pub fn door(self) -> SocketAddr {
+        SocketAddr::from((LOOPBACK, self.peers))
+    }
+}
+
+/// A port on which nobody listens.
+pub fn free_port<R: Net<Listener = TcpListener, Stream = TcpStream>>(rt: &R) -> Result<u16, Fail> {
+    let listener = TcpListener::bind(rt, "127.0.0.1:0")?;
+    Ok(listener.local_addr()?.port())
+}
+
+/// Places of this many sites, on ports on which nobody listens.
+pub fn free_places<R: Net<Listener = TcpListener, Stream = TcpStream>>(
+    rt: &R,
+    alloc: Global,
+    sites: u8,
+) -> Result<Vec<Place>, Fail> {
+    let mut places = Vec::new(alloc);
+    for site in 0..sites {
+        let (clients, peers) = (free_port(rt)?, free_port(rt)?);
+        places.push(Place {
+            site,
+            clients,
+            peers,
+        })?;
+    }
+    Ok(places)
+}
+
+/// The settings of one of the sites, of two heaps, which accepts one connection. The other places are its peers.
+pub fn settings_of(
+    alloc: Global,
+    own: Place,
+    places: &[Place],
+    secret: Option<&str>,
+) -> Result<SiteSettings, Fail> {
+    let Place {
+        site,
+        clients,
+        peers,
+    } = own;
+    let mut text = format!(in alloc;
+        "site = {site}\nport = {clients}\nlisten = \"127.0.0.1:{peers}\"\n"
+    )?;
+    text.push_str("heaps = 2\nworkers = 1\nconnections = 1\n")?;
+    if let Some(secret) = secret {
+        text.push_str(format!(in alloc; "secret = \"{secret}\"\n")?.as_str())?;
+    }
+    for place in places {
+        if place.site != site {
+            text.push_str(peer_table(alloc, *place)?.as_str())?;
+        }
+    }
+    Ok(site_settings(alloc, text.as_str())?)
+}
+
+/// The table of a peer at this place.
+fn peer_table(alloc: Global, place: Place) -> Result<String, Fail> {
+    let Place { site, peers, .. } = place;
+    Ok(format!(in alloc; "[[peers]]\nsite = {site}\naddress = \"127.0.0.1:{peers}\"\n")?)
+}
+
+/// A stream to the port, once somebody listens there.
+pub fn connect<N: Net<Listener = TcpListener, Stream = TcpStream>, R: Clock>(
+    net: &N,
+    rt: &R,
+    port: u16,
+) -> Result<TcpStream, Fail> {
+    for _try in 0..2000 {
+        match TcpStream::connect(net, ("127.0.0.1", port)) {
+            Ok(stream) => return Ok(stream),
+            Err(_) => thread::sleep(rt, Duration::from_millis(5)),
+        }
+    }
+    Err("nobody listens".into())
+}

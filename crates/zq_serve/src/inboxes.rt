@@ -1,0 +1,23 @@
+//! Where the mailboxes of sites are.
+
+use zq_dots::SiteNo;
+use zq_peers::Mailbox;
+
+/// The mailboxes of the sites that a process serves.
+#[derive(Clone, Copy)]
+pub enum Inboxes<'a> {
+    /// Site N's is at place N; a site that has none is not linked.
+    Each(&'a [Mailbox]),
+    /// That of the one site.
+    One(&'a Mailbox),
+}
+
+impl<'a> Inboxes<'a> {
+    /// The mailbox of a site of this process, where it has one.
+    pub fn of(self, site: SiteNo) -> Option<&'a Mailbox> {
+        match self {
+            Inboxes::Each(mailboxes) => mailboxes.get(usize::from(site.value())),
+            Inboxes::One(mailbox) => Some(mailbox),
+        }
+    }
+}

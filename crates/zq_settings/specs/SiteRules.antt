@@ -1,0 +1,79 @@
+-- What a table of settings of one site has to say, key by key.
+use Rattle.std.specs.Prelude.{◌≡◌, ◌≤◌, ◌⊎◌, ◌↔◌, ℕ, pos, List, [], ◌∷◌, length, All, IsTrue, Option, Some, None, Ok}
+use Rattle.std.specs.Net.Addr.{MatchIp, IsLoopbackV4, IsLoopbackV6}
+use Rattle.std.specs.Net.Grammar.{IsIpText, IsSocketText}
+use Rattle.std.specs.Net.Socket.{socket_ip, socket_port}
+use Rattle.std.specs.declared.net.ip_addr.IpAddr.{IpAddr}
+use Rattle.std.specs.declared.net.socket_addr.SocketAddr.{SocketAddr}
+use Rattle.toml.specs.Data.{Data, Members, integer, string, array, table as subtable}
+use Rattle.toml.specs.View.{items_of}
+use Rattle.zq_settings.specs.Addresses.{localhost}
+use Rattle.zq_settings.specs.Keys.{is_known}
+use Rattle.zq_settings.specs.Peers.{ArePeers}
+use Rattle.zq_settings.specs.Rules.{IsLimit, IsNumber, IsRule}
+use Rattle.zq_settings.specs.Site.{site_settings_of}
+use Rattle.zq_settings.specs.Tables.{names_in, value_at}
+use Rattle.zq_settings.specs.declared.form.Form.TheVariants as form
+use Rattle.zq_settings.specs.declared.key.Key.TheVariants as key
+use Rattle.zq_settings.specs.declared.peer.Peer.{Peer}
+use Rattle.zq_settings.specs.declared.values.SiteSettings.{SiteSettings}
+
+-- the value is the number, which lies between the bounds
+abbrev pub IsRequired : ℕ → ℕ → Option Data → ℕ → Type 0
+IsRequired least most value n = (value ≡ Some (integer (pos n))) × (least ≤ n) × (n ≤ most)
+
+-- there is no value, and the address is 127.0.0.1, or the value is a text that writes the address
+abbrev pub IsBind : Option Data → IpAddr → Type 0
+IsBind value ip = ((value ≡ None) × (ip ≡ localhost)) ⊎ ((text : List ℕ) × (value ≡ Some (string text)) × IsIpText text ip)
+
+-- there is neither a value nor a secret, or the value is the secret, a text of at least 16 bytes
+abbrev pub IsSecret : Option Data → Option (List ℕ) → Type 0
+IsSecret value secret = ((value ≡ None) × (secret ≡ None)) ⊎ ((text : List ℕ) × (value ≡ Some (string text)) × (16 ≤ length text) × (secret ≡ Some text))
+
+-- an address of this host alone
+abbrev pub IsLoopback : SocketAddr → Type 0
+IsLoopback address = MatchIp (socket_ip address) IsLoopbackV4 IsLoopbackV6
+
+-- the value is a text that writes the address, with a port that is not 0; where there is no secret, a loopback address
+abbrev pub IsAddress : Option (List ℕ) → Option Data → SocketAddr → Type 0
+IsAddress secret value address = (text : List ℕ) × (value ≡ Some (string text)) × IsSocketText text address × (1 ≤ socket_port address) × (secret ≡ None → IsLoopback address)
+
+-- a table has the keys of a peer alone, and they say this peer, which is another site than its own
+pub record IsPeerTable (own : ℕ) (secret : Option (List ℕ)) (table : Members) (peer : Peer) : Type 0 where
+  pub known : All (λ name. IsTrue (is_known form.Peer name)) (names_in table)
+  pub site : IsRequired 0 63 (value_at key.PeerSite table) peer.site
+  pub other : ¬ (peer.site ≡ own)
+  pub address : IsAddress secret (value_at key.PeerAddress table) peer.address
+
+abbrev pub IsPeer : ℕ → Option (List ℕ) → Data → Peer → Type 0
+IsPeer own secret entry peer = (table : Members) × (entry ≡ subtable table) × IsPeerTable own secret table peer
+
+-- the entries say these peers, one by one
+abbrev pub AreEach : {A : Type 0} → (Data → A → Type 0) → List Data → List A → Type 0
+AreEach R [] [] = Unit {0}
+AreEach R (entry ∷ entries) (first ∷ others) = R entry first × AreEach R entries others
+AreEach R _ _ = ⊥
+
+-- there is no value, and there are no peers, or the value is the array of the peers, no two of which have the same number
+abbrev pub IsArrayOf : ℕ → Option (List ℕ) → Option Data → List Peer → Type 0
+IsArrayOf own secret value peers =
+    ((value ≡ None) × (peers ≡ [])) ⊎ ((entries : List Data) × (value ≡ Some (array (items_of entries))) × AreEach (IsPeer own secret) entries peers × ArePeers peers)
+
+-- each key of the table is known, and each value is as its key wants it
+pub record IsSiteSettings (table : Members) (settings : SiteSettings) : Type 0 where
+  pub known : All (λ name. IsTrue (is_known form.Site name)) (names_in table)
+  pub site : IsRequired 0 63 (value_at key.Site table) settings.site
+  pub port : IsRequired 1 65535 (value_at key.Port table) settings.port
+  pub bind : IsBind (value_at key.Bind table) settings.bind
+  pub secret : IsSecret (value_at key.Secret table) settings.secret
+  pub listen : IsAddress settings.secret (value_at key.Listen table) settings.listen
+  pub peers : IsArrayOf settings.site settings.secret (value_at key.Peers table) settings.peers
+  pub heaps : IsNumber 2 16 4 (value_at key.Heaps table) settings.heaps
+  pub workers : IsNumber 1 64 4 (value_at key.Workers table) settings.workers
+  pub connections : IsLimit (value_at key.Connections table) settings.connections
+  pub seed : IsNumber 0 9223372036854775807 1 (value_at key.Seed table) settings.seed
+  pub rule : IsRule (value_at key.Rule table) settings.rule
+
+-- a table has settings where it breaks no rule, and no others
+abbrev pub SiteSettingsAreOfTheTable : Type 0
+SiteSettingsAreOfTheTable = (table : Members) (settings : SiteSettings) → (site_settings_of table ≡ Ok settings) ↔ IsSiteSettings table settings

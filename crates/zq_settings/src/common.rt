@@ -1,0 +1,43 @@
+//! What the settings of several sites and those of one site have in common.
+
+ghost use Rattle.std.specs.Prelude.{◌≡◌};
+ghost use Rattle.toml.specs.View.{table_view};
+ghost use Rattle.zq_settings.specs.Settings.{common_of, rule_of};
+ghost use Rattle.zq_settings.specs.Tables.{value_at as value_in};
+
+use crate::key::Key;
+use crate::lookup::value_at;
+use crate::number::{read_connections, read_number};
+use crate::values::Common;
+use crate::why::Why;
+use crate::within::Within;
+use toml::Table;
+use zq_dots::Rule;
+
+/// The values of these keys in their order.
+pub fn read_common(table: &Table) -> Result<Common, Why>
+    ensures { result ≡ common_of (table_view table.now) }
+{
+    Ok(Common {
+        heaps: read_number(table, Key::Heaps, Within::of(4))?,
+        workers: read_number(table, Key::Workers, Within::of(4))?,
+        connections: read_connections(table)?,
+        seed: read_number(table, Key::Seed, Within::of(1))?,
+        rule: read_rule(table)?,
+    })
+}
+
+/// The rule of scores: `"HIGH"` or `"LOW"`, and High where the table does not have the key.
+fn read_rule(table: &Table) -> Result<Rule, Why>
+    ensures { result ≡ rule_of (value_in Key.Rule (table_view table.now)) }
+{
+    let Some(value) = value_at(table, Key::Rule) else {
+        return Ok(Rule::High);
+    };
+    match value.as_str() {
+        Some("HIGH") => Ok(Rule::High),
+        Some("LOW") => Ok(Rule::Low),
+        Some(_) => Err(Why::Range(Key::Rule)),
+        None => Err(Why::Kind(Key::Rule)),
+    }
+}

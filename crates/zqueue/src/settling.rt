@@ -1,0 +1,37 @@
+//! Settings of a file, or how the program refuses it.
+
+ghost use Rattle.std.specs.Prelude.{IfErr, IfOk, ◌≡◌};
+ghost use Rattle.zqueue.specs.Configured.{refusal_of};
+ghost use Rattle.zqueue.specs.declared.configured.Unsettled.{Unsettled};
+
+use crate::configured::Unsettled;
+use crate::refusal::Refusal;
+use std::alloc::Global;
+use std::fs;
+use std::io::ErrorKind;
+use std::rt::Files;
+use zq_settings::SettingsFault;
+
+/// The bytes of the file.
+pub fn read_file<R: Files + Alloc<A = Global>>(rt: &R, path: &str) -> Result<Vec<u8>, Refusal> {
+    match fs::read(rt, path) {
+        Ok(bytes) => Ok(bytes),
+        Err(error) if error.kind() == ErrorKind::OutOfMemory => Err(Refusal::Memory),
+        Err(_) => Err(Refusal::Device),
+    }
+}
+
+/// The settings that were read; where there are none, the refusal. Standard error names the rule that they break.
+pub fn settled<S: Drop, R: Eprint>(rt: &R, read: Result<S, Unsettled>) -> Result<S, Refusal>
+    ensures given { IfOk result (λ settings. read.entry ≡ Ok settings) }
+    ensures refused { IfErr result (λ refusal. (why : Unsettled) × (read.entry ≡ Err why) × (refusal ≡ refusal_of why)) }
+{
+    match read {
+        Ok(settings) => Ok(settings),
+        Err(Unsettled::Fault(SettingsFault::NoMemory)) => Err(Refusal::Memory),
+        Err(why) => {
+            let _ = rt.eprintln(why);
+            Err(Refusal::Settings)
+        }
+    }
+}
