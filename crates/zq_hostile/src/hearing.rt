@@ -17,7 +17,7 @@ use zq_node::{Node, NodeFault};
 use zq_spread::{Pass, Site};
 
 /// The site of this number, a pass for its node, and one that looks at it.
-fn opened(alloc: Global, number: SiteNo) -> Option<(Site, Pass, Pass)>
+pub fn opened(alloc: Global, number: SiteNo) -> Option<(Site, Pass, Pass)>
     ensures number { IfSome result (λ made. made.0.number ≡ number) }
     ensures heaps { IfSome result (λ made. heaps_of made.0 ≡ 2) }
     ensures rule { IfSome result (λ made. made.0.rule ≡ Rules.High) }
@@ -60,7 +60,8 @@ fn taken_in<R: Wait>(rt: &R, alloc: Global, site: &Site, looks: &mut Pass) -> Op
     })
 }
 
-fn heard<R: Wait>(rt: &R, alloc: Global, node: &mut Node, frame: &Frame) -> Tried
+/// What a node says that hears a frame which it has nothing to send for.
+pub fn heard<R: Wait>(rt: &R, alloc: Global, node: &mut Node, frame: &Frame) -> Tried
     requires { IsNode node.old }
     ensures { IsNode node.new }
 {

@@ -16,6 +16,7 @@ mod devices;
 mod ended;
 mod feeding;
 mod hearing;
+mod links;
 mod making;
 mod merging;
 mod playing;
@@ -109,6 +110,8 @@ fn case<R: Threads + Wait + Sync>(rt: &R, alloc: Global, name: &str) -> Option<E
         "work" => working::workers(rt, alloc),
         "hear" => hearing::hear(rt, alloc, false),
         "hear-turned" => hearing::hear(rt, alloc, true),
+        "link-loses" => links::losing(rt, alloc),
+        "link-doubles" => links::doubling(rt, alloc),
         "cuts" => devices::devices(rt, alloc, Trial::Cuts),
         "reads" => devices::devices(rt, alloc, Trial::Reads),
         "writes" => devices::devices(rt, alloc, Trial::Writes),
