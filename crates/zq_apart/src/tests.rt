@@ -32,7 +32,7 @@ const GUESSED: &[u8] =
     b"zq-peer\n\x01\x01\x02\x00\x01sixteen bytes...................................";
 
 // What the first site is told and then the last one, with the number of the last one's place.
-fn steps_to(last: usize) -> [Step; 6] {
+fn steps_to(last: usize) -> [Step<'static>; 6] {
     [
         Step::Ask(0, ADD_A, b":1\r\n"),
         Step::Await(last, CARD, b":1\r\n"),

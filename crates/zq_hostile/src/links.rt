@@ -49,12 +49,7 @@ fn one(alloc: Global, op: Op) -> Option<Vec<Op>>
 }
 
 /// Whether a node hears frames, and has nothing to send for any of them.
-fn hear_each<R: Wait>(
-    rt: &R,
-    alloc: Global,
-    node: &mut Node,
-    frames: &[Vec<u8>],
-) -> Option<bool>
+fn hear_each<R: Wait>(rt: &R, alloc: Global, node: &mut Node, frames: &[Vec<u8>]) -> Option<bool>
     requires { IsNode node.old }
     ensures { IsNode node.new }
 {
