@@ -6,7 +6,7 @@ ghost use Rattle.zq_spread.specs.Makers.{AreOfHeaps};
 use crate::ended::{Ended, Tried, judge};
 use crate::shards::{OURS, is_written, operations, taken};
 use std::alloc::Global;
-use zq_dots::SiteNo;
+use zq_dots::{Op, SiteNo};
 use zq_journal::Book;
 use zq_merge::write_state;
 use zq_shard::Shard;
@@ -33,9 +33,17 @@ fn even(alloc: Global) -> Option<Book>
     let [first, second] = ops.as_slice() else {
         return None;
     };
-    let mut book = Book::new(alloc, Shard::new(alloc, 0, 2));
-    book.take(alloc, 0, first).ok()?;
-    book.take(alloc, 0, second).ok()?;
+    let book = with(alloc, Book::new(alloc, Shard::new(alloc, 0, 2)), first)?;
+    with(alloc, book, second)
+}
+
+/// The book, with an operation that it takes.
+fn with(alloc: Global, mut book: Book, op: &Op) -> Option<Book>
+    ensures heap { IfSome result (λ after. after.heap ≡ book.heap) }
+    ensures heaps { IfSome result (λ after. after.heaps ≡ book.heaps) }
+    ensures rule { IfSome result (λ after. after.rule ≡ book.rule) }
+{
+    book.take(alloc, 0, op).ok()?;
     Some(book)
 }
 
