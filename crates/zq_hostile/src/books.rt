@@ -43,7 +43,8 @@ fn with(alloc: Global, mut book: Book, op: &Op) -> Option<Book>
     ensures heaps { IfSome result (λ after. after.heaps ≡ book.heaps) }
     ensures rule { IfSome result (λ after. after.rule ≡ book.rule) }
 {
-    book.take(alloc, 0, op).ok()?;
+    let stamp = book.stamp();
+    book.take(alloc, stamp, op).ok()?;
     Some(book)
 }
 

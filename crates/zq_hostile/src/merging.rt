@@ -109,6 +109,28 @@ fn is_at_site<R: Wait>(
     is_written(alloc, &shard, bytes)
 }
 
+/// What a site says that merges a heap, and whether it then has what it had before. Where it had no memory it merges the
+/// heap once more.
+fn tried_in_site<R: Wait>(
+    rt: &R,
+    alloc: Global,
+    site: &Site,
+    pass: &mut Pass,
+    theirs: &Shard,
+    before: &[u8],
+) -> Option<(Tried, bool)>
+    requires pass { IsPassOf site.now pass.old }
+    requires heaps { heaps_of site.now ≡ 2 }
+    ensures { IsPassOf site.now pass.new }
+{
+    let tried = merged_in_site(rt, alloc, site, pass, theirs);
+    let kept = is_at_site(rt, alloc, site, pass, before)?;
+    if let Tried::Refused = tried {
+        merged_in_site(rt, alloc, site, pass, theirs);
+    }
+    Some((tried, kept))
+}
+
 /// How a merge at a site ends that has put its members there.
 fn met<R: Wait>(rt: &R, alloc: Global, site: &Site, pass: &mut Pass) -> Option<Ended>
     requires pass { IsPassOf site.now pass.old }
@@ -118,11 +140,7 @@ fn met<R: Wait>(rt: &R, alloc: Global, site: &Site, pass: &mut Pass) -> Option<E
     answer(rt, alloc, site, pass, "ZADD q 1 a 2 c")?;
     let theirs = taken(alloc, &operations(alloc, 1, &THEIRS)?)?;
     let before = write_state(alloc, &taken(alloc, &operations(alloc, 0, &OURS)?)?).ok()?;
-    let tried = merged_in_site(rt, alloc, site, pass, &theirs);
-    let kept = is_at_site(rt, alloc, site, pass, &before)?;
-    if let Tried::Refused = tried {
-        merged_in_site(rt, alloc, site, pass, &theirs);
-    }
+    let (tried, kept) = tried_in_site(rt, alloc, site, pass, &theirs, &before)?;
     let owed = together(alloc)?;
     let is_owed = is_at_site(rt, alloc, site, pass, &owed)?;
     Some(judge(tried, kept, is_owed))
