@@ -33,7 +33,8 @@ const FILL: &str = "ZADD q 1 a 2 b 3 c";
 
 const ALL: &str = "*6\r\n$1\r\na\r\n$1\r\n1\r\n$1\r\nb\r\n$1\r\n2\r\n$1\r\nc\r\n$1\r\n3\r\n";
 
-const REFUSED: &str = "-OOM after 0\r\n";
+/// What a call says that had no memory for its first operation.
+pub const REFUSED: &str = "-OOM after 0\r\n";
 
 /// The commands, by the names of their cases.
 pub const ROWS: [Row; 8] = [
@@ -252,8 +253,17 @@ fn followed<R: Wait>(
     }
     let told = answer(rt, alloc, site, pass, row.asked)?;
     let ended = judged(rt, alloc, site, pass, row, &told)?;
-    let owed = is_answered(rt, alloc, site, pass, "ZRANGE q 0 -1 WITHSCORES", row.end)?;
-    Some(if owed { ended } else { Ended::Wrong })
+    let last = answer(rt, alloc, site, pass, "ZRANGE q 0 -1 WITHSCORES")?;
+    in_the_end(row, ended, &last)
+}
+
+/// How a command ends after which ZRANGE says this. Where it had its memory and ZRANGE had none, there is nothing to say of it.
+fn in_the_end(row: &Row, ended: Ended, last: &[u8]) -> Option<Ended> {
+    match ended {
+        Ended::Owed(_) if last == REFUSED.as_bytes() => None,
+        _ if last == row.end.as_bytes() => Some(ended),
+        _ => Some(Ended::Wrong),
+    }
 }
 
 /// How the command of a row ends.

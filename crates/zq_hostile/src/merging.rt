@@ -5,7 +5,7 @@ ghost use Rattle.zq_spread.specs.Passes.{IsPassOf};
 
 use crate::ended::{Ended, Tried, judge};
 use crate::shards::{OURS, THEIRS, is_written, operations, taken, together};
-use crate::sites::{answer, are_audited, opened};
+use crate::sites::{are_audited, is_answered, opened};
 use std::alloc::Global;
 use std::sync::Wait;
 use zq_journal::Book;
@@ -137,7 +137,9 @@ fn met<R: Wait>(rt: &R, alloc: Global, site: &Site, pass: &mut Pass) -> Option<E
     requires heaps { heaps_of site.now ≡ 2 }
     ensures { IsPassOf site.now pass.new }
 {
-    answer(rt, alloc, site, pass, "ZADD q 1 a 2 c")?;
+    if !is_answered(rt, alloc, site, pass, "ZADD q 1 a 2 c", ":2\r\n")? {
+        return None;
+    }
     let theirs = taken(alloc, &operations(alloc, 1, &THEIRS)?)?;
     let before = write_state(alloc, &taken(alloc, &operations(alloc, 0, &OURS)?)?).ok()?;
     let (tried, kept) = tried_in_site(rt, alloc, site, pass, &theirs, &before)?;

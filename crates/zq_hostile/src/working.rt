@@ -3,8 +3,9 @@ ghost use Rattle.std.specs.Prelude.{◌≡◌, All, IfSome, length};
 ghost use Rattle.zq_spread.specs.Calls.{heaps_of};
 ghost use Rattle.zq_spread.specs.Passes.{IsPassOf};
 
-use crate::ended::{Ended, Tried};
-use crate::sites::{answer, is_answered, last_pass, made, opened_with, request};
+use crate::commands::REFUSED;
+use crate::ended::Ended;
+use crate::sites::{answer, last_pass, made, opened_with, request};
 use std::alloc::Global;
 use std::sync::Wait;
 use std::thread::Threads;
@@ -72,13 +73,24 @@ fn lists<'a>(alloc: Global, one: &'a [Request], other: &'a [Request]) -> Option<
     Some(lists)
 }
 
-/// Whether each list of replies says that two members were added.
-fn are_added(done: &[(Vec<Reply>, Pass)]) -> bool {
-    done.len() == 2
-        && done.iter().all(|(replies, _)| matches!(
-            replies.as_slice(),
-            [Reply::Integer(1), Reply::Integer(1)]
-        ))
+/// How many of these replies say that a member was added.
+fn added(replies: &[Reply]) -> usize {
+    let mut count: usize = 0;
+    for reply in replies {
+        if matches!(reply, Reply::Integer(1)) {
+            count = count.saturating_add(1);
+        }
+    }
+    count
+}
+
+/// How many replies of the workers say so.
+fn all_added(done: &[(Vec<Reply>, Pass)]) -> usize {
+    let mut count: usize = 0;
+    for worker in done {
+        count = count.saturating_add(added(&worker.0));
+    }
+    count
 }
 
 /// The lines of each worker.
@@ -90,45 +102,68 @@ const COUNTS: [&str; 5] = [":0\r\n", ":1\r\n", ":2\r\n", ":3\r\n", ":4\r\n"];
 /// What ZRANGE says in the end.
 const ALL: &str = "*4\r\n$1\r\na\r\n$1\r\nb\r\n$1\r\nc\r\n$1\r\nd\r\n";
 
-/// How many calls stand: those that the records have, if the queue has as many members. Else five.
-fn count<R: Wait>(rt: &R, alloc: Global, site: &Site, looks: &mut Pass) -> Option<usize>
+/// How many calls stand, of which so many say that they added a member: those that the records have, if the queue has as
+/// many members. Else five. Where no call lacked memory and ZCARD does, there is nothing to say.
+fn count<R: Wait>(
+    rt: &R,
+    alloc: Global,
+    site: &Site,
+    looks: &mut Pass,
+    added: Option<usize>,
+) -> Option<usize>
     requires pass { IsPassOf site.now looks.old }
     requires heaps { heaps_of site.now ≡ 2 }
     ensures { IsPassOf site.now looks.new }
 {
     let done = made(rt, alloc, site, looks)?;
-    let Some(count) = COUNTS.get(done) else {
-        return Some(5);
-    };
-    let is_so = is_answered(rt, alloc, site, looks, "ZCARD q", count)?;
-    Some(if is_so { done } else { 5 })
+    let told = answer(rt, alloc, site, looks, "ZCARD q")?;
+    if added == Some(4) && told.as_slice() == REFUSED.as_bytes() {
+        return None;
+    }
+    match COUNTS.get(done) {
+        Some(owed) if told.as_slice() == owed.as_bytes() => Some(done),
+        _ => Some(5),
+    }
 }
 
-/// Whether all members are there once the calls were made that are lacking.
-fn are_all<R: Wait>(rt: &R, alloc: Global, site: &Site, looks: &mut Pass) -> Option<bool>
+/// What ZRANGE says once the calls were made that are lacking.
+fn last_of<R: Wait>(rt: &R, alloc: Global, site: &Site, looks: &mut Pass) -> Option<Vec<u8>>
     requires { IsPassOf site.now looks.old }
     ensures { IsPassOf site.now looks.new }
 {
     for line in [LINES[0][0], LINES[0][1], LINES[1][0], LINES[1][1]] {
         answer(rt, alloc, site, looks, line)?;
     }
-    is_answered(rt, alloc, site, looks, "ZRANGE q 0 -1", ALL)
+    answer(rt, alloc, site, looks, "ZRANGE q 0 -1")
 }
 
-/// How two workers end.
+/// How many calls of two workers say that they added a member. `None` where the work was not done to its end.
 fn worked<R: Threads + Wait + Sync>(
     rt: &R,
     alloc: Global,
     site: &Site,
     passes: Vec<Pass>,
     lists: Vec<Vec<Job>>,
-) -> Tried
+) -> Option<usize>
     requires lists { length passes.items ≡ length lists.items }
     requires passes { All (IsPassOf site.now) passes.items }
 {
     match work(rt, alloc, site, passes, lists, &Open) {
-        Ok(done) if are_added(&done) => Tried::Done,
-        Ok(_) | Err(WorkFault::NoMemory | WorkFault::Start) => Tried::Refused,
+        Ok(done) => Some(all_added(&done)),
+        Err(WorkFault::NoMemory | WorkFault::Start) => None,
+    }
+}
+
+/// How the workers end of which so many calls say that they added a member, where so many stand and ZRANGE says this in the
+/// end. Where the work was not done to its end any of its calls may stand.
+fn in_the_end(added: Option<usize>, done: usize, last: &[u8]) -> Option<Ended> {
+    let all = last == ALL.as_bytes();
+    match added {
+        Some(4) if last == REFUSED.as_bytes() => None,
+        Some(4) if all && done == 4 => Some(Ended::Owed(1)),
+        Some(added) if all && done == added => Some(Ended::Refused(done)),
+        None if all && done < 5 => Some(Ended::Refused(done)),
+        _ => Some(Ended::Wrong),
     }
 }
 
@@ -138,12 +173,8 @@ pub fn workers<R: Threads + Wait + Sync>(rt: &R, alloc: Global) -> Option<Ended>
     let other = requests(alloc, LINES[1])?;
     let lists = lists(alloc, &one, &other)?;
     let (site, passes, mut looks) = opened(alloc)?;
-    let tried = worked(rt, alloc, &site, passes, lists);
-    let done = count(rt, alloc, &site, &mut looks)?;
-    let all = are_all(rt, alloc, &site, &mut looks)?;
-    Some(match tried {
-        Tried::Done if all && done == 4 => Ended::Owed(1),
-        Tried::Refused if all && done < 4 => Ended::Refused(done),
-        _ => Ended::Wrong,
-    })
+    let added = worked(rt, alloc, &site, passes, lists);
+    let done = count(rt, alloc, &site, &mut looks, added)?;
+    let last = last_of(rt, alloc, &site, &mut looks)?;
+    in_the_end(added, done, &last)
 }

@@ -1,4 +1,4 @@
-use Rattle.zq_hostile.proofs.working.are_all.Given as goal
+use Rattle.zq_hostile.proofs.working.last_of.Given as goal
 use Rattle.zq_spread.specs.Passes.{IsPassOf}
 
 abbrev pub invariant-loop-line : goal.invariant-loop-line
