@@ -1,8 +1,8 @@
-use Rattle.std.proofs.Common.{List, Some, [], ap, arith, length, refl, set, subst, suc, sym, zero, ℕ, ◌<◌, ◌∙◌, ◌∷◌, ◌≡◌}
+use Rattle.std.proofs.Common.{List, Some, ap, arith, length, set, subst, ◌<◌, ◌∙◌, ◌≡◌}
 use Rattle.std.specs.Prelude.{slice_get}
 use Rattle.zq_commands.specs.VecBooks.{lending_of}
 use Rattle.zq_history.specs.Books.{Book}
-use Rattle.zq_spread.proofs.Seats.{same_some}
+use Rattle.zq_posheap.proofs.Lists.{set_again}
 use Rattle.zq_spread.proofs.Turned.{as_many, book_stands, books_changed, held_changed}
 use Rattle.zq_spread.proofs.lending_all.HoldsBooks.index.Goals as goal
 use Rattle.zq_spread.proofs.lending_all.HoldsBooks.index.Goals.{After-index_mut}
@@ -26,12 +26,7 @@ stands c = book_stands c.args.self.now.helds.items c.args.place (length c.as_sli
 
 -- the same list, with its own book at the place
 same_set : (c : After-index_mut) → set (books_in c) c.args.place (old_in c) ≡ books_in c
-same_set c = set_back (books_in c) c.args.place (old_in c) (stands c)
-  where
-    set_back : (xs : List Book) (i : ℕ) (x : Book) → slice_get xs i ≡ Some x → set xs i x ≡ xs
-    set_back [] i x is = refl
-    set_back (y ∷ xs) zero x is = ap (λ z. z ∷ xs) (sym (same_some y x is))
-    set_back (y ∷ xs) (suc i) x is = ap (λ l. y ∷ l) (set_back xs i x is)
+same_set c = set_again (books_in c) c.args.place (old_in c) (stands c)
 
 pub returns-clause-same : goal.returns-clause-same
 returns-clause-same c =
