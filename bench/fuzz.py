@@ -7,8 +7,12 @@
 
 Usage: bench/fuzz.py [--seed N] [--requests N] [--sessions N]
        bench/fuzz.py --serve [--seed N] [--sessions N] [--program PATH]
+       bench/fuzz.py --texts N [--seed N] [--program PATH]
+       bench/fuzz.py --arguments N [--seed N] [--program PATH]
 It prints how much was tried. Where a stream is answered otherwise than by the model it is kept in fuzz-SEED-PART.bin, and
-the status is 1. With --serve the short streams go to `zqueue serve`, beside clients of all manners (crowd.py).
+the status is 1. With --serve the short streams go to `zqueue serve`, beside clients of all manners (crowd.py). With --texts
+so many drawn texts are read as settings by `zq_hostile texts`, of which the program is; with --arguments so many drawn command
+lines are given to the program. Both are judged by a reading of their own (texts.py), and what is read otherwise is printed.
 """
 import argparse
 import multiprocessing
@@ -22,6 +26,7 @@ import crowd
 import plain_model
 import served
 import streams
+import texts
 
 ROOT = pathlib.Path(__file__).resolve().parent.parent
 KEYS = [b"q", b"board", b"", b"a\r\nb"]
@@ -31,6 +36,8 @@ NUMBERS = [b"0", b"1", b"-1", b"+7", b"007", b"3.0", b"-2.000", b"1.5", b"", b"+
 WORDS = [b"NX", b"xx", b"Gt", b"LT", b"ch", b"INCR", b"BYSCORE", b"rev", b"LIMIT", b"withscores", b"WITHSCORE", b"*", b"$1"]
 # How many requests a long stream has.
 STREAM = 20000
+# How many of the texts or command lines that are read otherwise are shown.
+MOST_SHOWN = 20
 
 
 def drawn_member(draw):
@@ -173,14 +180,60 @@ def served_to_a_crowd(asked):
     return 1 if kept else 0
 
 
+def printed(what, wrong):
+    """The status of a run of so much, of which this was read otherwise, with what was owed and what was told."""
+    for drawn, owed, told in wrong[:MOST_SHOWN]:
+        print(f"fuzz: {drawn!r}: {told!r} where {owed!r} is owed", file=sys.stderr)
+    print(f"{what}: {len(wrong)} read otherwise")
+    return 1 if wrong else 0
+
+
+def texts_read(asked):
+    """The status of a run of so many texts of settings."""
+    started = time.monotonic()
+    draw = random.Random(f"texts {asked.seed}")
+    drawn = [texts.drawn_settings(draw) for _ in range(asked.texts)]
+    program = asked.program.resolve() if asked.program else served.built_crate("zq_hostile")
+    done = subprocess.run([program, "texts"], input="".join(f"{data.hex()}\n" for data in drawn).encode(), stdout=subprocess.PIPE, check=True)
+    told = done.stdout.decode().splitlines()
+    owed = [texts.settings_owed(data) for data in drawn]
+    wrong = [each for each in zip(drawn, owed, told) if not texts.is_settings_told(*each[1:])]
+    if len(told) != len(drawn):
+        wrong.append(("all texts", f"{len(drawn)} lines", f"{len(told)} lines"))
+    taken = sum(line.startswith("settings ") for line in told)
+    return printed(f"{len(drawn)} texts, {sum(map(len, drawn))} bytes, {taken} of them settings, in {time.monotonic() - started:.0f} s", wrong)
+
+
+def arguments_read(asked):
+    """The status of a run of so many command lines."""
+    started = time.monotonic()
+    draw = random.Random(f"arguments {asked.seed}")
+    program = asked.program.resolve() if asked.program else served.built()
+    drawn = [words for words in (texts.drawn_words(draw) for _ in range(asked.arguments)) if texts.is_short(words)]
+    wrong, taken = [], 0
+    for words in drawn:
+        done = subprocess.run([program, *words], stdin=subprocess.DEVNULL, stdout=subprocess.PIPE, stderr=subprocess.DEVNULL)
+        statuses, begins = texts.words_owed(words)
+        taken += 3 not in statuses
+        if done.returncode not in statuses or not done.stdout.startswith(begins):
+            wrong.append((words, (statuses, begins), (done.returncode, done.stdout[:80])))
+    return printed(f"{len(drawn)} command lines, {taken} of them commands, in {time.monotonic() - started:.0f} s", wrong)
+
+
 def main():
     words = argparse.ArgumentParser(description=__doc__, formatter_class=argparse.RawDescriptionHelpFormatter)
     words.add_argument("--seed", type=int, default=1)
     words.add_argument("--requests", type=int, default=1000000, help="in long streams (1,000,000)")
     words.add_argument("--sessions", type=int, default=2000, help="short streams (2,000)")
     words.add_argument("--serve", action="store_true")
-    words.add_argument("--program", type=pathlib.Path, help="that serves, in place of the one that is built here")
+    words.add_argument("--texts", type=int, help="so many texts of settings")
+    words.add_argument("--arguments", type=int, help="so many command lines")
+    words.add_argument("--program", type=pathlib.Path, help="in place of the one that is built here")
     asked = words.parse_args()
+    if asked.texts:
+        return texts_read(asked)
+    if asked.arguments:
+        return arguments_read(asked)
     if asked.serve:
         return served_to_a_crowd(asked)
     started = time.monotonic()

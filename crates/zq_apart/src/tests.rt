@@ -27,8 +27,12 @@ const RANGE: &[u8] = b"*4\r\n$6\r\nZRANGE\r\n$1\r\nq\r\n$1\r\n0\r\n$2\r\n-1\r\n"
 
 const BOTH: &[u8] = b"*2\r\n$1\r\na\r\n$1\r\nb\r\n";
 
+// Site 1, of two heaps and the first rule, says that it has a secret, and gives 16 bytes and an answer that it guesses.
+const GUESSED: &[u8] =
+    b"zq-peer\n\x01\x01\x02\x00\x01sixteen bytes...................................";
+
 // What the first site is told and then the last one, with the number of the last one's place.
-fn steps_to(last: usize) -> [Step; 6] {
+fn steps_to(last: usize) -> [Step<'static>; 6] {
     [
         Step::Ask(0, ADD_A, b":1\r\n"),
         Step::Await(last, CARD, b":1\r\n"),
@@ -68,29 +72,59 @@ fn what_one_site_is_told_others_have(rt: HostRuntime) -> Result<(), Fail> {
     Ok(())
 }
 
-#[test]
-fn who_is_not_welcome_is_let_go(rt: HostRuntime) -> Result<(), Fail> {
-    let alloc = rt.alloc();
-    let places = free_places(&rt, alloc, 2)?;
+/// Whether site 0, with this secret, lets strangers go and warns of them in these words.
+fn lets_go<R>(
+    rt: &R,
+    alloc: Global,
+    secret: Option<&str>,
+    strangers: &[&[u8]],
+    words: &[&str],
+) -> Result<bool, Fail>
+where
+    R: Net<Listener = TcpListener, Stream = TcpStream>
+        + RandomSource
+        + Clock
+        + Threads
+        + Wait
+        + Sync,
+{
+    let places = free_places(rt, alloc, 2)?;
     let [own, _] = places.as_slice() else {
         return Err("two places".into());
     };
-    let settings = settings_of(alloc, *own, &places, None)?;
+    let settings = settings_of(alloc, *own, &places, secret)?;
+    let guests = Guests::Strangers(strangers, own.door());
+    let log = logged_with(rt, alloc, &settings, &guests, own.clients)?;
+    is_logged(&log, words)
+}
+
+#[test]
+fn who_is_not_welcome_is_let_go(rt: HostRuntime) -> Result<(), Fail> {
     let strangers: [&[u8]; 4] = [
         b"GET / HTTP/1.1\r\n\r\n",
         &greeting(1, 2, 1),
         &greeting(1, 3, 0),
         &greeting(2, 2, 0),
     ];
-    let guests = Guests::Strangers(&strangers, own.door());
-    let log = logged_with(&rt, alloc, &settings, &guests, own.clients)?;
     let words = [
         "site 0 refuses a peer: it does not greet as a site does",
         "site 0 refuses a peer: it has another rule",
         "site 0 refuses a peer: it has 3 heaps",
         "site 0 refuses a peer: site 2 is not expected",
     ];
-    assert!(rt; is_logged(&log, &words)?);
+    assert!(rt; lets_go(&rt, rt.alloc(), None, &strangers, &words)?);
+    Ok(())
+}
+
+#[test]
+fn who_does_not_know_the_secret_is_let_go(rt: HostRuntime) -> Result<(), Fail> {
+    let strangers: [&[u8]; 2] = [&greeting(1, 2, 0), GUESSED];
+    let words = [
+        "site 0 refuses a peer: it has no secret, and this site wants one",
+        "site 0 refuses a peer: it does not know the secret",
+    ];
+    let secret = Some("a secret of sites");
+    assert!(rt; lets_go(&rt, rt.alloc(), secret, &strangers, &words)?);
     Ok(())
 }
 

@@ -23,8 +23,8 @@ pub fn read_file<R: Files + Alloc<A = Global>>(rt: &R, path: &str) -> Result<Vec
 
 /// The settings that were read; where there are none, the refusal. Standard error names the rule that they break.
 pub fn settled<S: Drop, R: Eprint>(rt: &R, read: Result<S, Unsettled>) -> Result<S, Refusal>
-    ensures given { IfOk result (λ settings. read.entry ≡ Ok settings) }
-    ensures refused { IfErr result (λ refusal. (why : Unsettled) × (read.entry ≡ Err why) × (refusal ≡ refusal_of why)) }
+    ensures given { IfOk result (λ settings. read ≡ Ok settings) }
+    ensures refused { IfErr result (λ refusal. (why : Unsettled) × (read ≡ Err why) × (refusal ≡ refusal_of why)) }
 {
     match read {
         Ok(settings) => Ok(settings),

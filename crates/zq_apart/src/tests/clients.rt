@@ -16,11 +16,11 @@ use zq_settings::SiteSettings;
 
 /// A step of the sites' clients, each of which has one connection.
 #[derive(Drop)]
-pub enum Step {
+pub enum Step<'a> {
     /// The client of the site at this place sends a request, and this reply comes.
-    Ask(usize, &'static [u8], &'static [u8]),
+    Ask(usize, &'a [u8], &'a [u8]),
     /// It sends it again and again, until this reply comes.
-    Await(usize, &'static [u8], &'static [u8]),
+    Await(usize, &'a [u8], &'a [u8]),
 }
 
 /// Whether the reply to these bytes is this one.
@@ -64,7 +64,7 @@ pub fn follow<R: Clock>(
     rt: &R,
     alloc: Global,
     clients: &[TcpStream],
-    step: &Step,
+    step: &Step<'_>,
 ) -> Result<(), Fail> {
     let (Step::Ask(at, request, want) | Step::Await(at, request, want)) = step;
     let client = clients.get(*at).ok_or("a client")?;
@@ -86,7 +86,7 @@ pub fn follow_all<N: Net<Listener = TcpListener, Stream = TcpStream>, R: Clock>(
     rt: &R,
     alloc: Global,
     places: &[Place],
-    steps: &[Step],
+    steps: &[Step<'_>],
 ) -> Result<(), Fail> {
     let mut clients = Vec::new(alloc);
     for place in places {
@@ -123,7 +123,7 @@ pub fn serve_all<N, L>(
     alloc: Global,
     places: &[Place],
     sites: &[SiteSettings],
-    steps: &[Step],
+    steps: &[Step<'_>],
 ) -> Result<bool, Fail>
 where
     N: Net<Listener = TcpListener, Stream = TcpStream> + Sync,
