@@ -1,6 +1,7 @@
 //! What commands do to the books that are lent to them, and what they answer.
 #![tactic(auto)]
 
+mod ahead;
 mod beginning;
 mod books;
 mod cleared;
@@ -26,6 +27,7 @@ mod running;
 mod scores;
 mod section;
 mod site_books;
+mod starts;
 mod tops;
 mod totals;
 mod vec_books;

@@ -3,6 +3,8 @@
 
 ghost use Rattle.zq_model.specs.Sets.{IsHeaps};
 
+mod deep;
+
 use crate::SiteBooks;
 use std::alloc::Global;
 use std::process::Abort;
