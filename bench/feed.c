@@ -4,8 +4,9 @@
 //
 // Usage: feed FIRST SECOND program PATH WORD..
 //        feed FIRST SECOND port NUMBER
-// A stream is a file of requests. Behind it goes a PING with a word of its own, whose reply is the last one; but the second
-// stream to a program ends with its input, and its replies with the program.
+//        feed FIRST SECOND stick PATH WORD..
+// A stream is a file of requests. Behind it goes a PING with a word of its own, whose reply is the last one. A stick is a
+// program that answers no PING: its second stream ends with its input, and its replies with the program.
 #define _GNU_SOURCE
 #include <arpa/inet.h>
 #include <errno.h>
@@ -117,23 +118,24 @@ static int dial(int port) {
 
 int main(int argc, char **argv) {
     if (argc < 5) {
-        fprintf(stderr, "usage: feed FIRST SECOND program PATH WORD.. | port NUMBER\n");
+        fprintf(stderr, "usage: feed FIRST SECOND program PATH WORD.. | port NUMBER | stick PATH WORD..\n");
         return 3;
     }
     size_t first_size, second_size;
     char *first = stream(argv[1], &first_size), *second = stream(argv[2], &second_size);
-    int to, from;
+    int to, from, is_stick = strcmp(argv[3], "stick") == 0;
     pid_t child = 0;
-    if (strcmp(argv[3], "program") == 0) {
-        child = start(argv + 4, &to, &from);
-    } else {
+    if (strcmp(argv[3], "port") == 0) {
         to = from = dial(atoi(argv[4]));
+    } else {
+        child = start(argv + 4, &to, &from);
     }
     fcntl(to, F_SETFL, O_NONBLOCK);
     fcntl(from, F_SETFL, O_NONBLOCK);
     if (first_size > strlen(LAST_REQUEST)) feed(first, first_size, to, from, 0);
-    if (child) second_size -= strlen(LAST_REQUEST);
-    printf("%.6f\n", feed(second, second_size, to, from, child != 0));
+    if (is_stick) second_size -= strlen(LAST_REQUEST);
+    printf("%.6f\n", feed(second, second_size, to, from, is_stick));
+    if (child && !is_stick) close(to);
     if (child) waitpid(child, NULL, 0);
     return 0;
 }

@@ -117,7 +117,7 @@ def measure(kind, members, options, feed, redis, stick):
             redis.clear()
             times["redis"].append(feed.seconds("port", redis.port))
         # The yardstick keeps nothing, and answers no PING, by which the loader knows the end of a first stream.
-        times["yardstick"].append(feed.seconds("program", stick, first=feed.nothing))
+        times["yardstick"].append(feed.seconds("stick", stick, first=feed.nothing))
     medians = {name: statistics.median(all) for name, all in times.items() if all}
     line = f"{kind} over {members} members: {requests} requests, {len(data)} bytes"
     for name, seconds in medians.items():
