@@ -23,8 +23,6 @@ mod running;
 mod serving;
 mod shared;
 mod teller;
-#[cfg(test)]
-mod tests;
 mod times;
 mod warning;
 mod wire;

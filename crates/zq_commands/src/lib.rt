@@ -43,6 +43,3 @@ pub use removing::drop_members;
 pub use replies::{cut_reply, message_reply};
 pub use running::{read_told, run, run_told};
 pub use site_books::SiteBooks;
-
-#[cfg(test)]
-mod tests;

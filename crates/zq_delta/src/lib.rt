@@ -30,6 +30,3 @@ pub use laws::one_spelling;
 pub use read::read_op;
 pub use version::Version;
 pub use write::{append_op, write_op};
-
-#[cfg(test)]
-mod tests;

@@ -19,6 +19,3 @@ pub use rule::Rule;
 pub use score::{GREATEST, Score};
 pub use site_no::{SITES, SiteNo};
 pub use vector::{LAST_COUNTER, Vector, Worn};
-
-#[cfg(test)]
-mod tests;

@@ -16,8 +16,7 @@ mod report;
 mod request;
 mod running;
 mod station;
-#[cfg(test)]
-mod tests;
 
+pub use draws::{Draw, Draws};
 pub use drilling::drill;
 pub use fault::DrillFault;

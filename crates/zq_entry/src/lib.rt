@@ -16,6 +16,3 @@ mod sums;
 pub use addition::Addition;
 pub use addition_ref::AdditionRef;
 pub use entry::Entry;
-
-#[cfg(test)]
-mod tests;

@@ -14,6 +14,3 @@ pub use laws::{byte_again, bytes_again, number_again, signed_again};
 pub use read::{read_byte, read_bytes, read_i64, read_u32, read_u64};
 pub use wide::{read_i128, wide_again, write_i128};
 pub use write::{write_byte, write_bytes, write_i64, write_u32, write_u64};
-
-#[cfg(test)]
-mod tests;

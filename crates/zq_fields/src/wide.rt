@@ -51,21 +51,3 @@ fn write_u128(out: &mut Vec<u8>, number: u128) -> Result<(), AllocError>
 pub fn wide_again()
     ensures { (z : ℤ) (rest : List ℕ) → FitsSigned w128 z → signed_field w128 (signed w128 z ++ rest) ≡ Some (z, rest) }
 {}
-
-#[cfg(test)]
-mod tests {
-    use super::*;
-    use std::test::Fail;
-
-    #[test]
-    fn sixteen_bytes_are_written_and_read(rt: HostRuntime) -> Result<(), Fail> {
-        let mut out = Vec::new(rt.alloc());
-        write_i128(&mut out, -258)?;
-        let expected = b"\xff\xff\xff\xff\xff\xff\xff\xff\xff\xff\xff\xff\xff\xff\xfe\xfe";
-        assert_eq!(rt; out.as_slice(), expected.as_slice());
-        let (number, rest) = read_i128(&out).ok_or("sixteen bytes")?;
-        assert_eq!(rt; number, -258);
-        assert!(rt; rest.is_empty() && read_i128(&expected[..15]).is_none());
-        Ok(())
-    }
-}

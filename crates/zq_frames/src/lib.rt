@@ -30,6 +30,3 @@ pub use frame::{Frame, Have};
 pub use laws::one_spelling;
 pub use read::read_frame;
 pub use write::write_frame;
-
-#[cfg(test)]
-mod tests;

@@ -26,6 +26,3 @@ pub use opening::{Opening, hear_opening};
 pub use refusal::Refusal;
 pub use side::{MAGIC, NONCE, Secret, Side, VERSION};
 pub use write::write_greeting;
-
-#[cfg(test)]
-mod tests;

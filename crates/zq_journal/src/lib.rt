@@ -15,10 +15,3 @@ mod since;
 pub use book::Book;
 pub use faults::{Advanced, MergeFault, TakeFault};
 pub use since::Since;
-
-#[cfg(test)]
-mod limit_tests;
-#[cfg(test)]
-mod test_calls;
-#[cfg(test)]
-mod tests;

@@ -14,6 +14,3 @@ pub use faulty::Faulty;
 pub use held::MOST_HELD;
 pub use laws::no_frame_is_invented;
 pub use message::Message;
-
-#[cfg(test)]
-mod tests;

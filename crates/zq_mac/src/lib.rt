@@ -9,6 +9,3 @@ mod hmac;
 
 pub use compare::is_same_tag;
 pub use hmac::mac;
-
-#[cfg(test)]
-mod tests;

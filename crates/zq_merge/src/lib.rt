@@ -51,6 +51,3 @@ pub use laws::{merged_again, one_spelling};
 pub use read::read_state;
 pub use state::write_state;
 pub use version::Version;
-
-#[cfg(test)]
-mod tests;

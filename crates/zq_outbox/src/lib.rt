@@ -9,8 +9,6 @@
 pub mod laws;
 mod outbox;
 mod parcel;
-#[cfg(test)]
-mod tests;
 mod topic;
 
 pub use outbox::Outbox;

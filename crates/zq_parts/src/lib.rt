@@ -25,6 +25,3 @@ pub use range::{read_byte_in, read_number_in, read_site};
 pub use score::{read_score, write_score};
 pub use sparse::{read_sparse, sparse_len, write_sparse};
 pub use text::{read_text, write_text};
-
-#[cfg(test)]
-mod tests;

@@ -17,8 +17,6 @@ mod place;
 mod pos_heap;
 mod readings;
 mod seeded;
-#[cfg(test)]
-mod tests;
 
 pub use guess::Guess;
 pub use name::{Name, NameRef};

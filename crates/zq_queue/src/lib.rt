@@ -12,8 +12,6 @@ mod merges;
 mod queue;
 mod readings;
 mod rows;
-#[cfg(test)]
-mod tests;
 
 pub use effect::Effect;
 pub use queue::Queue;

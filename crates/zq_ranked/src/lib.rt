@@ -16,8 +16,6 @@ mod pair;
 mod pairs;
 mod path;
 mod ranked;
-#[cfg(test)]
-mod tests;
 
 pub use pairs::{Backward, Forward};
 pub use ranked::Ranked;

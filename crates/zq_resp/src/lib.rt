@@ -11,8 +11,6 @@ pub mod laws;
 mod reader;
 mod reply;
 mod request;
-#[cfg(test)]
-mod tests;
 
 pub use fault::{FeedError, FeedFault};
 pub use reader::Reader;

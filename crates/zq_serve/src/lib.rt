@@ -12,8 +12,6 @@ mod opening;
 mod running;
 mod serving;
 mod station;
-#[cfg(test)]
-mod tests;
 mod ticking;
 mod turns;
 mod warning;

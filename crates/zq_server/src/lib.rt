@@ -5,14 +5,8 @@ mod gathering;
 mod meanings;
 mod outcome;
 mod passing;
-#[cfg(test)]
-mod passing_tests;
 mod plain;
-#[cfg(test)]
-mod plain_tests;
 mod serving;
-#[cfg(test)]
-mod session_tests;
 mod stream;
 mod transfer;
 

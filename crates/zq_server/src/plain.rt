@@ -2,13 +2,14 @@
 
 ghost use Rattle.std.specs.Prelude.{IfOk, IsTrue, ◌≡◌};
 ghost use Rattle.zq_resp.specs.Reply.{is_writable, reply_bytes};
-ghost use Rattle.zq_server.specs.Plain.{RunsCommand, SITE, no_keys};
+ghost use Rattle.zq_server.specs.Plain.{IsOfOneHeap, RunsCommand, SITE, no_keys};
 
 use crate::serving::Answers;
 use std::alloc::{AllocError, Global};
 use std::marker::Model;
 use zq_commands::{Cut, SiteBooks, cut_reply, message_reply};
 use zq_dots::{Rule, SiteNo};
+use zq_journal::Book;
 use zq_posheap::Seeded;
 use zq_resp::{Reply, Request};
 use zq_words::{Command, Kind};
@@ -45,6 +46,21 @@ impl Plain {
     {
         let books = SiteBooks::new(alloc, 1, Rule::High, Seeded::new(0))?;
         Ok(Plain { books })
+    }
+
+    /// A server of the books of one heap.
+    pub fn of_books(books: SiteBooks) -> Plain
+        requires { IsOfOneHeap books }
+        ensures { result ≡ books }
+    {
+        Plain { books }
+    }
+
+    /// The book of the one heap.
+    pub fn books(&self) -> &[Book]
+        ensures { result.now ≡ self.now }
+    {
+        self.books.books()
     }
 
     /// The reply to a command, and what it changes.

@@ -19,8 +19,6 @@ mod ports;
 mod read;
 mod secret;
 mod table;
-#[cfg(test)]
-mod tests;
 mod unknown;
 mod values;
 mod why;

@@ -19,8 +19,3 @@ pub use faults::{MakeFault, MergeFault, TakeFault};
 pub use row::{Row, RowRef};
 pub use shard::Shard;
 pub use taken::Taken;
-
-#[cfg(test)]
-mod comparison;
-#[cfg(test)]
-mod tests;

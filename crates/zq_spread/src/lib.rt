@@ -40,6 +40,3 @@ pub use faults::{Busy, HoldFault, ReadFault, SiteFault};
 pub use holdings::Holding;
 pub use pass::Pass;
 pub use site::Site;
-
-#[cfg(test)]
-mod tests;

@@ -9,8 +9,6 @@ mod fault;
 mod front;
 pub mod laws;
 mod reader;
-#[cfg(test)]
-mod tests;
 mod unfinished;
 mod write;
 

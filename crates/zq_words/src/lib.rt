@@ -16,8 +16,6 @@ mod pair;
 mod pairs;
 mod range;
 mod refused;
-#[cfg(test)]
-mod tests;
 mod word;
 mod zadd;
 mod zrange;

@@ -37,6 +37,14 @@ pub record IsPlayed (rule : Rule) (K sites : ℕ) (events : List Event) (left : 
   pub made : left.made ≡ map (placed K) (run rule K events).now.made
   pub answers : left.answers ≡ (run rule K events).answers
 
+-- the book of a heap, where its site is there and has it
+abbrev heap_in : Option (List Book) → ℕ → Option Book
+heap_in None heap = None
+heap_in (Some books) heap = slice_get books heap
+
+abbrev pub book_in : List (List Book) → ℕ → ℕ → Option Book
+book_in sites site heap = heap_in (slice_get sites site) heap
+
 -- the reply to an event, where it was a request
 abbrev pub reply_to : Option Answer → Option Word
 reply_to (Some (Replied reply)) = Some reply

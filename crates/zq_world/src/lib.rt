@@ -30,6 +30,3 @@ pub use faults::{AnswerFault, PlayFault};
 pub use frames::carrying;
 pub use playing::{play, play_ruled};
 pub use world::World;
-
-#[cfg(test)]
-mod tests;

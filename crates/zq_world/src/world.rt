@@ -11,7 +11,7 @@ ghost use Rattle.zq_runs.specs.Reading as reading;
 ghost use Rattle.zq_runs.specs.State.{State};
 ghost use Rattle.zq_shard.specs.Taken.{answer_of};
 ghost use Rattle.zq_words.specs.Command.{command_of};
-ghost use Rattle.zq_world.specs.World.{reply_to, taken_by};
+ghost use Rattle.zq_world.specs.World.{book_in, reply_to, taken_by};
 
 use crate::answer::Answer;
 use crate::faults::AnswerFault;
@@ -78,6 +78,13 @@ impl World {
             Some(Answer::Handed(taken)) => *taken,
             _ => None,
         }
+    }
+
+    /// The book of a heap of a site, and `None` where there is none.
+    pub fn book(&self, site: u8, heap: u8) -> Option<&Book>
+        ensures { option_map (λ book. book.now) result ≡ book_in self.now.books site heap }
+    {
+        self.sites.get(site as usize)?.get(heap as usize)
     }
 
     /// The bytes that a site answers to a request that only reads, a refused one too.

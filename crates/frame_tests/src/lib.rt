@@ -1,0 +1,13 @@
+//! Tests of frames: their parts, operations, states, the frames of links, and links that fail.
+#![tactic(auto)]
+
+#[cfg(test)]
+mod delta;
+#[cfg(test)]
+mod frames;
+#[cfg(test)]
+mod links;
+#[cfg(test)]
+mod merge;
+#[cfg(test)]
+mod parts;

@@ -1,0 +1,17 @@
+//! Tests of one heap: dots, entries, the positioned heap, the ranked list, queues, the image and its book.
+#![tactic(auto)]
+
+#[cfg(test)]
+mod dots;
+#[cfg(test)]
+mod entry;
+#[cfg(test)]
+mod journal;
+#[cfg(test)]
+mod posheap;
+#[cfg(test)]
+mod queue;
+#[cfg(test)]
+mod ranked;
+#[cfg(test)]
+mod shard;

@@ -1,0 +1,9 @@
+//! Tests of sites that are served, drilled, and linked over TCP.
+#![tactic(auto)]
+
+#[cfg(test)]
+mod apart;
+#[cfg(test)]
+mod drill;
+#[cfg(test)]
+mod serve;

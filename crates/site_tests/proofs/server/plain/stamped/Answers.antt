@@ -1,0 +1,24 @@
+use Rattle.std.proofs.Common.{ap, arith, inl, inr, subst}
+use Rattle.zq_history.specs.Books.{Book}
+use Rattle.zq_model.specs.Sets.{IsIn}
+use Rattle.zq_server.proofs.OneHeap.{begun_heap, opening, opening_heap}
+use Rattle.site_tests.proofs.server.plain.stamped.Goals as goal
+
+pub begin-requires : goal.begin-requires
+begin-requires c =
+    let same = opening c.in_ok-books.books c.in_ok-books.ensures.number c.in_ok-books.ensures.empty in
+    record {
+      dated = (
+        c.requires,
+        λ book here. elim (subst (IsIn book) same here) [
+          | inl is ↦ let none = ap (λ (b : Book). b.stamp) is in omega (arith, none)
+          | inr none ↦ absurd none
+        ],
+      );
+    }
+
+pub invariant_of-result : goal.invariant_of-result
+invariant_of-result c =
+    let books = c.in_ok-books.books in
+    let same = opening books c.in_ok-books.ensures.number c.in_ok-books.ensures.empty in
+    begun_heap c.args.stamp books c.begin.new.self (opening_heap books same) c.begin.ensures.begun

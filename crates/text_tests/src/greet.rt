@@ -1,0 +1,208 @@
+//! Site 1 of four heaps and the rule Low hears what others say.
+
+use std::test::Fail;
+use zq_dots::{Rule, SiteNo};
+use zq_greet::{NONCE, Opening, Refusal, Secret, Side, hear_opening, write_greeting};
+
+const KEY: &[u8] = b"sixteen letters!";
+
+const NONCE_1: [u8; NONCE] = [0, 1, 2, 3, 4, 5, 6, 7, 8, 9, 10, 11, 12, 13, 14, 15];
+
+// What site 2 greets with, whose nonce is f0 to ff, and the answers that sites 1 and 2 then owe.
+const PLAIN_2: &[u8] = b"zq-peer\n\x01\x02\x04\x01\x00";
+
+const PROVED_2: &[u8] =
+    b"zq-peer\n\x01\x02\x04\x01\x01\xf0\xf1\xf2\xf3\xf4\xf5\xf6\xf7\xf8\xf9\xfa\xfb\xfc\xfd\xfe\xff";
+
+const OWED_1: &[u8; 32] =
+    b"\xcc\x31\x67\x06\xb1\x4e\xdf\x5c\xea\xd3\x04\x78\xfc\x8f\xdb\x78\x15\xbb\xa0\xf3\xdb\x97\xa4\x93\xd1\x82\x18\x79\x79\x81\xad\x20";
+
+const OWED_2: &[u8; 32] =
+    b"\x5a\xcc\xd1\xdf\xc3\x69\x37\xc4\x34\xec\x06\x72\xea\x51\x70\x74\x69\x90\x7e\x03\x60\xdc\x14\x5c\xfc\x20\x4f\x5c\xa7\xfc\x99\xaa";
+
+fn site(number: u8) -> Result<SiteNo, &'static str> {
+    SiteNo::new(number).ok_or("a site")
+}
+
+/// Hears with this secret, as a site that expects these peers.
+fn hear_closed<'a>(
+    own: SiteNo,
+    peers: &'a [SiteNo],
+    key: &'a [u8],
+    heard: &[u8],
+) -> Result<Opening, Refusal> {
+    let side = Side {
+        site: own,
+        heaps: 4,
+        rule: Rule::Low,
+        peers,
+        secret: Some(Secret {
+            key,
+            nonce: NONCE_1,
+        }),
+    };
+    hear_opening(&side, heard)
+}
+
+#[test]
+fn greetings_are_written(rt: HostRuntime) -> Result<(), Fail> {
+    let key = *b"sixteen letters!";
+    let open = Side {
+        site: site(1)?,
+        heaps: 4,
+        rule: Rule::Low,
+        peers: &[],
+        secret: None,
+    };
+    let closed = Side {
+        secret: Some(Secret {
+            key: &key,
+            nonce: NONCE_1,
+        }),
+        ..open
+    };
+    let mut out = Vec::new(rt.alloc());
+    write_greeting(&mut out, &open)?;
+    assert_eq!(rt; out.as_slice(), b"zq-peer\n\x01\x01\x04\x01\x00".as_slice());
+    out.clear();
+    write_greeting(&mut out, &closed)?;
+    let expected =
+        b"zq-peer\n\x01\x01\x04\x01\x01\x00\x01\x02\x03\x04\x05\x06\x07\x08\x09\x0a\x0b\x0c\x0d\x0e\x0f";
+    assert_eq!(rt; out.as_slice(), expected.as_slice());
+    Ok(())
+}
+
+#[test]
+fn a_peer_without_a_secret_is_welcome(rt: HostRuntime) -> Result<(), Fail> {
+    let peers = [site(5)?, site(2)?];
+    let side = Side {
+        site: site(1)?,
+        heaps: 4,
+        rule: Rule::Low,
+        peers: &peers,
+        secret: None,
+    };
+    for len in 0..PLAIN_2.len() {
+        let heard = &PLAIN_2[..len];
+        assert_eq!(rt; hear_opening(&side, heard), Ok(Opening::Waits));
+    }
+    let welcome = Opening::Welcome {
+        peer: site(2)?,
+        answer: None,
+        used: 13,
+    };
+    assert_eq!(rt; hear_opening(&side, PLAIN_2), Ok(welcome));
+    let with_frames = b"zq-peer\n\x01\x02\x04\x01\x00frames";
+    assert_eq!(rt; hear_opening(&side, with_frames), Ok(welcome));
+    Ok(())
+}
+
+#[test]
+fn a_peer_with_the_secret_is_welcome(rt: HostRuntime) -> Result<(), Fail> {
+    let peers = [site(2)?];
+    let own = site(1)?;
+    let mut heard = Vec::from_slice(rt.alloc(), PROVED_2)?;
+    let short = &PROVED_2[..28];
+    assert_eq!(rt; hear_closed(own, &peers, KEY, short), Ok(Opening::Waits));
+    for byte in OWED_2 {
+        let due = Opening::Answers { answer: *OWED_1 };
+        assert_eq!(rt; hear_closed(own, &peers, KEY, &heard), Ok(due));
+        heard.push(*byte)?;
+    }
+    let welcome = Opening::Welcome {
+        peer: site(2)?,
+        answer: Some(*OWED_1),
+        used: 61,
+    };
+    assert_eq!(rt; hear_closed(own, &peers, KEY, &heard), Ok(welcome));
+    heard.push(3)?;
+    assert_eq!(rt; hear_closed(own, &peers, KEY, &heard), Ok(welcome));
+    Ok(())
+}
+
+#[test]
+fn an_answer_that_is_sent_back_is_wrong(rt: HostRuntime) -> Result<(), Fail> {
+    let peers = [site(2)?];
+    let own = site(1)?;
+    for answer in [OWED_1, &[0; 32]] {
+        let mut heard = Vec::from_slice(rt.alloc(), PROVED_2)?;
+        heard.extend_from_slice(answer)?;
+        assert_eq!(rt; hear_closed(own, &peers, KEY, &heard), Err(Refusal::Answer));
+    }
+    Ok(())
+}
+
+#[test]
+fn the_first_thing_that_does_not_agree_is_named(rt: HostRuntime) -> Result<(), Fail> {
+    let refusals: [(&[u8], Refusal, &str); 8] = [
+        (
+            b"GET / HTTP/1.1\r\n",
+            Refusal::Magic,
+            "it does not greet as a site does",
+        ),
+        (
+            b"zq-peer\n\x02\x01",
+            Refusal::Version(2),
+            "it speaks version 2 of the protocol",
+        ),
+        (
+            b"zq-peer\n\x01\x01",
+            Refusal::SameSite,
+            "it has the number of this site",
+        ),
+        (
+            b"zq-peer\n\x01\x03\x05",
+            Refusal::Unexpected(3),
+            "site 3 is not expected",
+        ),
+        (
+            b"zq-peer\n\x01\x02\x05\x00",
+            Refusal::Heaps(5),
+            "it has 5 heaps",
+        ),
+        (
+            b"zq-peer\n\x01\x02\x04\x00\x00",
+            Refusal::Rule,
+            "it has another rule",
+        ),
+        (
+            b"zq-peer\n\x01\x02\x04\x02\x00",
+            Refusal::Rule,
+            "it has another rule",
+        ),
+        (
+            b"zq-peer\n\x01\x02\x04\x01\x01",
+            Refusal::SecretThere,
+            "it wants a secret, and this site has none",
+        ),
+    ];
+    let peers = [site(2)?];
+    let side = Side {
+        site: site(1)?,
+        heaps: 4,
+        rule: Rule::Low,
+        peers: &peers,
+        secret: None,
+    };
+    for (heard, refusal, words) in &refusals {
+        assert_eq!(rt; hear_opening(&side, heard), Err(*refusal));
+        let said = format!(in rt.alloc(); "{refusal}")?;
+        assert_eq!(rt; said.as_str(), *words);
+    }
+    Ok(())
+}
+
+#[test]
+fn a_peer_without_the_secret_is_refused(rt: HostRuntime) -> Result<(), Fail> {
+    let peers = [site(2)?];
+    let own = site(1)?;
+    assert_eq!(rt;
+        hear_closed(own, &peers, KEY, PLAIN_2),
+        Err(Refusal::SecretHere)
+    );
+    let here = format!(in rt.alloc(); "{}", Refusal::SecretHere)?;
+    assert_eq!(rt; here.as_str(), "it has no secret, and this site wants one");
+    let wrong = format!(in rt.alloc(); "{}", Refusal::Answer)?;
+    assert_eq!(rt; wrong.as_str(), "it does not know the secret");
+    Ok(())
+}

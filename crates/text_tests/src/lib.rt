@@ -1,0 +1,20 @@
+//! Tests of what reads and writes bytes: fields, requests and replies, words, settings, streams, greetings, tags, and
+//! what waits for a peer.
+#![tactic(auto)]
+
+#[cfg(test)]
+mod fields;
+#[cfg(test)]
+mod greet;
+#[cfg(test)]
+mod mac;
+#[cfg(test)]
+mod outbox;
+#[cfg(test)]
+mod resp;
+#[cfg(test)]
+mod settings;
+#[cfg(test)]
+mod stream;
+#[cfg(test)]
+mod words;

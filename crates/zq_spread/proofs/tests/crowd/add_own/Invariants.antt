@@ -1,5 +1,0 @@
-use Rattle.zq_spread.proofs.tests.crowd.add_own.Given as goal
-use Rattle.zq_spread.specs.Passes.{IsPassOf}
-
-abbrev pub invariant-loop-call : goal.invariant-loop-call
-invariant-loop-call g l = IsPassOf l.site l.pass

@@ -1,5 +1,0 @@
-use Rattle.zq_spread.proofs.tests.cutting.look_at_given.Given as goal
-use Rattle.zq_spread.specs.Passes.{IsPassOf}
-
-abbrev pub invariant-loop-operations : goal.invariant-loop-operations
-invariant-loop-operations g l = IsPassOf l.site l.pass

@@ -1,5 +1,0 @@
-use Rattle.zq_spread.proofs.tests.exchanging.merge.Given as goal
-use Rattle.zq_spread.specs.Passes.{IsPassOf}
-
-abbrev pub invariant-loop-heap : goal.invariant-loop-heap
-invariant-loop-heap g l = IsPassOf l.from l.giver × IsPassOf l.to l.taker

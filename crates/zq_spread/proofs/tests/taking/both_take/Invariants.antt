@@ -1,5 +1,0 @@
-use Rattle.zq_spread.proofs.tests.taking.both_take.Given as goal
-use Rattle.zq_spread.specs.Passes.{IsPassOf}
-
-abbrev pub invariant-loop-heap : goal.invariant-loop-heap
-invariant-loop-heap g l = IsPassOf l.site l.first × IsPassOf l.site l.second
