@@ -17,8 +17,8 @@ begin-requires c =
       );
     }
 
-pub invariant_of-result : goal.invariant_of-result
-invariant_of-result c =
+pub of_books-requires : goal.of_books-requires
+of_books-requires c =
     let books = c.in_ok-books.books in
     let same = opening books c.in_ok-books.ensures.number c.in_ok-books.ensures.empty in
     begun_heap c.args.stamp books c.begin.new.self (opening_heap books same) c.begin.ensures.begun
