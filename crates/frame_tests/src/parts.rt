@@ -1,10 +1,10 @@
 //! A call of each reader and writer.
 
 use std::test::Fail;
-use zq_dots::{Score, SiteNo, Vector};
+use zq_dots::{Rule, Score, SiteNo, Vector};
 use zq_parts::{
-    HeapNo, PartFault, read_dense, read_heap, read_score, read_site, read_sparse, read_text,
-    sparse_len, write_score, write_sparse, write_text,
+    HeapNo, PartFault, read_dense, read_heap, read_rule, read_score, read_site, read_sparse,
+    read_text, rule_byte, sparse_len, write_score, write_sparse, write_text,
 };
 
 // 3 of site 0 and all of site 63.
@@ -61,5 +61,14 @@ fn heaps_scores_and_texts_are_read(rt: HostRuntime) -> Result<(), Fail> {
     let mut rest = b"\x04\x03\x3f".as_slice();
     assert_eq!(rt; read_heap(3, &mut rest)?, HeapNo { heap: 3, heaps: 4 });
     assert_eq!(rt; read_site(3, &mut rest, 0, 64)?.value(), 63);
+    Ok(())
+}
+
+#[test]
+fn rules_are_read_by_their_bytes(rt: HostRuntime) -> Result<(), Fail> {
+    let mut rest = b"\x01\x02".as_slice();
+    let rule = read_rule(2, &mut rest)?;
+    assert_eq!(rt; (rule, rule_byte(rule)), (Rule::Low, 1));
+    assert_eq!(rt; read_rule(2, &mut rest), Err(PartFault::Field(1)));
     Ok(())
 }

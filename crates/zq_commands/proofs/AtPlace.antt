@@ -1,7 +1,7 @@
--- A book at a place, and the homes of members under a move.
+-- The homes of members under a move, and the queues after it.
 
-use Rattle.std.proofs.Common.{List, Some, [], ap, arith, false, length, refl, suc, true, zero, ℕ, ◌<◌, ◌∙◌, ◌∷◌, ◌≡◌}
-use Rattle.std.specs.Prelude.{if◌then◌else◌, slice_get}
+use Rattle.std.proofs.Common.{List, ap, false, true, ℕ, ◌<◌, ◌∙◌, ◌≡◌}
+use Rattle.std.specs.Prelude.{if◌then◌else◌}
 use Rattle.zq_commands.specs.Lending.{HasBook, IsLending, Lending, lent_after, queues_in}
 use Rattle.zq_history.specs.Books.{Book}
 use Rattle.zq_model.proofs.Maps.{in_map}
@@ -9,11 +9,6 @@ use Rattle.zq_model.specs.Sets.{SITES}
 use Rattle.zq_moves.proofs.QueuesAfter.{queues_after}
 use Rattle.zq_moves.specs.Lent.{is_home, is_home_of, made_in}
 use Rattle.zq_moves.specs.Moves.{Move, after}
-
-pub at_place : {X : Type 0} (xs : List X) (i : ℕ) → i < length xs → (x : X) × (slice_get xs i ≡ Some x)
-at_place [] i within = absurd (omega (arith, within))
-at_place (x ∷ xs) zero within = (x, refl)
-at_place (x ∷ xs) (suc i) within = at_place xs i (omega (arith, within))
 
 -- each member that has a book has it after a move
 pub home_kept : (site stamp : ℕ) (move : Move) (key member : List ℕ) (lent : Lending) → HasBook key member lent → HasBook key member (lent_after site stamp move lent)

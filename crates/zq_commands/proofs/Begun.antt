@@ -1,9 +1,7 @@
 -- The books with which a call of a site begins.
 
-use Rattle.std.proofs.Common.{[], List, None, Some, ap, arith, length, map, option_map, refl, subst, sym, ℕ, ◌∙◌, ◌∷◌, ◌≡◌}
+use Rattle.std.proofs.Common.{[], List, ap, arith, length, map, refl, subst, sym, ℕ, ◌∙◌, ◌∷◌, ◌≡◌}
 use Rattle.std.proofs.lemmas.List.{length-map}
-use Rattle.std.proofs.lemmas.Option.{none-some, same_Some, slice_get-map}
-use Rattle.std.specs.Prelude.{slice_get}
 use Rattle.zq_commands.specs.Beginning.{begun}
 use Rattle.zq_commands.specs.Lending.{IsDated}
 use Rattle.zq_commands.specs.SiteBooks.{AreOfSite, IsBookOf}
@@ -12,14 +10,7 @@ use Rattle.zq_history.specs.Books.{Book}
 use Rattle.zq_model.proofs.Listing.{in_map_from}
 use Rattle.zq_model.specs.Bounded.{IsBounded}
 use Rattle.zq_model.specs.Sets.{IsHeaps}
-
--- what is read of a mapped list is mapped
-mapped_at : {X Y : Type 0} (f : X → Y) (xs : List X) (i : ℕ) (y : Y) → slice_get (map f xs) i ≡ Some y → (x : X) × (slice_get xs i ≡ Some x) × (f x ≡ y)
-mapped_at {X = X} f xs i y at =
-    elim (slice_get xs i) as (λ r. slice_get xs i ≡ r → option_map f r ≡ Some y → (x : X) × (slice_get xs i ≡ Some x) × (f x ≡ y)) [
-      | None ↦ λ _ e. absurd (none-some y e)
-      | Some x ↦ λ found e. (x, found, same_Some (f x) y e)
-    ] refl (sym (slice_get-map f xs i) ∙ at)
+use Rattle.zq_posheap.proofs.Lists.{behind}
 
 module _ (stamp : ℕ) where
   pub rule_begun : (books : List Book) → rule_in (map (begun stamp) books) ≡ rule_in books
@@ -32,7 +23,7 @@ module _ (stamp : ℕ) where
       record {
         number = subst IsHeaps (sym number) are.number;
         each = λ heap book at.
-            let from = mapped_at (begun stamp) books heap book at in
+            let from = behind (begun stamp) books heap book at in
             let its = are.each heap from.0 from.1 in
             subst (IsBookOf (length (map (begun stamp) books)) (rule_in (map (begun stamp) books)) heap) from.2 (record {
               heap_is = its.heap_is;

@@ -51,7 +51,7 @@ module _ (site stamp : ℕ) (move : Move) where
 
   -- ---- the one book of the member's heap
 
-  home_heap : (K : ℕ) (b : Book) → IsLent K b → is_home move b ≡ true → heap_of move.key move.member K ≡ b.heap
+  pub home_heap : (K : ℕ) (b : Book) → IsLent K b → is_home move b ≡ true → heap_of move.key move.member K ≡ b.heap
   home_heap K b lent home = ap (heap_of move.key move.member) (sym lent.heaps) ∙ eqb-true _ _ home
 
   away : (K : ℕ) (b c : Book) → IsLent K b → IsLent K c → is_home move b ≡ true → b.heap ≢ c.heap → moved c ≡ c

@@ -4,13 +4,13 @@ use Rattle.std.proofs.Common.{Bool, List, Some, [], ap, arith, length, sym, ℕ,
 use Rattle.std.proofs.lemmas.List.{take_all}
 use Rattle.std.proofs.lemmas.List.Sums.{sum_by-append, sum_by-cons}
 use Rattle.std.specs.Prelude.{count_by, slice_get, sum_by, take}
-use Rattle.zq_commands.proofs.AtPlace.{at_place}
 use Rattle.zq_commands.proofs.InTurn.{take_next}
 use Rattle.zq_commands.specs.Lending.{IsLending, Lending, queues_in}
 use Rattle.zq_history.specs.Books.{Book}
 use Rattle.zq_model.specs.Meaning.{Scored}
 use Rattle.zq_moves.proofs.Counted.{counted, measured}
 use Rattle.zq_moves.specs.Lent.{queues_of}
+use Rattle.zq_posheap.proofs.Lists.{there_is}
 
 -- the number of members of a key in a book
 abbrev pub members_in : Lending → List ℕ → Book → ℕ
@@ -27,7 +27,7 @@ upto count books place = sum_by count (take place books)
 pub upto_next : (count : Book → ℕ) (books : List Book) (place n : ℕ) → place < length books → ((book : Book) → slice_get books place ≡ Some book → n ≡ count book) →
     upto count books (place + 1) ≡ upto count books place + n
 upto_next count books place n within each =
-    let book = at_place books place within in
+    let book = there_is books place within in
     let its = each book.0 book.1 in
     let longer = ap (sum_by count) (take_next books place book.0 book.1) ∙ sum_by-append count (take place books) (book.0 ∷ []) in
     let last = sum_by-cons count book.0 [] in

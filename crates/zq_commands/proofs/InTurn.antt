@@ -1,5 +1,6 @@
 -- The parts of a command, one after the other.
 
+use Rattle.std.proofs.lemmas.Option.{same_Some}
 use Rattle.std.specs.Prelude.{List, Option, Some, [], drop, if◌then◌else◌, length, refl, slice_get, take, ℕ, ◌++◌, ◌+◌, ◌∷◌, ◌≡◌, ◌≤◌}
 use Rattle.std.proofs.Common.{ap, arith, suc, sym, zero, zero-add, ◌∙◌}
 use Rattle.std.proofs.Math.Seq.{take-append_seam}
@@ -14,12 +15,9 @@ use Rattle.zq_moves.specs.Lent.{books_after, made}
 use Rattle.zq_moves.specs.Moves.{Move, Queues, after, after_all}
 use Rattle.zq_plans.specs.Plan.{Part, count_in_turn, moves_in_turn}
 
-some_eq : {X : Type 0} {x y : X} → Some x ≡ Some y → x ≡ y
-some_eq e = cc
-
 pub take_next : {X : Type 0} (xs : List X) (i : ℕ) (x : X) → slice_get xs i ≡ Some x → take (i + 1) xs ≡ take i xs ++ x ∷ []
 take_next [] i x at = cc
-take_next (y ∷ xs) zero x at = ap (λ z. z ∷ []) (some_eq at)
+take_next (y ∷ xs) zero x at = ap (λ z. z ∷ []) (same_Some y x at)
 take_next (y ∷ xs) (suc i) x at = let next : suc i + 1 ≡ suc (i + 1) = omega arith in ap (λ n. take n (y ∷ xs)) next ∙ ap (λ ys. y ∷ ys) (take_next xs i x at)
 
 pub after_all-append : (xs ys : List Move) (s : Queues) → after_all (xs ++ ys) s ≡ after_all ys (after_all xs s)

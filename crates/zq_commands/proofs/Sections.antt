@@ -13,6 +13,7 @@ use Rattle.std.specs.Prelude.{count_by, filter, slice_range}
 use Rattle.zq_commands.proofs.Woven.{AreInOrder, turned_order}
 use Rattle.zq_commands.specs.Sections.{is_entered}
 use Rattle.zq_commands.specs.Weaving.{goes_before}
+use Rattle.zq_model.proofs.Membership.{in_taken}
 use Rattle.zq_model.specs.Meaning.{IsRising, Scored}
 use Rattle.zq_model.specs.Sets.{IsIn}
 use Rattle.zq_moves.specs.Moves.{Queue}
@@ -47,12 +48,6 @@ take_taken (suc n) (suc m) k [] least = sym (take_none [] k refl)
 take_taken (suc n) (suc m) k (x ∷ xs) least =
     let more : suc (k - 1) ≡ k = omega (arith, least) in
     ap (λ ys. x ∷ ys) (take_taken n m (k - 1) xs (omega (arith, least))) ∙ ap (λ i. take i (x ∷ xs)) more
-
-in_taken : (k : ℕ) (q : Queue) (y : Scored) → IsIn y (take k q) → IsIn y q
-in_taken zero q y here = absurd here
-in_taken (suc k) [] y here = absurd here
-in_taken (suc k) (x ∷ q) y (inl same) = inl same
-in_taken (suc k) (x ∷ q) y (inr later) = inr (in_taken k q y later)
 
 -- ---- what is kept of a list, and how many
 
@@ -141,7 +136,7 @@ module _ (t : Bool) (p : Scored → Bool) where
             let none = count_none (λ y. not (p y)) q (λ y here. ap not (later y here)) in
             let one : ones (λ y. not (p y)) x ≡ 0 = ap (λ b. number_of (not b)) e in
             let zero_ : count_by (λ y. not (p y)) (x ∷ q) ≡ 0 = omega (arith, first, none, one) in
-            cond-true (p x) (x ∷ filter p (take k q)) (filter p (take k q)) e ∙ ap (λ r. x ∷ r) (all_pass p (take k q) (λ y here. later y (in_taken k q y here)))
+            cond-true (p x) (x ∷ filter p (take k q)) (filter p (take k q)) e ∙ ap (λ r. x ∷ r) (all_pass p (take k q) (λ y here. later y (in_taken y k q here)))
             ∙ ap (λ n. drop n (x ∷ take k q)) (sym zero_)
         | false ↦ λ e.
             let one : ones (λ y. not (p y)) x ≡ 1 = ap (λ b. number_of (not b)) e in

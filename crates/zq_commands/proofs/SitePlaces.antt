@@ -1,50 +1,33 @@
 -- The books of all heaps of a site can be lent to every command, and work at one place leaves them such books.
 
-use Rattle.std.proofs.Common.{All, List, Some, [], ap, arith, get_or, inl, inr, length, mod-lt, refl, set, subst, suc, sym, zero, ℕ, ◌++◌, ◌+◌, ◌<◌, ◌∙◌, ◌∷◌, ◌≡◌, ◌≤◌, ◌⊎◌}
+use Rattle.std.proofs.Common.{All, List, Some, [], ap, arith, get_or, inl, inr, length, refl, set, subst, suc, sym, zero, ℕ, ◌++◌, ◌+◌, ◌<◌, ◌∙◌, ◌∷◌, ◌≡◌, ◌≤◌, ◌⊎◌}
 use Rattle.std.proofs.lemmas.Bool.{cases_eq, eq-eqb}
 use Rattle.std.proofs.lemmas.List.{length-set}
 use Rattle.std.proofs.lemmas.Option.{same_Some, slice_get_within}
 use Rattle.std.specs.Prelude.{slice_get}
-use Rattle.zq_commands.proofs.VecBooks.{get_set, get_set_other}
 use Rattle.zq_commands.specs.Commands.{HasBooks}
 use Rattle.zq_commands.specs.Lending.{HasBook, IsDated, IsLending}
 use Rattle.zq_commands.specs.SiteBooks.{AreOfSite, IsBookOf, IsKept, empty_book}
 use Rattle.zq_commands.specs.VecBooks.{heaps_in, lending_of, rule_in}
 use Rattle.zq_history.specs.Books.{Book}
+use Rattle.zq_model.proofs.MeantQueues.{heap_in_range}
 use Rattle.zq_model.specs.Bounded.{IsBounded}
 use Rattle.zq_model.specs.Heaps.{heap_of}
 use Rattle.zq_model.specs.Rule.{Rule}
-use Rattle.zq_model.specs.Sets.{IsHeaps, IsIn}
-use Rattle.zq_moves.proofs.Read.{in_place}
+use Rattle.zq_model.specs.Sets.{IsHeaps}
+use Rattle.zq_moves.proofs.Read.{in_place, placed_in}
 use Rattle.zq_moves.specs.Lent.{AreLent, IsLent}
+use Rattle.zq_posheap.proofs.Lists.{slice_get-set_other, slice_get-set_same, there_is}
 use Rattle.zq_words.specs.Command.{Command, Del, Ping, Zadd, ZaddIncr, Zcard, Zcount, Zincrby, Zpopmin, Zpopnear, Zrange, Zrank, Zrem, Zrevrank, Zscore}
 
--- ---- elements and their places
-
--- what stands in a list stands at a place
-pub place_in : {X : Type 0} (x : X) (xs : List X) → IsIn x xs → (i : ℕ) × (slice_get xs i ≡ Some x)
-place_in x [] i = absurd i
-place_in x (y ∷ xs) (inl e) = (0, ap (λ z. Some z) e)
-place_in x (y ∷ xs) (inr there) = let rest = place_in x xs there in (suc rest.0, rest.1)
-
--- a place inside a list has an element
-pub element_at : {X : Type 0} (xs : List X) (i : ℕ) → i < length xs → (x : X) × (slice_get xs i ≡ Some x)
-element_at [] i inside = absurd (omega (arith, inside))
-element_at (x ∷ xs) zero inside = (x, refl)
-element_at (x ∷ xs) (suc i) inside = element_at xs i (omega (arith, inside))
-
 -- ---- lent
-
-heap_in_range : (key member : List ℕ) (K : ℕ) → 0 < K → heap_of key member K < K
-unfolding heap_of
-heap_in_range key member K some = mod-lt _ some
 
 lent_from : (K n : ℕ) (books : List Book) → ((i : ℕ) (b : Book) → slice_get books i ≡ Some b → (b.heap ≡ n + i) × IsLent K b) → AreLent K books
 lent_from K n [] each = tt
 lent_from K n (b ∷ books) each = (
   (each 0 b refl).1,
   λ later here.
-      let at = place_in later books here in
+      let at = placed_in later books here in
       let low = (each 0 b refl).0 in
       let high = (each (suc at.0) later at.1).0 in
       omega (arith, low, high),
@@ -64,7 +47,7 @@ module _ (books : List Book) (are : AreOfSite books) where
     books = subst (λ K. AreLent K books) (sym heaps_are) (lent_from (length books) 0 books (λ i b is.
         let it = are.each i b is in
         (omega (arith, it.heap_is), record { heaps = it.heaps; bounded = it.bounded })));
-    ruled = λ b here. let at = place_in b books here in (are.each at.0 b at.1).ruled;
+    ruled = λ b here. let at = placed_in b books here in (are.each at.0 b at.1).ruled;
   }
 
   -- each member of each key lies in one of the heaps
@@ -73,7 +56,7 @@ module _ (books : List Book) (are : AreOfSite books) where
       let K = length books in
       let heap = heap_of key member K in
       let some : 0 < K = omega (arith, are.number.0) in
-      let at = element_at books heap (heap_in_range key member K some) in
+      let at = there_is books heap (heap_in_range key member K some) in
       let it = are.each heap at.0 at.1 in
       (at.0, in_place books heap at.0 at.1, eq-eqb _ _ (ap (heap_of key member) it.heaps ∙ sym it.heap_is))
 
@@ -121,9 +104,9 @@ module _ (books : List Book) (place : ℕ) (old new : Book) (is : slice_get book
       let each : (i : ℕ) (b : Book) → slice_get (set books place new) i ≡ Some b → IsBookOf K (rule_in books) i b = λ i b at.
       elim (cases_eq i place) [
         | inl same ↦
-            let it : new ≡ b = same_Some new b (sym (get_set books place new inside) ∙ ap (slice_get (set books place new)) (sym same) ∙ at) in
+            let it : new ≡ b = same_Some new b (sym (slice_get-set_same books place new inside) ∙ ap (slice_get (set books place new)) (sym same) ∙ at) in
             subst (λ (c : Book). IsBookOf K (rule_in books) i c) it (subst (λ (j : ℕ). IsBookOf K (rule_in books) j new) (sym same) its)
-        | inr other ↦ are.each i b (sym (get_set_other books place i new other) ∙ at)
+        | inr other ↦ are.each i b (sym (slice_get-set_other books place i new other) ∙ at)
       ] in
       record {
         number = subst (λ n. (1 ≤ n) × (n ≤ 16)) (sym number) are.number;
@@ -134,12 +117,12 @@ module _ (books : List Book) (place : ℕ) (old new : Book) (is : slice_get book
   dated_set stamp dated low = (
     dated.0,
     λ b here.
-        let at = place_in b (set books place new) here in
+        let at = placed_in b (set books place new) here in
         elim (cases_eq at.0 place) [
           | inl same ↦
-              let it : new ≡ b = same_Some new b (sym (get_set books place new (slice_get_within books place old is)) ∙ ap (slice_get (set books place new)) (sym same) ∙ at.1) in
+              let it : new ≡ b = same_Some new b (sym (slice_get-set_same books place new (slice_get_within books place old is)) ∙ ap (slice_get (set books place new)) (sym same) ∙ at.1) in
               subst (λ (c : Book). c.stamp ≤ stamp) it low
-          | inr other ↦ dated.1 b (in_place books at.0 b (sym (get_set_other books place at.0 new other) ∙ at.1))
+          | inr other ↦ dated.1 b (in_place books at.0 b (sym (slice_get-set_other books place at.0 new other) ∙ at.1))
         ],
   )
 

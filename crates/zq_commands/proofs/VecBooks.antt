@@ -1,6 +1,6 @@
 -- Books of which one was worked on, at its place.
 
-use Rattle.std.proofs.Common.{Bool, List, Some, [], ap, arith, false, inl, inr, length, refl, set, subst, suc, sym, true, zero, ℕ, ◌<◌, ◌∙◌, ◌∷◌, ◌≡◌, ◌≢◌, ◌||◌, ◌⊎◌}
+use Rattle.std.proofs.Common.{Bool, List, Some, ap, false, inl, inr, refl, set, subst, sym, true, ℕ, ◌∙◌, ◌≡◌, ◌||◌, ◌⊎◌}
 use Rattle.std.proofs.lemmas.Bool.{cases_eq, eq-eqb, eqb-true}
 use Rattle.std.proofs.lemmas.List.{length-set}
 use Rattle.std.proofs.lemmas.Option.{same_Some, slice_get_within}
@@ -11,22 +11,7 @@ use Rattle.zq_history.specs.Books.{Book}
 use Rattle.zq_journal.specs.Books.{LAST_STAMP}
 use Rattle.zq_model.specs.Sets.{LAST}
 use Rattle.zq_plans.specs.Run.{is_worn}
-
--- ---- an element at its place
-
--- a list with an element at a place has it there,
-pub get_set : {X : Type 0} (xs : List X) (i : ℕ) (x : X) → i < length xs → slice_get (set xs i x) i ≡ Some x
-get_set [] i x within = absurd (omega (arith, within))
-get_set (y ∷ xs) zero x within = refl
-get_set (y ∷ xs) (suc i) x within = get_set xs i x (omega (arith, within))
-
--- and the others at theirs
-pub get_set_other : {X : Type 0} (xs : List X) (i j : ℕ) (x : X) → j ≢ i → slice_get (set xs i x) j ≡ slice_get xs j
-get_set_other [] i j x other = refl
-get_set_other (y ∷ xs) zero zero x other = absurd (other refl)
-get_set_other (y ∷ xs) zero (suc j) x other = refl
-get_set_other (y ∷ xs) (suc i) zero x other = refl
-get_set_other (y ∷ xs) (suc i) (suc j) x other = get_set_other xs i j x (λ same. other (ap suc same))
+use Rattle.zq_posheap.proofs.Lists.{slice_get-set_other, slice_get-set_same}
 
 -- one of the books was worked on, and the others were left
 pub recorded_at : (books : List Book) (place : ℕ) (old new : Book) → slice_get books place ≡ Some old → IsRecordedOn old new → AreRecordedOn books (set books place new)
@@ -35,10 +20,10 @@ recorded_at books place old new is worked = record {
   each = λ i before later was then. elim (cases_eq i place) [
     | inl same ↦
         let first : before ≡ old = same_Some before old (sym was ∙ ap (slice_get books) same ∙ is) in
-        let second : new ≡ later = same_Some new later (sym (get_set books place new (slice_get_within books place old is)) ∙ ap (slice_get (set books place new)) (sym same) ∙ then) in
+        let second : new ≡ later = same_Some new later (sym (slice_get-set_same books place new (slice_get_within books place old is)) ∙ ap (slice_get (set books place new)) (sym same) ∙ then) in
         subst (λ b. IsRecordedOn b later) (sym first) (subst (IsRecordedOn old) second worked)
     | inr other ↦
-        subst (IsRecordedOn before) (same_Some before later (sym was ∙ sym (get_set_other books place i new other) ∙ then)) (recorded_itself before)
+        subst (IsRecordedOn before) (same_Some before later (sym was ∙ sym (slice_get-set_other books place i new other) ∙ then)) (recorded_itself before)
   ];
 }
 

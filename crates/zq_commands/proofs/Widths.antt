@@ -1,9 +1,11 @@
 -- A score in a book within bounds is not wide.
 
-use Rattle.std.proofs.Common.{List, None, Option, Some, [], arith, length, pos, subst, suc, sym, ℕ, ℤ, ◌*◌, ◌<◌, ◌∷◌, ◌≡◌, ◌≤◌}
+use Rattle.std.proofs.Common.{List, None, Option, Some, [], arith, length, pos, subst, suc, sym, ℕ, ℤ, ◌*◌, ◌<◌, ◌∷◌, ◌≡◌}
 use Rattle.std.proofs.lemmas.Int.{ints}
 use Rattle.std.specs.Prelude.{IfSome, slice_index, slice_index_or}
 use Rattle.zq_commands.specs.Wide.{IsWide}
+use Rattle.zq_entry.proofs.SumLemmas.{counter-within}
+use Rattle.zq_entry.specs.Sums.{MOST_SUM}
 use Rattle.zq_history.specs.Books.{Book}
 use Rattle.zq_model.proofs.Preferred.{score_reached}
 use Rattle.zq_model.specs.Entry.{Addition, sum_at}
@@ -11,26 +13,18 @@ use Rattle.zq_model.specs.Image.{entry_at}
 use Rattle.zq_model.specs.Operation.{IsWithin, MOST}
 use Rattle.zq_model.specs.Rule.{Rule}
 use Rattle.zq_model.specs.Score.{score_of, total, value_of}
-use Rattle.zq_model.specs.Sets.{IsIn, LAST, SITES}
+use Rattle.zq_model.specs.Sets.{IsIn, SITES}
 use Rattle.zq_moves.proofs.Homes.{lent_each}
 use Rattle.zq_moves.specs.Lent.{AreLent}
 
--- 2 to the 53rd times the last counter
-abbrev SUM : ℕ
-SUM = 9007199254740992 * 281474976710655
-
-total_within : (sums : List ℤ) → ((t : ℕ) → t < length sums → IsWithin SUM (slice_index_or sums t (pos 0))) → IsWithin (length sums * SUM) (total sums)
+total_within : (sums : List ℤ) → ((t : ℕ) → t < length sums → IsWithin MOST_SUM (slice_index_or sums t (pos 0))) → IsWithin (length sums * MOST_SUM) (total sums)
 total_within [] each = (omega (arith, ints), omega (arith, ints))
 total_within (x ∷ sums) each =
     let first = each 0 (omega arith) in
     let rest = total_within sums (λ t below. each (suc t) (omega (arith, below))) in
     (omega (arith, ints, first.0, rest.0), omega (arith, ints, first.1, rest.1))
 
-within_last : (n : ℕ) (x : ℤ) → n ≤ LAST → IsWithin (MOST * n) x → IsWithin SUM x
-unfolding LAST
-within_last n x most within = (omega (arith, ints), omega (arith, ints))
-
-value_wide : (a : Addition) → length a.sums ≡ SITES → IsWithin MOST a.score → IsWithin (length a.sums * SUM) (total a.sums) → IsWide (value_of a)
+value_wide : (a : Addition) → length a.sums ≡ SITES → IsWithin MOST a.score → IsWithin (length a.sums * MOST_SUM) (total a.sums) → IsWide (value_of a)
 unfolding SITES
 value_wide a wide score sums = (omega (arith, ints), omega (arith, ints))
 
@@ -41,5 +35,5 @@ score_wide rule K books key m b are here (Some x) is =
     let value = score_reached rule (entry_at b.state.members (key, m)) x (sym is) in
     let bounds = lent.bounded.additions key m value.0 value.1 value.2 in
     let sums = total_within value.1.sums (λ t below.
-    within_last (slice_index b.state.vector t) (sum_at value.1 t) (lent.bounded.counters.bounded t) (bounds.sums t (omega (arith, below, bounds.wide)))) in
+    counter-within (slice_index b.state.vector t) (sum_at value.1 t) (lent.bounded.counters.bounded t) (bounds.sums t (omega (arith, below, bounds.wide)))) in
     subst IsWide value.3 (value_wide value.1 bounds.wide bounds.score sums)

@@ -1,11 +1,11 @@
 -- Lists of a counter for each site.
 
 use Rattle.std.specs.List.{range_with_len}
-use Rattle.std.proofs.Common.{inl, inr, zero, suc, ◌+◌, List, arith, ℕ, get_or, length, refl, ◌<◌, ◌≡◌, map}
+use Rattle.std.proofs.Common.{inl, inr, zero, suc, ◌+◌, List, arith, ℕ, get_or, refl, ◌≡◌, map}
 use Rattle.std.proofs.lemmas.Bool.{cases_lt}
-use Rattle.std.proofs.lemmas.List.FromFn.{fill_by_all, get_or-map-range_with_len, length-map-range_with_len}
 use Rattle.std.proofs.lemmas.List.{get_or_past}
 use Rattle.std.specs.Prelude.{max}
+use Rattle.zq_model.proofs.Sites.{by_site-at, length-by_site}
 use Rattle.zq_model.specs.Image.{join_vector}
 use Rattle.zq_model.specs.Sets.{IsCounters, LAST, SITES, by_site}
 
@@ -17,16 +17,6 @@ sites_is = refl
 pub last_is : LAST ≡ 281474976710655
 unfolding LAST
 last_is = refl
-
-pub length-by_site : {X : Type 0} (f : ℕ → X) → length (by_site f) ≡ SITES
-length-by_site f = length-map-range_with_len f 0 SITES
-
-pub get_or-by_site : {X : Type 0} (f : ℕ → X) (t : ℕ) (d : X) → t < SITES → get_or (by_site f) t d ≡ f t
-get_or-by_site f t d h = get_or-map-range_with_len f 0 SITES t t d h (omega arith)
-
--- a list with a value for each site is that of these values
-pub by_site_of : {X : Type 0} (f : ℕ → X) (xs : List X) (d : X) → length xs ≡ SITES → ((t : ℕ) → t < SITES → get_or xs t d ≡ f t) → xs ≡ by_site f
-by_site_of f xs d e h = fill_by_all f xs SITES d e h
 
 get_or-no_counters : (t n a : ℕ) → ◌≡◌ {A = ℕ} (get_or (map (λ _. 0) (range_with_len a n)) t 0) 0
 get_or-no_counters t zero a = refl
@@ -45,7 +35,7 @@ pub joined_counters : (u v : List ℕ) → IsCounters u → IsCounters v → IsC
 joined_counters u v f g = record {
   wide = length-by_site (λ t. max (get_or u t 0) (get_or v t 0));
   bounded = λ t. elim (cases_lt t SITES) [
-    | inl h ↦ rw (get_or-by_site (λ t. max (get_or u t 0) (get_or v t 0)) t 0 h) (let a = f.bounded t in let b = g.bounded t in omega arith)
+    | inl h ↦ rw (by_site-at (λ t. max (get_or u t 0) (get_or v t 0)) t 0 h) (let a = f.bounded t in let b = g.bounded t in omega arith)
     | inr h ↦ rw (get_or_past (join_vector u v) t 0 (omega (arith, length-by_site (λ t. max (get_or u t 0) (get_or v t 0))))) (omega arith)
   ];
 }

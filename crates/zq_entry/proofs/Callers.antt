@@ -7,6 +7,9 @@ use Rattle.std.proofs.lemmas.Int.{ints}
 use Rattle.std.proofs.lemmas.List.{get_or_past}
 use Rattle.std.specs.List.{list_all, range_with_len}
 use Rattle.std.specs.Prelude.{List, None, Option, Some, [], is_none, map, nat_lt, pos, slice_index, slice_index_or, slice_set, ℕ, ℤ, ◌*◌, ◌+ℤ◌, ◌-◌, ◌<◌, ◌==◌, ◌≤◌, ◌∷◌, ◌&&◌, if◌then◌else◌}
+use Rattle.zq_model.proofs.BoundedImages.{without_some}
+use Rattle.zq_model.proofs.Bounds.{within_more, within_zero}
+use Rattle.zq_model.proofs.Entries.{at_stands}
 use Rattle.zq_model.proofs.Sites.{by_site-at, by_site-past, by_site-same, by_site_from}
 use Rattle.zq_model.specs.Entry.{Addition, after_act, bumped, bumped_if, join_site, joined, or_else, sum_at, unless_known, without}
 use Rattle.zq_model.specs.Image.{Entry, addition_at, entry_after, is_bare, join_entry, join_vector, no_additions}
@@ -24,29 +27,19 @@ record IsAdditionWithin (v : List ℕ) (s : ℕ) (a : Addition) : Type 0 where
   known : IsKnown v s a.n
   sums : (t : ℕ) → IsWithin (MOST * slice_index v t) (sum_at a t)
 
-wider : (b c : ℕ) (x : ℤ) → b ≤ c → IsWithin b x → IsWithin c x
-wider b c x l h = (omega (arith, ints), omega (arith, ints))
-
 nothing-within : (b : ℕ) (x : ℤ) → x ≡ pos 0 → IsWithin b x
-nothing-within b x e = (omega (arith, ints), omega (arith, ints))
+nothing-within b x e = subst (IsWithin b) (sym e) (within_zero b)
 
 grows : (v w : List ℕ) (s : ℕ) (a : Addition) → ((t : ℕ) → slice_index v t ≤ slice_index w t) → IsAdditionWithin v s a → IsAdditionWithin w s a
 grows v w s a g h = record {
   known = (h.known.0, omega (arith, h.known.1, g s));
-  sums = λ t. wider (MOST * slice_index v t) (MOST * slice_index w t) (sum_at a t) (omega (arith, g t)) (h.sums t);
+  sums = λ t. within_more (MOST * slice_index v t) (MOST * slice_index w t) (sum_at a t) (omega (arith, g t)) (h.sums t);
 }
-
-at-stands : (f : ℕ → Option Addition) (s : ℕ) (a : Addition) → addition_at (by_site f) s ≡ Some a → (s < SITES) × (f s ≡ Some a)
-at-stands f s a h =
-    elim (cases_lt s SITES) [
-      | inl l ↦ (l, sym (by_site-at f s None l) ∙ h)
-      | inr m ↦ absurd (let past = by_site-past f s None m in cc)
-    ]
 
 from-each : (v : List ℕ) (f : ℕ → Option Addition) → ((s : ℕ) (a : Addition) → s < SITES → f s ≡ Some a → IsAdditionWithin v s a) → IsEntryWithin v (by_site f)
 from-each v f h = record {
-  known = λ s a e. let at = at-stands f s a e in (h s a at.0 at.1).known;
-  sums = λ t s a e. let at = at-stands f s a e in (h s a at.0 at.1).sums t;
+  known = λ s a e. let at = at_stands f s a e in (h s a at.0 at.1).known;
+  sums = λ t s a e. let at = at_stands f s a e in (h s a at.0 at.1).sums t;
 }
 
 within-at : (v : List ℕ) (e : Entry) (s : ℕ) (a : Addition) → IsEntryWithin v e → addition_at e s ≡ Some a → IsAdditionWithin v s a
@@ -76,13 +69,9 @@ unless-some v s a b e =
       | inr not_known ↦ (let some : unless_known v s a ≡ Some a = ap (λ c. cond c None (Some a)) not_known in cc)
     ]
 
-without-some : (seen : List ℕ) (s : ℕ) (o : Option Addition) (a : Addition) → without seen s o ≡ Some a → o ≡ Some a
-without-some seen s None a e = absurd (cc)
-without-some seen s (Some b) a e = ap Some (unless-some seen s b a e)
-
 pub within-drop : (v seen : List ℕ) (t n : ℕ) (e : Entry) → IsEntryWithin v e → IsEntryWithin v (entry_after Drop t n seen e)
 within-drop v seen t n e h =
-    from-each v (λ s. without seen s (addition_at e s)) (λ s a l is. within-at v e s a h (without-some seen s (addition_at e s) a is))
+    from-each v (λ s. without seen s (addition_at e s)) (λ s a l is. within-at v e s a h (without_some seen s (addition_at e s) a is))
 
 -- a vector with a greater counter at one site is no less at each
 pub set-grows : (v : List ℕ) (t n r : ℕ) → slice_index v t < n → slice_index v r ≤ slice_index (slice_set v t n) r
@@ -124,14 +113,14 @@ within-put v seen t n x e w l g h =
       | inr other ↦
           let test : (t == s) ≡ false = grind (arith, nat_tests) in
           let left = sym (ap (λ b. cond b (Some (addition_of_put n x)) (without seen s (addition_at e s))) test) ∙ is in
-          grows v (slice_set v t n) s a (λ r. set-grows v t n r g) (within-at v e s a h (without-some seen s (addition_at e s) a left))
+          grows v (slice_set v t n) s a (λ r. set-grows v t n r g) (within-at v e s a h (without_some seen s (addition_at e s) a left))
     ])
 
 -- ---- a Bump
 
 -- there is room for one more increment
 pub bump-room : (v : List ℕ) (t n : ℕ) (e : Entry) → slice_index v t < n → IsEntryWithin v e → AreSumsWithin t (MOST * (n - 1)) e
-bump-room v t n e l h = λ s a is. wider (MOST * slice_index v t) (MOST * (n - 1)) (sum_at a t) (omega arith) (h.sums t s a is)
+bump-room v t n e l h = λ s a is. within_more (MOST * slice_index v t) (MOST * (n - 1)) (sum_at a t) (omega arith) (h.sums t s a is)
 
 -- the sums after a Bump
 abbrev sums_after : ℕ → ℤ → Addition → ℕ → ℤ
@@ -148,7 +137,7 @@ sum-after v t n r i a w l k h =
           rw test (subst (λ p. IsWithin (MOST * slice_index (slice_set v t n) p) (sum_at a p +ℤ i)) (sym same) (subst (λ m. IsWithin (MOST * m) (sum_at a t +ℤ i)) (sym new) more))
       | inr other ↦
           let test : (r == t) ≡ false = grind (arith, nat_tests) in
-          rw test (wider (MOST * slice_index v r) (MOST * slice_index (slice_set v t n) r) (sum_at a r) (omega (arith, set-grows v t n r l)) (h r))
+          rw test (within_more (MOST * slice_index v r) (MOST * slice_index (slice_set v t n) r) (sum_at a r) (omega (arith, set-grows v t n r l)) (h r))
     ]
 
 bumped-within : (v seen : List ℕ) (s t n : ℕ) (i : ℤ) (a : Addition) → t < length v → slice_index v t < n → IsWithin MOST i → IsAdditionWithin v s a → IsAdditionWithin (slice_set v t n) s (bumped seen s t i a)

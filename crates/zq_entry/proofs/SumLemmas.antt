@@ -12,6 +12,7 @@ use Rattle.std.specs.List.{AllByRecursion}
 use Rattle.std.specs.Bool.{Decides}
 use Rattle.std.specs.Ordering.{int_eq}
 use Rattle.std.specs.Prelude.{Bool, List, None, Option, [], ◌&&◌, ◌-◌, ◌==◌, map, nat_lt, pos, slice_index, slice_index_or, unwrap_or, ℕ, ℤ, ◌*◌, ◌+◌, ◌+ℤ◌, ◌<◌, ◌≤◌, ◌∷◌}
+use Rattle.zq_model.proofs.Bounds.{within_more}
 use Rattle.zq_model.specs.Entry.{sums_joined}
 use Rattle.zq_model.specs.Operation.{IsWithin, MOST}
 use Rattle.zq_model.specs.Score.{total}
@@ -102,12 +103,7 @@ sums-fit i x l h = omega (arith, ints, few_sites)
 
 -- a wider range
 pub within-more : (i j b : ℕ) (x : ℤ) → i ≤ j → IsWithin (i * b) x → IsWithin (j * b) x
-within-more i j b x l h =
-    let wider = mul-le-mul_right b l in
-    (omega (arith, ints), omega (arith, ints))
-
-pub value-within : (x t : ℤ) → IsWithin MOST x → IsWithin (SITES * MOST_SUM) t → IsWithin (MOST + SITES * MOST_SUM) (x +ℤ t)
-value-within x t h k = (omega (arith, ints), omega (arith, ints))
+within-more i j b x l h = within_more (i * b) (j * b) x (mul-le-mul_right b l) h
 
 pub value-fits : (x : ℤ) → IsWithin (MOST + SITES * MOST_SUM) x → SFits w128 x
 value-fits x h = omega (arith, ints, few_sites)

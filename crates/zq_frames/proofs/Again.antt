@@ -10,47 +10,34 @@ use Rattle.zq_delta.specs.Reading.{found_at}
 use Rattle.zq_dots.specs.Placed.{IsRanged, Placed}
 use Rattle.zq_fields.proofs.Again.{u32_read}
 use Rattle.zq_fields.specs.Fields.{number_field}
-use Rattle.zq_frames.proofs.Repeated.{ops_more}
+use Rattle.zq_frames.proofs.Repeated.{ops_more, ops_none}
 use Rattle.zq_frames.specs.Frame.{Frame, Have, IsFrame, IsHave, OfHave, OfOps, OfState}
-use Rattle.zq_frames.specs.Have.{have_at, rule_at, vector_at, written_rule_at}
+use Rattle.zq_frames.specs.Have.{have_at, rule_at, vector_at}
 use Rattle.zq_frames.specs.Kind.{kind_byte}
 use Rattle.zq_frames.specs.Reading.{body_at, frame_at, kind_at, more_ops_at, op_in, ops_at}
 use Rattle.zq_frames.specs.Spelling.{HasHave, HasOp, HasSpelling, HaveIn, OpsIn, Spelled, SpelledOp, StateIn, frame_spelling, have_bytes, op_bytes, op_of, ops_bytes, value_of}
 use Rattle.zq_frames.specs.declared.kind.Kind.{Kind}
 use Rattle.zq_frames.specs.declared.kind.Kind.TheVariants as kind
 use Rattle.zq_merge.proofs.AgainStates.{state_again}
-use Rattle.zq_merge.specs.Fields.{rule_of_byte}
-use Rattle.zq_merge.specs.Spelling.{rule_byte, rule_bytes, vector_bytes}
+use Rattle.zq_merge.specs.Spelling.{rule_bytes, vector_bytes}
 use Rattle.zq_merge.specs.State.{state_at, state_spelling}
 use Rattle.zq_merge.specs.Version.{HasRule, HasVector, sites}
 use Rattle.zq_merge.specs.declared.version.Version.{Version}
 use Rattle.zq_merge.specs.declared.version.Version.TheVariants.{One, Three, Two}
-use Rattle.zq_model.specs.Rule.{Greatest, Least, Rule}
+use Rattle.zq_model.specs.Rule.{Rule}
 use Rattle.zq_model.specs.Sets.{IsCounters}
-use Rattle.zq_parts.proofs.Again.{byte_in_again, heap_read}
-use Rattle.zq_parts.proofs.Counters.{dense_again}
+use Rattle.zq_parts.proofs.Again.{byte_in_again, heap_read, rule_read}
+use Rattle.zq_parts.proofs.Counters.{dense_again, limits}
 use Rattle.zq_parts.proofs.Entries.{sparse_again}
 use Rattle.zq_parts.specs.Reading.{byte_in, heap_at}
-use Rattle.zq_parts.specs.Vectors.{IsWithinLimits}
 use Rattle.zq_shard.specs.Shard.{HeapImage}
 
 -- ---- what a site has
 
-written_rule_of : (whole b : ℕ) (rule : Rule) (b0 b1 : List ℕ) → byte_in whole 0 2 b0 ≡ Ok (b, b1) → rule_of_byte b ≡ rule → written_rule_at whole b0 ≡ Ok (rule, b1)
-unfolding written_rule_at
-written_rule_of whole b rule b0 b1 e is = rw (e, is) refl
-
-written_rule_again : (whole : ℕ) (rule : Rule) (rest : List ℕ) → written_rule_at whole (rule_byte rule ∷ rest) ≡ Ok (rule, rest)
-written_rule_again whole Greatest rest = written_rule_of whole 0 Greatest (0 ∷ rest) rest (byte_in_again whole 0 2 0 rest (omega arith) (omega arith)) refl
-written_rule_again whole Least rest = written_rule_of whole 1 Least (1 ∷ rest) rest (byte_in_again whole 0 2 1 rest (omega arith) (omega arith)) refl
-
 rule_again : (v : Version) (whole : ℕ) (rule : Rule) (rest : List ℕ) → HasRule v rule → rule_at v whole (rule_bytes v rule ++ rest) ≡ Ok (rule, rest)
 rule_again One whole rule rest is = ap (λ r. Ok (r, rest)) (sym is)
 rule_again Two whole rule rest is = ap (λ r. Ok (r, rest)) (sym is)
-rule_again Three whole rule rest is = written_rule_again whole rule rest
-
-limits : (vector : List ℕ) → IsCounters vector → IsWithinLimits None vector
-limits vector counters t = counters.bounded t
+rule_again Three whole rule rest is = rule_read whole rule rest
 
 vector_again : (v : Version) (whole : ℕ) (vector rest : List ℕ) → HasVector v vector → IsCounters vector → vector_at v whole (vector_bytes v vector ++ rest) ≡ Ok (vector, rest)
 vector_again One whole vector rest few counters = dense_again whole None vector rest counters few (limits vector counters)
@@ -79,12 +66,8 @@ op_again : (i : ℕ) (o : SpelledOp) (rest : List ℕ) → IsRanged (op_of o) �
 op_again i o rest ranged has =
     op_in_of i (length (op_bytes o)) (op_of o) (op_bytes o ++ rest) rest (found_again o.0 o.1 rest ranged has) (drop_at (op_bytes o) rest (length (op_bytes o)) refl)
 
-ops_end : (before : List Placed) (rest : List ℕ) → more_ops_at 0 before rest ≡ Ok (before, rest)
-unfolding more_ops_at
-ops_end before rest = refl
-
 more_again : (before : List Placed) (os : List SpelledOp) (rest : List ℕ) → All (λ o. IsRanged (op_of o)) os → All HasOp os → more_ops_at (length os) before (flat_map op_bytes os ++ rest) ≡ Ok (before ++ map op_of os, rest)
-more_again before [] rest ranged has = ops_end before rest ∙ ap (λ ops. Ok (ops, rest)) (sym (append-nil before))
+more_again before [] rest ranged has = ops_none before rest ∙ ap (λ ops. Ok (ops, rest)) (sym (append-nil before))
 more_again before (o ∷ os) rest ranged has =
     let first = All-head (λ p. IsRanged (op_of p)) o os ranged in
     let later = All-tail (λ p. IsRanged (op_of p)) o os ranged in

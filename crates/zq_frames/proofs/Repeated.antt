@@ -8,7 +8,7 @@ use Rattle.zq_frames.specs.Ops.{AreEachSpelled, IsOpSpelled}
 use Rattle.zq_frames.specs.Reading.{more_ops_at, op_in}
 use Rattle.zq_frames.specs.declared.fault.FrameFault.{FrameFault}
 
-ops_none : (ops : List Placed) (bytes : List ℕ) → more_ops_at 0 ops bytes ≡ Ok (ops, bytes)
+pub ops_none : (ops : List Placed) (bytes : List ℕ) → more_ops_at 0 ops bytes ≡ Ok (ops, bytes)
 unfolding more_ops_at
 ops_none ops bytes = refl
 

@@ -2,21 +2,18 @@
 
 use Rattle.std.specs.Prelude.{List, None, Ok, ℕ}
 use Rattle.zq_frames.specs.Frame.{Have}
-use Rattle.zq_merge.specs.Fields.{rule_of_byte}
 use Rattle.zq_merge.specs.Version.{sites}
 use Rattle.zq_merge.specs.declared.version.Version.{Version}
 use Rattle.zq_merge.specs.declared.version.Version.TheVariants.{One, Three, Two}
 use Rattle.zq_model.specs.Rule.{Greatest, Rule}
+use Rattle.zq_parts.specs.Reading as part
 use Rattle.zq_parts.specs.Reading.{Read, byte_in, dense_at, heap_at, sparse_at, ◌>>=◌}
-
-unfoldable pub written_rule_at : ℕ → List ℕ → Read Rule
-written_rule_at whole bytes = byte_in whole 0 2 bytes >>= λ b. Ok (rule_of_byte b.0, b.1)
 
 -- the rule, which the versions before the third do not write
 abbrev pub rule_at : Version → ℕ → List ℕ → Read Rule
 rule_at One whole bytes = Ok (Greatest, bytes)
 rule_at Two whole bytes = Ok (Greatest, bytes)
-rule_at Three whole bytes = written_rule_at whole bytes
+rule_at Three whole bytes = part.rule_at whole bytes
 
 abbrev pub vector_at : Version → ℕ → List ℕ → Read (List ℕ)
 vector_at One whole bytes = dense_at whole None bytes

@@ -1,6 +1,6 @@
 //! What a site has: its heap, its number, its rule and its vector.
 
-ghost use Rattle.std.specs.Prelude.{◌≡◌, ◌≤◌, ◌++◌, ◌∷◌, IfOk, OnOk};
+ghost use Rattle.std.specs.Prelude.{◌≡◌, ◌≤◌, ◌++◌, IfOk, OnOk};
 ghost use Rattle.zq_dots.specs.Rule.{rule_of};
 ghost use Rattle.zq_frames.specs.Frame.{IsHave, have_of};
 ghost use Rattle.zq_frames.specs.Have as read;
@@ -17,7 +17,7 @@ use zq_dots::{Rule, SITES, Vector};
 use zq_fields::write_bytes;
 use zq_merge::Version;
 use zq_parts::{
-    DENSE_SITES, PartFault, read_byte_in, read_dense, read_heap, read_site, read_sparse,
+    DENSE_SITES, PartFault, read_dense, read_heap, read_rule, read_site, read_sparse, rule_byte,
     write_sparse,
 };
 
@@ -35,7 +35,7 @@ pub(crate) fn read_have(
 {
     let heap = read_heap(whole, bytes)?;
     let from = read_site(whole, bytes, 0, sites(version))?;
-    let rule = read_rule(version, whole, bytes)?;
+    let rule = read_have_rule(version, whole, bytes)?;
     let vector = read_vector(version, whole, bytes)?;
     Ok(Have {
         from,
@@ -58,28 +58,15 @@ fn sites(version: Version) -> u8
     }
 }
 
-/// Takes the rule where the version has it: 0 is High and 1 is Low. The versions before the third mean High.
-fn read_rule(version: Version, whole: usize, bytes: &mut &[u8]) -> Result<Rule, PartFault>
+/// Takes the rule where the version has it. The versions before the third mean High.
+fn read_have_rule(version: Version, whole: usize, bytes: &mut &[u8]) -> Result<Rule, PartFault>
     ensures exact { Gives (λ x. (rule_of x, bytes.new.now)) result (read.rule_at version whole bytes.old.now) }
     ensures found { IfOk result (λ x. bytes.old.now ≡ spell.rule_bytes version (rule_of x) ++ bytes.new.now) }
     ensures version { IfOk result (λ x. versions.HasRule version (rule_of x)) }
 {
     match version {
         Version::One | Version::Two => Ok(Rule::High),
-        Version::Three => read_rule_byte(whole, bytes),
-    }
-}
-
-#[tactic(auto, unfolding(crate::specs::Have::written_rule_at))]
-fn read_rule_byte(whole: usize, bytes: &mut &[u8]) -> Result<Rule, PartFault>
-    ensures exact { Gives (λ x. (rule_of x, bytes.new.now)) result (read.written_rule_at whole bytes.old.now) }
-    ensures found { IfOk result (λ x. bytes.old.now ≡ spell.rule_byte (rule_of x) ∷ bytes.new.now) }
-{
-    let byte = read_byte_in(whole, bytes, 0, 2)?;
-    if byte == 0 {
-        Ok(Rule::High)
-    } else {
-        Ok(Rule::Low)
+        Version::Three => read_rule(whole, bytes),
     }
 }
 
@@ -104,14 +91,4 @@ pub(crate) fn write_have(out: &mut Vec<u8>, have: &Have) -> Result<(), AllocErro
     let rule = rule_byte(have.rule);
     write_bytes(out, &[have.heaps, have.heap, have.from.value(), rule])?;
     write_sparse(out, &have.vector)
-}
-
-/// The byte of the rule.
-fn rule_byte(rule: Rule) -> u8
-    ensures { result ≡ spell.rule_byte (rule_of rule) }
-{
-    match rule {
-        Rule::High => 0,
-        Rule::Low => 1,
-    }
 }

@@ -6,14 +6,16 @@ use Rattle.std.proofs.lemmas.Bool.Decides.{nat_tests}
 use Rattle.std.proofs.lemmas.List.{drop-append-le, length-append, take-append-le}
 use Rattle.std.specs.Prelude.{nat_lt, ◌==◌}
 use Rattle.std.specs.Str.{bytes_eq}
+use Rattle.zq_dots.specs.Rule.{rule_of}
 use Rattle.zq_dots.specs.declared.rule.Rule.{Rule}
 use Rattle.zq_greet.specs.Reading.{answer_at, byte_at, bytes_at, expected, heaps_at, magic_at, nonce_at, open_at, peer_at, rule_at, site_at, version_at, ◌>>=◌}
-use Rattle.zq_greet.specs.Said.{magic, rule_byte, version}
+use Rattle.zq_greet.specs.Said.{magic, version}
 use Rattle.zq_greet.specs.declared.refusal.Refusal.{Refusal}
 use Rattle.zq_greet.specs.declared.refusal.Refusal.TheVariants as refusal
 use Rattle.zq_greet.specs.declared.side.Side.{Side}
 use Rattle.zq_greet.specs.declared.stop.Stop.{Stop}
 use Rattle.zq_greet.specs.declared.stop.Stop.TheVariants.{Refused, Short}
+use Rattle.zq_parts.specs.Spelling.{rule_byte}
 
 -- what is read again, once more bytes stand behind the rest
 abbrev pub Follows : {X : Type 0} → (X → X) → Result X Stop → Result X Stop → Type 0
@@ -67,7 +69,7 @@ heaps_follow heaps bytes more = then (λ p. (p.0, p.1 ++ more)) (λ r. r ++ more
 
 pub rule_follows : (rule : Rule) (bytes more : List ℕ) → Follows (λ r. r ++ more) (rule_at rule bytes) (rule_at rule (bytes ++ more))
 unfolding rule_at
-rule_follows rule bytes more = then (λ p. (p.0, p.1 ++ more)) (λ r. r ++ more) (byte_at bytes) (byte_at (bytes ++ more)) _ (byte_follows bytes more) (λ byte. tested (byte.0 == rule_byte rule) byte.1 more refusal.Rule)
+rule_follows rule bytes more = then (λ p. (p.0, p.1 ++ more)) (λ r. r ++ more) (byte_at bytes) (byte_at (bytes ++ more)) _ (byte_follows bytes more) (λ byte. tested (byte.0 == rule_byte (rule_of rule)) byte.1 more refusal.Rule)
 
 -- the site that was found, and the rest
 paired : (r : Result ℕ Stop) (rest more : List ℕ) → Follows {X = ℕ × List ℕ} (λ p. (p.0, p.1 ++ more)) (r >>= λ peer. Ok (peer, rest)) (r >>= λ peer. Ok (peer, rest ++ more))

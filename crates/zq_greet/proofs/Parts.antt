@@ -9,17 +9,19 @@ use Rattle.std.specs.List.{Contains, find}
 use Rattle.std.specs.Option.{ok_or}
 use Rattle.std.specs.Prelude.{nat_lt, zero}
 use Rattle.std.specs.Str.{bytes_eq}
+use Rattle.zq_dots.specs.Rule.{rule_of}
 use Rattle.zq_dots.specs.declared.rule.Rule.{Rule}
 use Rattle.zq_fields.proofs.Again.{bytes_read}
 use Rattle.zq_greet.specs.Laws.{IsExpected}
 use Rattle.zq_greet.specs.Reading.{answer_at, byte_at, bytes_at, expected, heaps_at, magic_at, nonce_at, open_at, peer_at, rule_at, site_at, version_at, ◌>>=◌}
-use Rattle.zq_greet.specs.Said.{answer, claim, magic, rule_byte, version}
+use Rattle.zq_greet.specs.Said.{answer, claim, magic, version}
 use Rattle.zq_greet.specs.declared.refusal.Refusal.{Refusal}
 use Rattle.zq_greet.specs.declared.refusal.Refusal.TheVariants as refusal
 use Rattle.zq_greet.specs.declared.side.Side.{Side}
 use Rattle.zq_greet.specs.declared.stop.Stop.{Stop}
 use Rattle.zq_greet.specs.declared.stop.Stop.TheVariants.{Refused, Short}
 use Rattle.zq_mac.proofs.Long.{hmac_long}
+use Rattle.zq_parts.specs.Spelling.{rule_byte}
 
 -- two steps that gave a value each gave one, and the other way round
 pub both_ok : {X Y : Type 0} (r : Result X Stop) (next : X → Result Y Stop) (y : Y) → (r >>= next) ≡ Ok y → (x : X) × (r ≡ Ok x) × (next x ≡ Ok y)
@@ -102,16 +104,16 @@ pub heaps_from : (heaps : ℕ) (rest : List ℕ) → heaps_at heaps (heaps ∷ r
 unfolding heaps_at
 heaps_from heaps rest = rw (eq-eqb heaps heaps refl) refl
 
-pub rule_since : (rule : Rule) (bytes rest : List ℕ) → rule_at rule bytes ≡ Ok rest → bytes ≡ rule_byte rule ∷ rest
+pub rule_since : (rule : Rule) (bytes rest : List ℕ) → rule_at rule bytes ≡ Ok rest → bytes ≡ rule_byte (rule_of rule) ∷ rest
 unfolding rule_at
 rule_since rule bytes rest h =
     let (byte, read, test) = both_ok (byte_at bytes) _ rest h in
-    let (same, is_rest) = passed (eqb byte.0 (rule_byte rule)) byte.1 rest refusal.Rule test in
-    byte_since bytes byte.0 byte.1 read ∙ (λ i. eqb-true byte.0 (rule_byte rule) same i ∷ is_rest i)
+    let (same, is_rest) = passed (eqb byte.0 (rule_byte (rule_of rule))) byte.1 rest refusal.Rule test in
+    byte_since bytes byte.0 byte.1 read ∙ (λ i. eqb-true byte.0 (rule_byte (rule_of rule)) same i ∷ is_rest i)
 
-pub rule_from : (rule : Rule) (rest : List ℕ) → rule_at rule (rule_byte rule ∷ rest) ≡ Ok rest
+pub rule_from : (rule : Rule) (rest : List ℕ) → rule_at rule (rule_byte (rule_of rule) ∷ rest) ≡ Ok rest
 unfolding rule_at
-rule_from rule rest = rw (eq-eqb (rule_byte rule) (rule_byte rule) refl) refl
+rule_from rule rest = rw (eq-eqb (rule_byte (rule_of rule)) (rule_byte (rule_of rule)) refl) refl
 
 -- ---- the site
 
@@ -169,7 +171,7 @@ site_from own peers peer rest other (k, below, is) = rw (ne_eqb peer own other, 
 
 -- what is said before the secret
 abbrev pub terms : Side → ℕ → List ℕ
-terms side peer = magic ++ version ∷ peer ∷ side.heaps ∷ rule_byte side.rule ∷ []
+terms side peer = magic ++ version ∷ peer ∷ side.heaps ∷ rule_byte (rule_of side.rule) ∷ []
 
 pub peer_since : (side : Side) (bytes : List ℕ) (peer : ℕ) (rest : List ℕ) → peer_at side bytes ≡ Ok (peer, rest) → IsExpected side peer × (bytes ≡ terms side peer ++ rest)
 unfolding peer_at
@@ -193,11 +195,11 @@ peer_since side bytes peer rest h =
 pub peer_from : (side : Side) (peer : ℕ) (rest : List ℕ) → IsExpected side peer → peer_at side (terms side peer ++ rest) ≡ Ok (peer, rest)
 unfolding peer_at
 peer_from side peer rest (other, among) =
-    step (magic_at (terms side peer ++ rest)) _ _ (peer, rest) (magic_from (version ∷ peer ∷ side.heaps ∷ rule_byte side.rule ∷ rest))
-    (step (version_at (version ∷ peer ∷ side.heaps ∷ rule_byte side.rule ∷ rest)) _ _ (peer, rest) (version_from (peer ∷ side.heaps ∷ rule_byte side.rule ∷ rest))
-    (step (site_at side.site side.peers.now (peer ∷ side.heaps ∷ rule_byte side.rule ∷ rest)) _ _ (peer, rest) (site_from side.site side.peers.now peer (side.heaps ∷ rule_byte side.rule ∷ rest) other among)
-    (step (heaps_at side.heaps (side.heaps ∷ rule_byte side.rule ∷ rest)) _ _ (peer, rest) (heaps_from side.heaps (rule_byte side.rule ∷ rest))
-    (step (rule_at side.rule (rule_byte side.rule ∷ rest)) _ _ (peer, rest) (rule_from side.rule rest) refl))))
+    step (magic_at (terms side peer ++ rest)) _ _ (peer, rest) (magic_from (version ∷ peer ∷ side.heaps ∷ rule_byte (rule_of side.rule) ∷ rest))
+    (step (version_at (version ∷ peer ∷ side.heaps ∷ rule_byte (rule_of side.rule) ∷ rest)) _ _ (peer, rest) (version_from (peer ∷ side.heaps ∷ rule_byte (rule_of side.rule) ∷ rest))
+    (step (site_at side.site side.peers.now (peer ∷ side.heaps ∷ rule_byte (rule_of side.rule) ∷ rest)) _ _ (peer, rest) (site_from side.site side.peers.now peer (side.heaps ∷ rule_byte (rule_of side.rule) ∷ rest) other among)
+    (step (heaps_at side.heaps (side.heaps ∷ rule_byte (rule_of side.rule) ∷ rest)) _ _ (peer, rest) (heaps_from side.heaps (rule_byte (rule_of side.rule) ∷ rest))
+    (step (rule_at side.rule (rule_byte (rule_of side.rule) ∷ rest)) _ _ (peer, rest) (rule_from side.rule rest) refl))))
 
 -- ---- the secret
 

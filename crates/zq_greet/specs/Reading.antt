@@ -4,13 +4,15 @@ use Rattle.std.specs.List.{find}
 use Rattle.std.specs.Option.{ok_or}
 use Rattle.std.specs.Prelude.{Err, List, Ok, Result, if◌then◌else◌, ℕ, ◌==◌, ◌≡◌}
 use Rattle.std.specs.Str.{bytes_eq}
+use Rattle.zq_dots.specs.Rule.{rule_of}
 use Rattle.zq_dots.specs.declared.rule.Rule.{Rule}
 use Rattle.zq_fields.specs.Fields.{byte_field, bytes_field}
-use Rattle.zq_greet.specs.Said.{magic, rule_byte, version}
+use Rattle.zq_greet.specs.Said.{magic, version}
 use Rattle.zq_greet.specs.declared.refusal.Refusal.TheVariants as refusal
 use Rattle.zq_greet.specs.declared.side.Side.{Side}
 use Rattle.zq_greet.specs.declared.stop.Stop.{Stop}
 use Rattle.zq_greet.specs.declared.stop.Stop.TheVariants.{Refused, Short}
+use Rattle.zq_parts.specs.Spelling.{rule_byte}
 
 -- what a reader returned, seen by view, is what reading gives
 abbrev pub Gives : {X Y : Type 0} → (X → Y) → Result X Stop → Result Y Stop → Type 0
@@ -63,7 +65,7 @@ heaps_at heaps bytes = do
 unfoldable pub rule_at : Rule → List ℕ → Result (List ℕ) Stop
 rule_at rule bytes = do
   byte ← byte_at bytes
-  if byte.0 == rule_byte rule then Ok byte.1 else Err (Refused refusal.Rule)
+  if byte.0 == rule_byte (rule_of rule) then Ok byte.1 else Err (Refused refusal.Rule)
 
 -- a peer that agrees in everything before the secret
 unfoldable pub peer_at : Side → List ℕ → Result (ℕ × List ℕ) Stop

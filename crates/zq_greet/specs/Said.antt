@@ -1,9 +1,10 @@
 -- What the two sites of a link say, as bytes.
 
 use Rattle.std.specs.Prelude.{List, None, Option, Some, [], ℕ, ◌++◌, ◌∷◌}
+use Rattle.zq_dots.specs.Rule.{rule_of}
 use Rattle.zq_dots.specs.declared.rule.Rule.{Rule}
-use Rattle.zq_dots.specs.declared.rule.Rule.TheVariants.{High, Low}
 use Rattle.zq_mac.specs.Hmac.{hmac}
+use Rattle.zq_parts.specs.Spelling.{rule_byte}
 
 -- "zq-peer" and a line feed
 abbrev pub magic : List ℕ
@@ -12,10 +13,6 @@ magic = 122 ∷ 113 ∷ 45 ∷ 112 ∷ 101 ∷ 101 ∷ 114 ∷ 10 ∷ []
 abbrev pub version : ℕ
 version = 1
 
-abbrev pub rule_byte : Rule → ℕ
-rule_byte High = 0
-rule_byte Low = 1
-
 -- whether there is a secret, and the nonce where there is one
 abbrev pub nonce_bytes : Option (List ℕ) → List ℕ
 nonce_bytes None = 0 ∷ []
@@ -23,7 +20,7 @@ nonce_bytes (Some nonce) = 1 ∷ nonce
 
 -- the greeting of a site with so many heaps and this rule
 abbrev pub greeting : ℕ → ℕ → Rule → Option (List ℕ) → List ℕ
-greeting site heaps rule nonce = magic ++ version ∷ site ∷ heaps ∷ rule_byte rule ∷ nonce_bytes nonce
+greeting site heaps rule nonce = magic ++ version ∷ site ∷ heaps ∷ rule_byte (rule_of rule) ∷ nonce_bytes nonce
 
 -- what is answered for: the version, the number of the site that answers, the other's, and their nonces in this order
 abbrev pub claim : ℕ → ℕ → List ℕ → List ℕ → List ℕ

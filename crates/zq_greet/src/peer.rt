@@ -3,13 +3,13 @@
 ghost use Rattle.std.specs.List.{find};
 ghost use Rattle.std.specs.Prelude.{◌==◌, ◌≡◌};
 ghost use Rattle.zq_greet.specs.Reading.{Gives, byte_at, heaps_at, magic_at, peer_at, rule_at, site_at, version_at};
-ghost use Rattle.zq_greet.specs.Said as said;
 
 use crate::refusal::Refusal;
 use crate::side::{MAGIC, Side, VERSION};
 use crate::stop::Stop;
 use zq_dots::{Rule, SiteNo};
 use zq_fields::{read_byte, read_bytes};
+use zq_parts::rule_byte;
 
 /// Takes the greeting of a peer that agrees, up to its rule. After a stop the bytes that are left are of no use.
 #[tactic(auto, unfolding(crate::specs::Reading::peer_at))]
@@ -108,15 +108,5 @@ fn read_rule(rule: Rule, bytes: &[u8]) -> Result<&[u8], Stop>
         Ok(rest)
     } else {
         Err(Stop::Refused(Refusal::Rule))
-    }
-}
-
-/// The byte of a rule.
-pub(crate) fn rule_byte(rule: Rule) -> u8
-    ensures { result ≡ said.rule_byte rule }
-{
-    match rule {
-        Rule::High => 0,
-        Rule::Low => 1,
     }
 }

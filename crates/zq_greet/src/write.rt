@@ -3,10 +3,10 @@
 ghost use Rattle.std.specs.Prelude.{◌≡◌, ◌++◌, OnErr, OnOk, option_map};
 ghost use Rattle.zq_greet.specs.Said as said;
 
-use crate::peer::rule_byte;
 use crate::side::{MAGIC, Side, VERSION};
 use std::alloc::AllocError;
 use zq_fields::{write_byte, write_bytes};
+use zq_parts::rule_byte;
 
 /// Appends the greeting of this site. Where memory is refused a part of it may stand behind what stood there.
 pub fn write_greeting(out: &mut Vec<u8>, side: &Side<'_>) -> Result<(), AllocError>

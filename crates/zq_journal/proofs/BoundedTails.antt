@@ -1,7 +1,6 @@
 -- The records of a book keep the bounds of its images.
 
-use Rattle.std.proofs.Common.{List, [], ap, arith, drop, get_or-set_other, get_or-set_same, inl, inr, le_of_eq, length, map, subst, suc, sym, take, zero, ℕ, ◌*◌, ◌+◌, ◌∙◌, ◌∷◌, ◌≡◌, ◌≤◌, ◌<◌}
-use Rattle.std.proofs.Math.Nat.{mul-le-mul_left}
+use Rattle.std.proofs.Common.{List, [], ap, arith, drop, get_or-set_other, get_or-set_same, inl, inr, le_of_eq, length, map, subst, suc, sym, take, zero, ℕ, ◌+◌, ◌∙◌, ◌∷◌, ◌≡◌, ◌≤◌, ◌<◌}
 use Rattle.std.proofs.lemmas.Bool.{cases_eq}
 use Rattle.std.proofs.lemmas.List.{drop-map, take_all}
 use Rattle.std.proofs.lemmas.Bool.{and_parts}
@@ -18,14 +17,12 @@ use Rattle.zq_journal.proofs.Missing.{operation_is}
 use Rattle.zq_journal.specs.Books.{book_over}
 use Rattle.zq_journal.specs.Records.{IsRecord, IsRecordable, Record, leaf_of, leaves_of, placed_in, undone_at, written_in}
 use Rattle.zq_journal.specs.Standing.{IsStanding}
-use Rattle.zq_model.proofs.BoundedImages.{bounded_step}
-use Rattle.zq_model.proofs.Bounds.{within_more}
+use Rattle.zq_model.proofs.BoundedImages.{bounded_more, bounded_step}
 use Rattle.zq_model.proofs.Dots.{has_not}
 use Rattle.zq_model.proofs.Taken.{taken_new}
-use Rattle.zq_model.specs.Bounded.{HasShortNames, IsBounded, IsBoundedAt}
-use Rattle.zq_model.specs.Entry.{Addition, sum_at}
+use Rattle.zq_model.specs.Bounded.{HasShortNames, IsBounded}
 use Rattle.zq_model.specs.Image.{Image, image_after}
-use Rattle.zq_model.specs.Operation.{MOST, Operation}
+use Rattle.zq_model.specs.Operation.{Operation}
 use Rattle.zq_model.specs.Sets.{IsCounters, IsHeaps, IsOperation, New, SITES, taken_of}
 use Rattle.zq_shard.specs.Shard.{HeapImage}
 
@@ -69,26 +66,13 @@ bounded_after (suc n) h K (r ∷ records) a all over bounded =
 
 -- ---- under the vector of the state
 
--- an addition keeps its bounds under a vector that has no less
-bounded_more : (K heap : ℕ) (u v k m : List ℕ) (s : ℕ) (x : Addition) → length u ≡ SITES → ((t : ℕ) → slice_index u t ≤ slice_index v t) →
-    IsBoundedAt K heap u k m s x → IsBoundedAt K heap v k m s x
-bounded_more K heap u v k m s x wide more is = record {
-  placed = is.placed;
-  key = is.key;
-  member = is.member;
-  counter = let known = is.counter in let grows : slice_index u s ≤ slice_index v s = more s in (known.0, omega (arith, known.1));
-  score = is.score;
-  wide = is.wide;
-  sums = λ t below. within_more (MOST * slice_index u t) (MOST * slice_index v t) (sum_at x t) (mul-le-mul_left MOST (more t)) (is.sums t below);
-}
-
--- and so do the members of an image
+-- an image keeps its bounds under a vector that has no less
 bounded_wider : (K h : ℕ) (a : Image) (v : List ℕ) → IsCounters v → ((t : ℕ) → slice_index a.vector t ≤ slice_index v t) → IsBounded K h a →
     IsBounded K h (record { vector = v; members = a.members })
 bounded_wider K h a v counters more is = record {
   counters = counters;
   entries = is.entries;
-  additions = λ k m s x has. bounded_more K h a.vector v k m s x is.counters.wide more (is.additions k m s x has);
+  additions = λ k m s x has. bounded_more K h a.vector v k m s x is.counters.wide (λ t _. more t) (is.additions k m s x has);
 }
 
 -- a new operation raises its site's counter and no other

@@ -14,21 +14,20 @@ use Rattle.zq_dots.proofs.Counters.{last_is, sites_is}
 use Rattle.zq_fields.proofs.Again.{u64_read}
 use Rattle.zq_fields.proofs.Halves.{i128_read}
 use Rattle.zq_fields.specs.Fields.{number_field, signed, signed_field, text}
-use Rattle.zq_merge.specs.Fields.{placed_member_at, rule_at, rule_of_byte, site_sum_at, vector_at, written_rule_at}
+use Rattle.zq_merge.specs.Fields.{placed_member_at, rule_at, site_sum_at, vector_at}
 use Rattle.zq_merge.specs.Reading.{counter_at, is_after, of_part, rising_text_at, site_at, sum_in}
-use Rattle.zq_merge.specs.Spelling.{rule_byte, rule_bytes, sum_bytes, vector_bytes}
+use Rattle.zq_merge.specs.Spelling.{rule_bytes, sum_bytes, vector_bytes}
 use Rattle.zq_merge.specs.Version.{HasRule, HasVector}
 use Rattle.zq_merge.specs.declared.version.Version.{Version}
 use Rattle.zq_merge.specs.declared.version.Version.TheVariants.{One, Three, Two}
 use Rattle.zq_model.specs.Heaps.{heap_of}
 use Rattle.zq_model.specs.Operation.{IsWithin, LONGEST, MOST}
-use Rattle.zq_model.specs.Rule.{Greatest, Least, Rule}
+use Rattle.zq_model.specs.Rule.{Rule}
 use Rattle.zq_model.specs.Sets.{IsCounters, LAST, SITES}
-use Rattle.zq_parts.proofs.Again.{byte_in_again, text_read}
-use Rattle.zq_parts.proofs.Counters.{dense_again}
+use Rattle.zq_parts.proofs.Again.{byte_in_again, rule_read, text_read}
+use Rattle.zq_parts.proofs.Counters.{dense_again, limits}
 use Rattle.zq_parts.proofs.Entries.{sparse_again}
-use Rattle.zq_parts.specs.Reading.{byte_in, text_at}
-use Rattle.zq_parts.specs.Vectors.{IsWithinLimits}
+use Rattle.zq_parts.specs.Reading.{text_at}
 use Rattle.zq_parts.specs.declared.heap_no.HeapNo.{HeapNo}
 
 pub site_again : (whole past low s : ℕ) (rest : List ℕ) → low ≤ s → s < past → site_at whole past low (s ∷ rest) ≡ Ok (s, rest)
@@ -98,21 +97,10 @@ placed_of heap key before x b0 b1 e here =
 pub placed_again : (heap : HeapNo) (key : List ℕ) (before : Option (List ℕ)) (x rest : List ℕ) → length x ≤ LONGEST → is_after before x ≡ true → heap_of key x heap.heaps ≡ heap.heap → placed_member_at heap key before (text x ++ rest) ≡ Ok (x, rest)
 placed_again heap key before x rest short after here = placed_of heap key before x (text x ++ rest) rest (text_above_again before x rest short after) here
 
-written_rule_of : (whole b : ℕ) (rule : Rule) (b0 b1 : List ℕ) → byte_in whole 0 2 b0 ≡ Ok (b, b1) → rule_of_byte b ≡ rule → written_rule_at whole b0 ≡ Ok (rule, b1)
-unfolding written_rule_at
-written_rule_of whole b rule b0 b1 e is = rw (e, is) refl
-
-written_rule_again : (whole : ℕ) (rule : Rule) (rest : List ℕ) → written_rule_at whole (rule_byte rule ∷ rest) ≡ Ok (rule, rest)
-written_rule_again whole Greatest rest = written_rule_of whole 0 Greatest (0 ∷ rest) rest (byte_in_again whole 0 2 0 rest (omega arith) (omega arith)) refl
-written_rule_again whole Least rest = written_rule_of whole 1 Least (1 ∷ rest) rest (byte_in_again whole 0 2 1 rest (omega arith) (omega arith)) refl
-
 pub rule_again : (v : Version) (whole : ℕ) (rule : Rule) (rest : List ℕ) → HasRule v rule → rule_at v whole (rule_bytes v rule ++ rest) ≡ Ok (rule, rest)
 rule_again One whole rule rest is = ap (λ r. Ok (r, rest)) (sym is)
 rule_again Two whole rule rest is = ap (λ r. Ok (r, rest)) (sym is)
-rule_again Three whole rule rest is = written_rule_again whole rule rest
-
-limits : (vector : List ℕ) → IsCounters vector → IsWithinLimits None vector
-limits vector counters t = counters.bounded t
+rule_again Three whole rule rest is = ap of_part (rule_read whole rule rest)
 
 pub vector_again : (v : Version) (whole : ℕ) (vector rest : List ℕ) → HasVector v vector → IsCounters vector → vector_at v whole (vector_bytes v vector ++ rest) ≡ Ok (vector, rest)
 vector_again One whole vector rest few counters = ap of_part (dense_again whole None vector rest counters few (limits vector counters))

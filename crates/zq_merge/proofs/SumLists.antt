@@ -3,7 +3,6 @@
 use Rattle.std.proofs.Common.{ap, arith, cond, Err, false, get_or, suc, zero, inl, inr, length, List, map, None, Ok, Option, refl, Some, subst, sym, take, true, [], ℕ, ℤ, ◌*◌, ◌+◌, ◌++◌, ◌<◌, ◌≤◌, ◌∙◌, ◌∷◌, ◌≡◌, ◌≢◌}
 use Rattle.std.proofs.lemmas.Bool.{cases_eq, cases_lt}
 use Rattle.std.proofs.lemmas.Bool.Decides.{Decides-int_eq}
-use Rattle.std.proofs.lemmas.Int.{ints}
 use Rattle.std.proofs.lemmas.List.{get_or_past, map-append}
 use Rattle.std.proofs.lemmas.List.FromFn.{get_or-map-range_with_len, length-map-range_with_len, take-map-range_with_len}
 use Rattle.std.specs.Int.{w128}
@@ -22,6 +21,7 @@ use Rattle.zq_merge.specs.Reading.{many_at, next_site, sum_in, ◌>>=◌}
 use Rattle.zq_merge.specs.Spelling.{each_sum, sum_bytes}
 use Rattle.zq_merge.specs.Sums.{with_sum}
 use Rattle.zq_merge.specs.declared.fault.StateFault.{StateFault}
+use Rattle.zq_model.proofs.Bounds.{within_zero}
 use Rattle.zq_model.specs.Operation.{IsWithin, MOST}
 use Rattle.zq_model.specs.Sets.{SITES, by_site}
 use Rattle.zq_model.specs.Sparse.{AreBySite, found}
@@ -36,11 +36,8 @@ pub record AreSumsTo (vector : List ℕ) (low : ℕ) (items : List (ℕ × ℤ))
   pub each : AllByRecursion IsSum items
   pub bounded : AreSumsBounded vector items
 
-zero_within : (b : ℕ) → IsWithin b (pos 0)
-zero_within b = (omega (arith, ints), omega (arith, ints))
-
 pub sums_none : (vector : List ℕ) (low : ℕ) → AreSumsTo vector low []
-sums_none vector low = record { rising = tt; each = tt; bounded = λ t. zero_within (MOST * slice_index vector t) }
+sums_none vector low = record { rising = tt; each = tt; bounded = λ t. within_zero (MOST * slice_index vector t) }
 
 pub sums_more : (vector : List ℕ) (low s : ℕ) (z : ℤ) (items : List (ℕ × ℤ)) → low ≤ s → IsSum (s, z) → IsWithin (MOST * slice_index vector s) z → AreSumsTo vector low items → AreSumsTo vector (s + 1) (items ++ (s, z) ∷ [])
 sums_more vector low s z items from sum within a = record {

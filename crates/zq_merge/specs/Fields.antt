@@ -13,8 +13,9 @@ use Rattle.zq_merge.specs.declared.version.Version.TheVariants.{One, Three, Two}
 use Rattle.zq_model.specs.Heaps.{heap_of}
 use Rattle.zq_model.specs.Operation.{MOST}
 use Rattle.zq_model.specs.Rows.{OfSite}
-use Rattle.zq_model.specs.Rule.{Greatest, Least, Rule}
+use Rattle.zq_model.specs.Rule.{Greatest, Rule}
 use Rattle.zq_model.specs.Sets.{SITES, by_site}
+use Rattle.zq_parts.specs.Reading as part
 use Rattle.zq_parts.specs.Reading.{byte_in, dense_at, heap_at, number_in, score_at, sparse_at}
 use Rattle.zq_parts.specs.Vectors.{DENSE_SITES}
 use Rattle.zq_parts.specs.declared.heap_no.HeapNo.{HeapNo}
@@ -25,18 +26,11 @@ LAST_NUMBER = 18446744073709551615
 
 -- ---- what stands before the keys
 
--- the rule of a byte: 0 or 1
-abbrev pub rule_of_byte : ℕ → Rule
-rule_of_byte b = if b == 0 then Greatest else Least
-
-unfoldable pub written_rule_at : ℕ → List ℕ → Read Rule
-written_rule_at whole bytes = of_part (byte_in whole 0 2 bytes) >>= λ b. Ok (rule_of_byte b.0, b.1)
-
 -- the rule, which the versions before the third do not write
 abbrev pub rule_at : Version → ℕ → List ℕ → Read Rule
 rule_at One whole bytes = Ok (Greatest, bytes)
 rule_at Two whole bytes = Ok (Greatest, bytes)
-rule_at Three whole bytes = written_rule_at whole bytes
+rule_at Three whole bytes = of_part (part.rule_at whole bytes)
 
 abbrev pub vector_at : Version → ℕ → List ℕ → Read (List ℕ)
 vector_at One whole bytes = of_part (dense_at whole None bytes)

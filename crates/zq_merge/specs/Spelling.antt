@@ -9,13 +9,9 @@ use Rattle.zq_merge.specs.Keys.{KeyRows, MemberRow}
 use Rattle.zq_merge.specs.declared.version.Version.{Version}
 use Rattle.zq_merge.specs.declared.version.Version.TheVariants.{One, Three, Two}
 use Rattle.zq_model.specs.Rows.{OfSite}
-use Rattle.zq_model.specs.Rule.{Greatest, Least, Rule}
-use Rattle.zq_parts.specs.Spelling.{dense, sparse}
+use Rattle.zq_model.specs.Rule.{Rule}
+use Rattle.zq_parts.specs.Spelling.{dense, rule_byte, sparse}
 use Rattle.zq_parts.specs.Vectors.{DENSE_SITES}
-
-abbrev pub rule_byte : Rule → ℕ
-rule_byte Greatest = 0
-rule_byte Least = 1
 
 -- the rule, which the third version alone has
 abbrev pub rule_bytes : Version → Rule → List ℕ

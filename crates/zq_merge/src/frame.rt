@@ -1,6 +1,6 @@
 //! What stands before the keys: the heap, the rule and the vector.
 
-ghost use Rattle.std.specs.Prelude.{◌≡◌, ◌<◌, ◌++◌, ◌∷◌, IfOk};
+ghost use Rattle.std.specs.Prelude.{◌≡◌, ◌<◌, ◌++◌, IfOk};
 ghost use Rattle.zq_dots.specs.Rule.{rule_of};
 ghost use Rattle.zq_merge.specs.Answer.{Gives};
 ghost use Rattle.zq_merge.specs.Fields as fields;
@@ -13,7 +13,7 @@ use crate::fault::StateFault;
 use crate::part::of_part;
 use crate::version::Version;
 use zq_dots::{Rule, Vector};
-use zq_parts::{HeapNo, read_byte_in, read_dense, read_heap, read_sparse};
+use zq_parts::{HeapNo, read_dense, read_heap, read_rule, read_sparse};
 
 /// Which heap a state is of, by which rule its scores are, and which operations it has taken.
 #[derive(Clone, Copy, Debug)]
@@ -39,33 +39,20 @@ pub(crate) fn read_frame(
     ensures counters { IfOk result (λ x. sets.IsCounters x.vector) }
 {
     let heap = of_part(read_heap(whole, bytes))?;
-    let rule = read_rule(version, whole, bytes)?;
+    let rule = read_frame_rule(version, whole, bytes)?;
     let vector = read_vector(version, whole, bytes)?;
     Ok(Frame { rule, heap, vector })
 }
 
-/// Takes the rule where the version has it: 0 is High and 1 is Low. The versions before the third mean High.
-fn read_rule(version: Version, whole: usize, bytes: &mut &[u8]) -> Result<Rule, StateFault>
+/// Takes the rule where the version has it. The versions before the third mean High.
+fn read_frame_rule(version: Version, whole: usize, bytes: &mut &[u8]) -> Result<Rule, StateFault>
     ensures exact { Gives (λ x. (rule_of x, bytes.new.now)) result (fields.rule_at version whole bytes.old.now) }
     ensures found { IfOk result (λ x. bytes.old.now ≡ spell.rule_bytes version (rule_of x) ++ bytes.new.now) }
     ensures version { IfOk result (λ x. HasRule version (rule_of x)) }
 {
     match version {
         Version::One | Version::Two => Ok(Rule::High),
-        Version::Three => read_rule_byte(whole, bytes),
-    }
-}
-
-#[tactic(auto, unfolding(crate::specs::Fields::written_rule_at))]
-fn read_rule_byte(whole: usize, bytes: &mut &[u8]) -> Result<Rule, StateFault>
-    ensures exact { Gives (λ x. (rule_of x, bytes.new.now)) result (fields.written_rule_at whole bytes.old.now) }
-    ensures found { IfOk result (λ x. bytes.old.now ≡ spell.rule_byte (rule_of x) ∷ bytes.new.now) }
-{
-    let byte = of_part(read_byte_in(whole, bytes, 0, 2))?;
-    if byte == 0 {
-        Ok(Rule::High)
-    } else {
-        Ok(Rule::Low)
+        Version::Three => of_part(read_rule(whole, bytes)),
     }
 }
 

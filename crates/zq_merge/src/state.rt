@@ -1,7 +1,6 @@
 //! Writing a state in its newest version.
 
 ghost use Rattle.std.specs.Prelude.{◌≡◌, ◌++◌, ◌∷◌, IfOk, Ok, OnOk};
-ghost use Rattle.zq_dots.specs.Rule.{rule_of};
 ghost use Rattle.zq_merge.specs.Spelling as spell;
 ghost use Rattle.zq_merge.specs.State.{frame_in, state_at, state_spelling};
 ghost use Rattle.zq_merge.specs.declared.version.Version.TheVariants as version;
@@ -9,9 +8,8 @@ ghost use Rattle.zq_merge.specs.declared.version.Version.TheVariants as version;
 use crate::keys::write_keys;
 use crate::version::Version;
 use std::alloc::{AllocError, Global};
-use zq_dots::Rule;
 use zq_fields::write_bytes;
-use zq_parts::write_sparse;
+use zq_parts::{rule_byte, write_sparse};
 use zq_shard::Shard;
 
 /// The bytes of a state, in version 3. It fails only where memory is refused.
@@ -39,14 +37,4 @@ fn write_frame(out: &mut Vec<u8>, shard: &Shard) -> Result<(), AllocError>
         &[Version::Three.byte(), shard.heaps(), shard.heap(), rule],
     )?;
     write_sparse(out, shard.vector())
-}
-
-/// The byte of the rule.
-fn rule_byte(rule: Rule) -> u8
-    ensures { result ≡ spell.rule_byte (rule_of rule) }
-{
-    match rule {
-        Rule::High => 0,
-        Rule::Low => 1,
-    }
 }

@@ -33,7 +33,7 @@ pub bounded_sound : (K heap : ℕ) (a : Image) → IsBounded K heap a → IsSoun
 bounded_sound K heap a bounded = record { wide = bounded.counters.wide; known = λ k m s x has. (bounded.additions k m s x has).counter }
 
 -- an addition keeps its bounds under a vector that has no less
-bounded_more : (K heap : ℕ) (u v k m : List ℕ) (s : ℕ) (x : Addition) → length u ≡ SITES → ((t : ℕ) → t < SITES → slice_index u t ≤ slice_index v t) →
+pub bounded_more : (K heap : ℕ) (u v k m : List ℕ) (s : ℕ) (x : Addition) → length u ≡ SITES → ((t : ℕ) → t < SITES → slice_index u t ≤ slice_index v t) →
     IsBoundedAt K heap u k m s x → IsBoundedAt K heap v k m s x
 bounded_more K heap u v k m s x wide more is = record {
   placed = is.placed;
@@ -105,7 +105,7 @@ bounded_set K S heap world short = record {
 -- ---- a new operation
 
 -- what is left of an addition was there
-without_some : (seen : List ℕ) (s : ℕ) (r : Option Addition) (x : Addition) → without seen s r ≡ Some x → r ≡ Some x
+pub without_some : (seen : List ℕ) (s : ℕ) (r : Option Addition) (x : Addition) → without seen s r ≡ Some x → r ≡ Some x
 without_some seen s None x e = e
 without_some seen s (Some y) x e =
     elim (has seen s y.n) as (λ b. cond b None (Some y) ≡ Some x → Some y ≡ Some x) [ true ↦ λ f. absurd (none-some x f) | false ↦ λ f. f ] e

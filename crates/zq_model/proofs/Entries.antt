@@ -1,7 +1,7 @@
 -- Entries: bare ones, and what an image has at a place.
 
-use Rattle.std.proofs.Common.{List, None, Option, Some, [], ap, ap₂, cond, false, is_none, length, map, refl, subst, suc, sym, true, true≢false, unwrap_or, zero, ℕ, ◌++◌, ◌<◌, ◌∙◌, ◌∷◌, ◌≡◌}
-use Rattle.std.proofs.lemmas.Bool.{cond-true, cond_both, or_parts}
+use Rattle.std.proofs.Common.{List, None, Option, Some, [], ap, ap₂, cond, false, inl, inr, is_none, length, map, refl, subst, suc, sym, true, true≢false, unwrap_or, zero, ℕ, ◌++◌, ◌<◌, ◌∙◌, ◌∷◌, ◌≡◌}
+use Rattle.std.proofs.lemmas.Bool.{cases_lt, cond-true, cond_both, or_parts}
 use Rattle.std.proofs.lemmas.List.Folds.{list_any-append}
 use Rattle.std.proofs.lemmas.Option.{none-some, same_Some}
 use Rattle.std.specs.FinMap.{get, get-insert, get-remove, insert, keys, remove, same_map}
@@ -10,7 +10,7 @@ use Rattle.std.specs.Ordering.{eq_by_cmp}
 use Rattle.zq_model.proofs.Maps.{get-map_on_all, get_without, in_map, key_same, place_exact, place_total}
 use Rattle.zq_model.proofs.Membership.{any_in}
 use Rattle.zq_model.proofs.Places.{is_on_parts, is_put_of_parts}
-use Rattle.zq_model.proofs.Sites.{by_site-at, by_site-same, by_site_from, length-by_site}
+use Rattle.zq_model.proofs.Sites.{by_site-at, by_site-past, by_site-same, by_site_from, length-by_site}
 use Rattle.zq_model.proofs.Standing.{addition_none}
 use Rattle.zq_model.specs.Entry.{Addition, addition_of, join_site}
 use Rattle.zq_model.specs.Image.{Entry, Image, Members, Place, addition_at, entry_after, entry_at, entry_of, image_after, image_of, is_bare, join, join_entry, no_additions, place_cmp, place_of, put_entry, unless_bare}
@@ -37,6 +37,13 @@ is_bare-no_additions = bare_map (range_with_len 0 SITES)
 
 pub addition_at-no_additions : (s : ℕ) → addition_at no_additions s ≡ None
 addition_at-no_additions s = none_at no_additions s is_bare-no_additions
+
+-- an addition stands at a site
+pub at_stands : (f : ℕ → Option Addition) (s : ℕ) (a : Addition) → addition_at (by_site f) s ≡ Some a → (s < SITES) × (f s ≡ Some a)
+at_stands f s a is = elim (cases_lt s SITES) [
+  | inl below ↦ (below, sym (by_site-at f s None below) ∙ is)
+  | inr past ↦ absurd (none-some a (sym (by_site-past f s None past) ∙ is))
+]
 
 -- an entry with nothing at any site is bare
 pub unless_bare-none : (f : ℕ → Option Addition) → ((s : ℕ) → s < SITES → f s ≡ None) → unless_bare (by_site f) ≡ None

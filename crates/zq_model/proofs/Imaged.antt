@@ -1,11 +1,12 @@
 -- The image of a set is its image in plain words, and no other image is.
-use Rattle.std.proofs.Common.{◌≡◌, ℕ, ◌<◌, ◌≤◌, false, true≢false, suc, unwrap_or, [], ◌∷◌, List, None, Option, Some, inl, inr, refl, subst, sym, ap, ◌∙◌, arith, slice_index}
+use Rattle.std.proofs.Common.{◌≡◌, ℕ, ◌<◌, ◌≤◌, false, true≢false, suc, unwrap_or, [], ◌∷◌, List, None, Some, inl, inr, refl, subst, sym, ap, ◌∙◌, arith, slice_index}
 use Rattle.std.specs.FinMap.{get, same_map}
 use Rattle.std.proofs.lemmas.Bool.{cases_lt}
 use Rattle.std.proofs.lemmas.List.{ext_get_or}
 use Rattle.std.proofs.lemmas.Option.{none-some}
 use Rattle.zq_model.proofs.Dots.{last_above, last_reached}
 use Rattle.zq_model.proofs.Entries.{addition_at-no_additions, set_entries}
+use Rattle.zq_model.proofs.JoinDetermined.{same_option}
 use Rattle.zq_model.proofs.Kept.{kept_from, kept_means, kept_of, kept_there}
 use Rattle.zq_model.proofs.Living.{live_stands, standing_lives}
 use Rattle.zq_model.proofs.Maps.{place_exact, place_total}
@@ -76,11 +77,6 @@ has_other S h a b first second k m s x has =
     let same = kept_one S from.0 there.0 x there.2 from.4 in
     subst (λ y. HasAddition b k m s y) same (subst (λ t. HasAddition b k m t there.0) from.3 there.1)
 
-same_both : {X : Type 0} (a b : Option X) → ((x : X) → a ≡ Some x → b ≡ Some x) → ((x : X) → b ≡ Some x → a ≡ Some x) → a ≡ b
-same_both None None forth back = refl
-same_both None (Some y) forth back = back y refl
-same_both (Some x) b forth back = sym (forth x refl)
-
 -- an entry that is not bare has an addition
 some_addition : (e : Entry) → is_bare e ≡ false → (s : ℕ) × (x : Addition) × (addition_at e s ≡ Some x)
 some_addition [] full = absurd (true≢false full)
@@ -88,7 +84,7 @@ some_addition (None ∷ e) full = let rest = some_addition e full in (suc rest.0
 some_addition (Some x ∷ e) full = (0, x, refl)
 
 same_at : (S : List Operation) (h : ℕ) (a b : Image) → IsImageOf S h a → IsImageOf S h b → (q : Place) (s : ℕ) → addition_at (entry_at a.members q) s ≡ addition_at (entry_at b.members q) s
-same_at S h a b first second q s = same_both _ _ (has_other S h a b first second q.0 q.1 s) (has_other S h b a second first q.0 q.1 s)
+same_at S h a b first second q s = same_option _ _ (has_other S h a b first second q.0 q.1 s) (has_other S h b a second first q.0 q.1 s)
 
 entry_there : (members : Members) (q : Place) (e : Entry) → get members q ≡ Some e → entry_at members q ≡ e
 entry_there members q e is = ap (λ r. unwrap_or r no_additions) is
@@ -108,5 +104,5 @@ get_other S h a b first second q e is =
 
 pub image_one : (S : List Operation) (h : ℕ) (a b : Image) → IsImageOf S h a → IsImageOf S h b → a ≡ b
 image_one S h a b first second =
-    let members : a.members ≡ b.members = same_map place_total place_exact a.members b.members (λ q. same_both _ _ (get_other S h a b first second q) (get_other S h b a second first q)) in
+    let members : a.members ≡ b.members = same_map place_total place_exact a.members b.members (λ q. same_option _ _ (get_other S h a b first second q) (get_other S h b a second first q)) in
     λ i. record { vector = vector_one S h a.vector b.vector first.vector second.vector i; members = members i }

@@ -48,7 +48,7 @@ same_entry (Some d) None p q h = let b = bare_from d (λ s. h s ∙ addition_at-
 same_entry (Some d) (Some e) p q h = ap Some (same_by_site None d e (p d refl).0 (q e refl).0 (λ s _. h s))
 
 -- an option is known by what it gives
-same_option : {X : Type 0} (o r : Option X) → ((x : X) → o ≡ Some x → r ≡ Some x) → ((x : X) → r ≡ Some x → o ≡ Some x) → o ≡ r
+pub same_option : {X : Type 0} (o r : Option X) → ((x : X) → o ≡ Some x → r ≡ Some x) → ((x : X) → r ≡ Some x → o ≡ Some x) → o ≡ r
 same_option None None f g = refl
 same_option None (Some x) f g = g x refl
 same_option (Some x) r f g = sym (f x refl)

@@ -1,9 +1,9 @@
 -- The queue of the images of some heaps is the queue that the set means.
-use Rattle.std.proofs.Common.{◌≡◌, ◌<◌, ℕ, ℤ, List, Some, inl, inr, map, refl, subst, sym, ap, ◌∙◌, arith, mod-lt, zero, suc, ◌+◌, ◌≤◌}
-use Rattle.std.proofs.lemmas.Bool.{cases_eq}
+use Rattle.std.proofs.Common.{◌≡◌, ◌<◌, ℕ, ℤ, List, Some, map, refl, subst, sym, ap, ◌∙◌, arith, mod-lt}
 use Rattle.std.specs.List.{range_with_len}
 use Rattle.zq_model.proofs.Listing.{in_map_from}
 use Rattle.zq_model.proofs.Maps.{in_map}
+use Rattle.zq_model.proofs.Membership.{in_range_with_len}
 use Rattle.zq_model.proofs.Queued.{queued_score, score_queued}
 use Rattle.zq_model.proofs.Rising.{rising_keys, rising_one}
 use Rattle.zq_model.proofs.MeantScores.{score_heap, score_in, score_is, score_there}
@@ -46,14 +46,7 @@ pub whole_queue_one : (rule : Rule) (S T : List Operation) (key : List ℕ) (q r
 whole_queue_one rule S T key q r forth back a b = rising_one q r a.rising b.rising
     (λ z here. (b.members z.0 z.1).1 (forth z.0 z.1 ((a.members z.0 z.1).0 here))) (λ z here. (a.members z.0 z.1).1 (back z.0 z.1 ((b.members z.0 z.1).0 here)))
 
-in_range_with_len : (n a k : ℕ) → a ≤ k → k < a + n → IsIn k (range_with_len a n)
-in_range_with_len zero a k low high = absurd (omega arith)
-in_range_with_len (suc n) a k low high = elim (cases_eq a k) [
-  | inl same ↦ inl same
-  | inr other ↦ inr (in_range_with_len n (a + 1) k (omega arith) (omega arith))
-]
-
-heap_in_range : (key m : List ℕ) (K : ℕ) → 0 < K → heap_of key m K < K
+pub heap_in_range : (key m : List ℕ) (K : ℕ) → 0 < K → heap_of key m K < K
 unfolding heap_of
 heap_in_range key m K some = mod-lt _ some
 
@@ -65,6 +58,6 @@ whole_queue_is rule K S key world some =
       rising = q.rising;
       members = λ x m. (
         λ here. ((q.members x m).0 here).1,
-        λ means. (q.members x m).1 (in_range_with_len K 0 (heap_of key m K) (omega arith) (omega (arith, heap_in_range key m K some)), means),
+        λ means. (q.members x m).1 (in_range_with_len 0 K (heap_of key m K) (omega arith) (omega (arith, heap_in_range key m K some)), means),
       );
     }

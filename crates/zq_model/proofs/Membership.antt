@@ -1,9 +1,10 @@
--- Being in a set: of a union, of what `find` answers, and of what `list_any` says.
+-- Being in a set: of a union, of a list's first elements, of a range, of what `find` answers, and of what `list_any` says.
 
-use Rattle.std.proofs.Common.{Bool, List, None, Some, T, [], ap, cond, false, inl, inr, refl, subst, sym, true, true≢false, ⊎_elim, ◌++◌, ◌∙◌, ◌∷◌, ◌≡◌, ◌⊎◌}
-use Rattle.std.proofs.lemmas.Bool.{false_from_ne_true, or_cases, or_left, or_right}
+use Rattle.std.proofs.Common.{Bool, List, None, Some, T, [], ap, arith, cond, drop, false, inl, inr, refl, subst, suc, sym, take, true, true≢false, zero, ℕ, ⊎_elim, ◌++◌, ◌+◌, ◌<◌, ◌∙◌, ◌∷◌, ◌≡◌, ◌≤◌, ◌⊎◌}
+use Rattle.std.proofs.lemmas.Bool.{cases_eq, false_from_ne_true, or_cases, or_left, or_right}
+use Rattle.std.proofs.lemmas.List.{take-append-drop}
 use Rattle.std.proofs.lemmas.Option.{none-some, same_Some}
-use Rattle.std.specs.List.{find, list_any}
+use Rattle.std.specs.List.{find, list_any, range_with_len}
 use Rattle.zq_model.specs.Sets.{IsIn}
 
 pub in_left : {X : Type 0} (x : X) (S T : List X) → IsIn x S → IsIn x (S ++ T)
@@ -25,6 +26,27 @@ in_turned x S T h = ⊎_elim (in_right x T S) (in_left x T S) (in_union x S T h)
 
 pub in_twice : {X : Type 0} (x : X) (S : List X) → IsIn x (S ++ S) → IsIn x S
 in_twice x S h = ⊎_elim (λ a. a) (λ a. a) (in_union x S S h)
+
+pub in_taken : {X : Type 0} (x : X) (k : ℕ) (xs : List X) → IsIn x (take k xs) → IsIn x xs
+in_taken x k xs h = subst (IsIn x) (take-append-drop k xs) (in_left x (take k xs) (drop k xs) h)
+
+pub in_range_with_len : (a n k : ℕ) → a ≤ k → k < a + n → IsIn k (range_with_len a n)
+in_range_with_len a zero k low high = absurd (omega arith)
+in_range_with_len a (suc n) k low high = elim (cases_eq a k) [
+  | inl same ↦ inl same
+  | inr other ↦ inr (in_range_with_len (a + 1) n k (omega arith) (omega arith))
+]
+
+-- a number is among some, or is not
+pub in_or_not : (k : ℕ) (xs : List ℕ) → IsIn k xs ⊎ (IsIn k xs → ⊥)
+in_or_not k [] = inr (λ none. none)
+in_or_not k (x ∷ xs) = elim (cases_eq x k) [
+  | inl same ↦ inl (inl same)
+  | inr other ↦ elim (in_or_not k xs) [
+    | inl there ↦ inl (inr there)
+    | inr out ↦ inr (λ among. ⊎_elim other out among)
+  ]
+]
 
 -- what `find` answers stands in the list and passes
 pub find_some : {X : Type 0} (p : X → Bool) (S : List X) (x : X) → find p S ≡ Some x → IsIn x S × (p x ≡ true)

@@ -17,10 +17,10 @@ use Rattle.zq_model.specs.Rule.{Rule}
 use Rattle.zq_model.specs.Score.{score_of}
 use Rattle.zq_model.specs.Sets.{IsIn}
 
-abbrev with_score : List ℕ → ℤ → Scored
+abbrev pub with_score : List ℕ → ℤ → Scored
 with_score m x = (x, m)
 
-some_score : (r : Option ℤ) (n m : List ℕ) (x : ℤ) → option_map (with_score n) r ≡ Some (with_score m x) → (r ≡ Some x) × (n ≡ m)
+pub some_score : (r : Option ℤ) (n m : List ℕ) (x : ℤ) → option_map (with_score n) r ≡ Some (with_score m x) → (r ≡ Some x) × (n ≡ m)
 some_score None n m x e = absurd (none-some (with_score m x) e)
 some_score (Some y) n m x e =
     let pair : with_score n y ≡ with_score m x = same_Some (with_score n y) (with_score m x) e in

@@ -15,20 +15,13 @@ use Rattle.zq_model.specs.Rule.{Greatest, IsNoWorse, Least, Rule}
 use Rattle.zq_model.specs.Sets.{IsClosed, IsCounters, IsIn, IsOperation, IsWorld, LAST, SITES, is_dot}
 use Rattle.zq_model.proofs.Dots.{has_parts}
 use Rattle.zq_model.proofs.EachOnce.{is_same_equal}
-use Rattle.zq_model.proofs.Membership.{any_none, any_nothing, any_some}
+use Rattle.zq_model.proofs.Membership.{any_none, any_nothing, any_some, in_range_with_len}
 use Rattle.zq_model.proofs.Worlds.{is_dot_from, is_dot_parts}
 
 pub all_in : {X : Type 0} (p : X → Bool) (S : List X) (x : X) → list_all p S ≡ true → IsIn x S → p x ≡ true
 all_in p [] x e i = absurd i
 all_in p (y ∷ S) x e (inl h) = subst (λ z. p z ≡ true) h (and_parts _ _ e).0
 all_in p (y ∷ S) x e (inr h) = all_in p S x (and_parts _ _ e).1 h
-
-in_range : (a n i : ℕ) → a ≤ i → i < a + n → IsIn i (range_with_len a n)
-in_range a zero i low high = absurd (omega arith)
-in_range a (suc n) i low high = elim (cases_lt a i) [
-  | inl l ↦ inr (in_range (a + 1) n i (omega arith) (omega arith))
-  | inr l ↦ inl (omega arith)
-]
 
 le_from : (x y : ℤ) → int_le x y ≡ true → x ≤ℤ y
 le_from x y e = record { le = subst T (sym e) tt }
@@ -120,9 +113,9 @@ pub IsClosed-from_test : (S : List Operation) → closed_test S ≡ true → IsC
 IsClosed-from_test S e = record {
   before = λ o i s n known.
       let p = has_parts o.seen s n known in
-      let site = in_range 0 (length o.seen) s (omega arith) (omega (arith, seen_site o.seen s n p.0 p.1)) in
+      let site = in_range_with_len 0 (length o.seen) s (omega arith) (omega (arith, seen_site o.seen s n p.0 p.1)) in
       let all = all_in (seen_test S o) (range_with_len 0 (length o.seen)) s (all_in (λ r. list_all (seen_test S r) (range_with_len 0 (length r.seen))) S o e i) site in
-      let dot = any_some (is_dot o.heap s n) S (all_in (λ m. list_any (is_dot o.heap s m) S) (range_with_len 1 (slice_index o.seen s)) n all (in_range 1 _ n p.0 (omega (arith, p.1)))) in
+      let dot = any_some (is_dot o.heap s n) S (all_in (λ m. list_any (is_dot o.heap s m) S) (range_with_len 1 (slice_index o.seen s)) n all (in_range_with_len 1 _ n p.0 (omega (arith, p.1)))) in
       let parts = is_dot_parts o.heap s n dot.0 dot.2 in
       (dot.0, dot.1, parts.0, parts.1, parts.2);
 }

@@ -6,8 +6,9 @@ use Rattle.std.proofs.lemmas.List.{get_or_past}
 use Rattle.std.proofs.lemmas.Option.{none-some, same_Some}
 use Rattle.std.specs.List.{range_with_len}
 use Rattle.std.specs.Prelude.{if◌then◌else◌}
+use Rattle.zq_model.proofs.Entries.{at_stands}
 use Rattle.zq_model.proofs.Preferred.{HasValue, IsNoWorse-both, IsNoWorse-itself, score_best, score_reached, score_some}
-use Rattle.zq_model.proofs.Sites.{by_site-at, by_site-past}
+use Rattle.zq_model.proofs.Sites.{by_site-at}
 use Rattle.zq_model.specs.Entry.{Addition, after_act, bumped, bumped_if, sum_at, without}
 use Rattle.zq_model.specs.Image.{Entry, addition_at, entry_after}
 use Rattle.zq_model.specs.Operation.{Act, Bump, Drop, Put, has}
@@ -38,12 +39,6 @@ score_is rule e x value best =
           let worse : IsNoWorse rule x y = subst (λ (z : ℤ). IsNoWorse rule x z) found.3 (best found.0 found.1 found.2) in
           ap (λ (z : ℤ). Some z) (IsNoWorse-both rule y x better worse)
     ] refl
-
-at_stands : (f : ℕ → Option Addition) (s : ℕ) (a : Addition) → addition_at (by_site f) s ≡ Some a → (s < SITES) × (f s ≡ Some a)
-at_stands f s a is = elim (cases_lt s SITES) [
-  | inl below ↦ (below, sym (by_site-at f s None below) ∙ is)
-  | inr past ↦ absurd (none-some a (sym (by_site-past f s None past) ∙ is))
-]
 
 -- ---- an entry whose additions the site has all seen
 

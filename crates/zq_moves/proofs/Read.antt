@@ -32,6 +32,12 @@ in_place [] r z is = absurd (none-some z is)
 in_place (x ∷ q) zero z is = inl (same_Some x z is)
 in_place (x ∷ q) (suc r) z is = inr (in_place q r z is)
 
+-- what stands in a list stands at a place
+pub placed_in : {X : Type 0} (x : X) (xs : List X) → IsIn x xs → (i : ℕ) × (slice_get xs i ≡ Some x)
+placed_in x [] i = absurd i
+placed_in x (y ∷ xs) (inl e) = (0, ap (λ z. Some z) e)
+placed_in x (y ∷ xs) (inr there) = let rest = placed_in x xs there in (suc rest.0, rest.1)
+
 abbrev number_of : Bool → ℕ
 number_of b = cond b 1 0
 

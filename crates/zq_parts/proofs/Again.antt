@@ -9,8 +9,10 @@ use Rattle.zq_dots.specs.Placed.{LONGEST}
 use Rattle.zq_fields.proofs.Again.{bytes_read, i64_read, u32_read, u64_read}
 use Rattle.zq_fields.specs.Fields.{bytes_field, number_field, signed, signed_field, text}
 use Rattle.zq_model.specs.Operation.{IsWithin, MOST}
+use Rattle.zq_model.specs.Rule.{Greatest, Least, Rule}
 use Rattle.zq_model.specs.Sets.{IsHeaps}
-use Rattle.zq_parts.specs.Reading.{byte_in, heap_at, number_in, score_at, text_at}
+use Rattle.zq_parts.specs.Reading.{byte_in, heap_at, number_in, rule_at, rule_of_byte, score_at, text_at}
+use Rattle.zq_parts.specs.Spelling.{rule_byte}
 use Rattle.zq_parts.specs.declared.heap_no.HeapNo.{HeapNo}
 
 pub byte_in_again : (whole low past b : ℕ) (rest : List ℕ) → low ≤ b → b < past → byte_in whole low past (b ∷ rest) ≡ Ok (b, rest)
@@ -32,6 +34,14 @@ pub heap_read : (whole : ℕ) (h : HeapNo) (rest : List ℕ) → IsHeaps h.heaps
 unfolding heap_at
 heap_read whole h rest heaps below =
     rw (byte_in_again whole 1 17 h.heaps (h.heap ∷ rest) heaps.0 (let few = heaps.1 in omega arith), byte_in_again whole 0 h.heaps h.heap rest (omega arith) below) refl
+
+rule_from : (whole b : ℕ) (rule : Rule) (b0 b1 : List ℕ) → byte_in whole 0 2 b0 ≡ Ok (b, b1) → rule_of_byte b ≡ rule → rule_at whole b0 ≡ Ok (rule, b1)
+unfolding rule_at
+rule_from whole b rule b0 b1 e is = rw (e, is) refl
+
+pub rule_read : (whole : ℕ) (rule : Rule) (rest : List ℕ) → rule_at whole (rule_byte rule ∷ rest) ≡ Ok (rule, rest)
+rule_read whole Greatest rest = rule_from whole 0 Greatest (0 ∷ rest) rest (byte_in_again whole 0 2 0 rest (omega arith) (omega arith)) refl
+rule_read whole Least rest = rule_from whole 1 Least (1 ∷ rest) rest (byte_in_again whole 0 2 1 rest (omega arith) (omega arith)) refl
 
 abs_within : (z : ℤ) → IsWithin MOST z → unsigned_abs z ≤ MOST
 abs_within (pos n) within = let high = within.1 in omega (arith, ints)

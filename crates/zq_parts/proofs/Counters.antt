@@ -7,7 +7,8 @@ use Rattle.std.proofs.lemmas.Bool.Decides.{nat_tests}
 use Rattle.std.proofs.lemmas.List.{ext_get_or, flat_map_more, get_or-drop, get_or-replicate, get_or-set_other, get_or-set_same, get_or_past, get_or-take, length-drop, length-replicate, length-take-le, length_push, replicate-append-replicate, set_at, take-append-drop, take_more_set}
 use Rattle.std.specs.Int.{to_be_bytes, w64}
 use Rattle.std.specs.List.{flat_map}
-use Rattle.zq_dots.proofs.Counters.{get_or-by_site, last_is, length-by_site, sites_is}
+use Rattle.zq_dots.proofs.Counters.{last_is, sites_is}
+use Rattle.zq_model.proofs.Sites.{by_site-at, length-by_site}
 use Rattle.zq_model.specs.Sets.{IsCounters, LAST, SITES}
 use Rattle.zq_parts.proofs.Again.{number_in_again}
 use Rattle.zq_parts.specs.Reading.{counters_at, dense_at, number_in}
@@ -23,6 +24,10 @@ pub limit-last : (own : Option ℕ) (t : ℕ) → limit_of own t ≤ LAST
 limit-last None t = omega arith
 limit-last (Some own) t = grind (arith, nat_tests)
 
+-- counters are within the limits, where no operation lowers that of its own site
+pub limits : (vector : List ℕ) → IsCounters vector → IsWithinLimits None vector
+limits vector counters t = counters.bounded t
+
 -- a list of zeros
 pub zeros_are : (n : ℕ) (v : List ℕ) → length v ≡ n → ((t : ℕ) → get_or v t 0 ≡ 0) → v ≡ replicate n 0
 zeros_are n v size zero =
@@ -30,7 +35,7 @@ zeros_are n v size zero =
 
 no_counter : (t : ℕ) → get_or no_counters t 0 ≡ 0
 no_counter t = elim (cases_lt t SITES) [
-  | inl below ↦ get_or-by_site (λ _. 0) t 0 below
+  | inl below ↦ by_site-at (λ _. 0) t 0 below
   | inr past ↦ get_or_past no_counters t 0 (let wide : length no_counters ≡ SITES = length-by_site (λ _. 0) in omega arith)
 ]
 

@@ -2,10 +2,11 @@
 
 use Rattle.std.specs.Int.{w32, w64}
 use Rattle.std.specs.Option.{ok_or}
-use Rattle.std.specs.Prelude.{Err, List, Ok, Option, Result, if◌then◌else◌, length, nat_le, nat_lt, slice_set, suc, unsigned_abs, zero, ℕ, ℤ, ◌&&◌, ◌+◌, ◌-◌, ◌≡◌}
+use Rattle.std.specs.Prelude.{Err, List, Ok, Option, Result, if◌then◌else◌, length, nat_le, nat_lt, slice_set, suc, unsigned_abs, zero, ℕ, ℤ, ◌&&◌, ◌+◌, ◌-◌, ◌==◌, ◌≡◌}
 use Rattle.zq_dots.specs.Placed.{LONGEST}
 use Rattle.zq_fields.specs.Fields.{byte_field, bytes_field, number_field, signed_field}
 use Rattle.zq_model.specs.Operation.{MOST}
+use Rattle.zq_model.specs.Rule.{Greatest, Least, Rule}
 use Rattle.zq_model.specs.Sets.{SITES}
 use Rattle.zq_parts.specs.Vectors.{DENSE_SITES, limit_of, no_counters}
 use Rattle.zq_parts.specs.declared.fault.PartFault.{PartFault}
@@ -48,6 +49,13 @@ heap_at whole bytes = do
   heaps ← byte_in whole 1 17 bytes
   heap ← byte_in whole 0 heaps.0 heaps.1
   Ok (record { heap = heap.0; heaps = heaps.0 }, heap.1)
+
+-- the rule of a byte: 0 or 1
+abbrev pub rule_of_byte : ℕ → Rule
+rule_of_byte b = if b == 0 then Greatest else Least
+
+unfoldable pub rule_at : ℕ → List ℕ → Read Rule
+rule_at whole bytes = byte_in whole 0 2 bytes >>= λ b. Ok (rule_of_byte b.0, b.1)
 
 unfoldable pub score_at : List ℕ → Read ℤ
 score_at bytes = do

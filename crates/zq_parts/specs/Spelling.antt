@@ -2,7 +2,12 @@
 
 use Rattle.std.specs.Int.{to_be_bytes, w64}
 use Rattle.std.specs.Prelude.{Bool, List, [], count_by, flat_map, if◌then◌else◌, nat_lt, take, ℕ, ◌+◌, ◌++◌, ◌∷◌}
+use Rattle.zq_model.specs.Rule.{Greatest, Least, Rule}
 use Rattle.zq_parts.specs.Vectors.{DENSE_SITES}
+
+abbrev pub rule_byte : Rule → ℕ
+rule_byte Greatest = 0
+rule_byte Least = 1
 
 -- the counters of the first sites, site 0 first
 unfoldable pub dense : List ℕ → List ℕ

@@ -5,9 +5,10 @@ ghost use Rattle.std.specs.Prelude.{List, Ok, Option, length, ℕ, ℤ, ◌++◌
 ghost use Rattle.zq_dots.specs.Placed.{LONGEST};
 ghost use Rattle.zq_fields.specs.Fields.{signed, text};
 ghost use Rattle.zq_model.specs.Operation.{IsWithin, MOST};
+ghost use Rattle.zq_model.specs.Rule.{Rule};
 ghost use Rattle.zq_model.specs.Sets.{IsCounters, IsHeaps};
-ghost use Rattle.zq_parts.specs.Reading.{dense_at, heap_at, score_at, sparse_at, text_at};
-ghost use Rattle.zq_parts.specs.Spelling.{dense, sparse};
+ghost use Rattle.zq_parts.specs.Reading.{dense_at, heap_at, rule_at, score_at, sparse_at, text_at};
+ghost use Rattle.zq_parts.specs.Spelling.{dense, rule_byte, sparse};
 ghost use Rattle.zq_parts.specs.Vectors.{IsDense, IsWithinLimits};
 ghost use Rattle.zq_parts.specs.declared.heap_no.HeapNo.{HeapNo};
 
@@ -15,6 +16,11 @@ ghost use Rattle.zq_parts.specs.declared.heap_no.HeapNo.{HeapNo};
 pub fn heap_again()
     ensures { (whole : ℕ) (h : HeapNo) (rest : List ℕ) → IsHeaps h.heaps → h.heap < h.heaps →
         heap_at whole (h.heaps ∷ h.heap ∷ rest) ≡ Ok (h, rest) }
+{}
+
+/// A rule that was written is read again.
+pub fn rule_again()
+    ensures { (whole : ℕ) (rule : Rule) (rest : List ℕ) → rule_at whole (rule_byte rule ∷ rest) ≡ Ok (rule, rest) }
 {}
 
 /// A score that was written is read again.

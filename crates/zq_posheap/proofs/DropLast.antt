@@ -6,12 +6,12 @@ use Rattle.zq_posheap.proofs.Scored.{text_there}
 use Rattle.std.specs.Prelude.{IfSome, List, None, Option, Some, [], get_or, length, map, slice_get, slice_set, swap_remove, take, ℕ, ℤ, ◌+◌, ◌-◌, ◌<◌, ◌≤◌, ◌≡◌, ◌≢◌}
 use Rattle.std.proofs.Common.{ap, arith, subst, sym, ◌∙◌}
 use Rattle.std.proofs.lemmas.List.{length-map}
-use Rattle.std.proofs.lemmas.Option.{get_or_from_slice_get, none-some, slice_get_within}
+use Rattle.std.proofs.lemmas.Option.{get_or_from_slice_get, none-some, same_Some, slice_get_within}
 use Rattle.std.specs.Map.{keys_of, values_of}
 use Rattle.std.proofs.lemmas.Map.Entries.{length-values_of}
 use Rattle.zq_posheap.proofs.Dropped.{IsCut, dropped, dropped_queue, end_cut, moved_within, told_cut}
 use Rattle.zq_posheap.proofs.Linked.{index_within, slot, slot_there}
-use Rattle.zq_posheap.proofs.Lists.{slice_get-set_same, slice_get-take, some_eq, there_is}
+use Rattle.zq_posheap.proofs.Lists.{slice_get-set_same, slice_get-take, there_is}
 use Rattle.zq_posheap.proofs.Removal.{other_seen, other_texts, seen_here, seen_left, text_here}
 use Rattle.zq_posheap.specs.Links.{IsLinked}
 use Rattle.zq_posheap.specs.Moves.{shown}
@@ -89,7 +89,7 @@ module _ {V : Type 0} (slots slots' : List Slot) (positions positions' : List �
     -- and where the last entry came to another index, at which its position stands
     module _ (inside : f.index < length slots - 1) (p : ℕ) (at_index : slice_get positions' f.index ≡ Some p) where
       same_place : p ≡ moved.0
-      same_place = some_eq (sym at_index ∙ ap (λ ys. slice_get ys f.index) told_is
+      same_place = same_Some _ _ (sym at_index ∙ ap (λ ys. slice_get ys f.index) told_is
           ∙ slice_get-take (length slots - 1) (slice_set positions f.index moved.0) f.index inside
           ∙ slice_get-set_same positions f.index moved.0 (omega (arith, within, positions_long)))
 
@@ -105,7 +105,7 @@ module _ {V : Type 0} (slots slots' : List Slot) (positions positions' : List �
 
       pub at_its_place : (x : Slot) → slice_get slots' p ≡ Some x → IsCut slots (slice_set slots' p (slot x.score f.index)) (length slots - 1) f.index moved.0
       at_its_place x here =
-          let same_score : x.score ≡ score_there.0 = ap (λ s. s.score) (some_eq (sym here ∙ moved_there)) in
+          let same_score : x.score ≡ score_there.0 = ap (λ s. s.score) (same_Some _ _ (sym here ∙ moved_there)) in
           subst (λ xs. IsCut slots xs (length slots - 1) f.index moved.0) (λ k. slice_set (sym rest k) (sym same_place k) (slot (sym same_score k) f.index))
           (told_cut slots positions (scores es) linked (length slots - 1) f.index moved.0 f.score long last moved.1 inside score_there.0 score_there.1)
 

@@ -4,10 +4,10 @@ use Rattle.std.proofs.Common.{ap, arith, inl, inr, subst, sym, ◌∙◌}
 use Rattle.std.proofs.Math.Seq.{take-set-lt}
 use Rattle.std.proofs.lemmas.Bool.{cases_eq}
 use Rattle.std.proofs.lemmas.List.{length-map, length-set, length-take-le, take-map, take-set-le}
-use Rattle.std.proofs.lemmas.Option.{slice_get_within}
+use Rattle.std.proofs.lemmas.Option.{same_Some, slice_get_within}
 use Rattle.zq_posheap.proofs.Inverses as inverses
 use Rattle.zq_posheap.proofs.Linked.{index_there, index_within, indices-set, one_slot, position_there, slot, slot_there}
-use Rattle.zq_posheap.proofs.Lists.{slice_get-set_other, slice_get-set_same, slice_get-take, some_eq, there_is}
+use Rattle.zq_posheap.proofs.Lists.{slice_get-set_other, slice_get-set_same, slice_get-take, there_is}
 use Rattle.zq_posheap.proofs.Scored.{scored_there}
 use Rattle.zq_posheap.specs.Links.{IsLinked, indices}
 use Rattle.zq_posheap.specs.Order.{Scored, scored_slots}
@@ -52,7 +52,7 @@ module _ (slots : List Slot) (positions : List ℕ) (scores : List ℤ) (linked 
   -- where the last place had the last entry
   pub end_cut : n ≡ i → IsCut slots (take n slots) n i q
   end_cut same =
-      let at_end : q ≡ n = some_eq (sym moved ∙ ap (slice_get positions) same ∙ at_i) in
+      let at_end : q ≡ n = same_Some _ _ (sym moved ∙ ap (slice_get positions) same ∙ at_i) in
       record {
         one_less = cut_long;
         indices_are = sym (take-map (λ (x : Slot). x.index) n slots) ∙ sym (take-set-le n (indices slots) q i (omega (arith, at_end)));
@@ -72,7 +72,7 @@ module _ (slots : List Slot) (positions : List ℕ) (scores : List ℤ) (linked 
 
     pub moved_within : q < n
     moved_within =
-        let other : q ≢ n = λ e. omega (arith, ap (λ x. x.index) (some_eq (sym there ∙ ap (slice_get slots) e ∙ last)), inside) in
+        let other : q ≢ n = λ e. omega (arith, ap (λ x. x.index) (same_Some _ _ (sym there ∙ ap (slice_get slots) e ∙ last)), inside) in
         omega (arith, slice_get_within slots q _ there, long, other)
 
     -- where the last entry came to another index, which its place is told
@@ -84,7 +84,7 @@ module _ (slots : List Slot) (positions : List ℕ) (scores : List ℤ) (linked 
       carries = λ p within x here.
           elim (cases_eq p q) as (λ _. (x' : Slot) × ((slice_get (slice_set (take n slots) q (slot t i)) p ≡ Some x') × Carries n i x x')) [
             | inl e ↦
-                let same : x ≡ slot t n = some_eq (sym here ∙ ap (slice_get slots) e ∙ there) in (
+                let same : x ≡ slot t n = same_Some _ _ (sym here ∙ ap (slice_get slots) e ∙ there) in (
                   slot t i,
                   (
                     ap (slice_get (slice_set (take n slots) q (slot t i))) e ∙ slice_get-set_same (take n slots) q (slot t i) (omega (arith, moved_within, cut_long)),
@@ -115,7 +115,7 @@ module _ (slots : List Slot) (positions : List ℕ) (scores : List ℤ) (linked 
           let within : p < n = omega (arith, slice_get_within slots' p x' is, cut.one_less) in
           let x = there_is slots p (omega (arith, within, long)) in
           let kept = cut.carries p within x.0 x.1 in
-          let same : kept.0 ≡ x' = some_eq (sym kept.1.0 ∙ is) in
+          let same : kept.0 ≡ x' = same_Some _ _ (sym kept.1.0 ∙ is) in
           let carries = subst (Carries n i x.0) same kept.1.1 in
           seen_alike (slice_get scores) (slice_get scores') n i others here x.0 x' carries ∙ linked.scored p x.0 x.1 ∙ ap (λ y. Some y) (sym carries.score);
     }

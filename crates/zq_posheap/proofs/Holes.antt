@@ -3,12 +3,12 @@ use Rattle.std.specs.Prelude.{Bool, List, Some, get_or, length, slice_get, slice
 use Rattle.std.proofs.Common.{ap, arith, inl, inr, subst, sym, ◌∙◌}
 use Rattle.std.proofs.lemmas.Bool.{cases_eq}
 use Rattle.std.proofs.lemmas.List.{get_or-set_other, length-map, length-set, map-set, set-set}
-use Rattle.std.proofs.lemmas.Option.{slice_get_within}
+use Rattle.std.proofs.lemmas.Option.{same_Some, slice_get_within}
 use Rattle.std.specs.BinaryHeap.Sift.{ComparesAt, IsGreaterChild}
 use Rattle.std.specs.Ordering.{is_lt}
 use Rattle.indexmap.specs.IndexMap.{index_map_len, keys}
 use Rattle.zq_posheap.proofs.Linked.{hole_moved, index_within, no_hole_taken}
-use Rattle.zq_posheap.proofs.Lists.{map-swap, set_again, slice_get-set_other, slice_get-set_same, some_eq, swap-set}
+use Rattle.zq_posheap.proofs.Lists.{map-swap, set_again, slice_get-set_other, slice_get-set_same, swap-set}
 use Rattle.zq_posheap.proofs.Scored.{compares}
 use Rattle.zq_posheap.proofs.Sifting.{same_child}
 use Rattle.zq_posheap.proofs.Told.{known, scores_long}
@@ -89,7 +89,7 @@ module _ {V : Type 0} (heap : Heap V) (a : ℕ) (x : Slot) (hole : HasHole heap 
             let here' : slice_get (slice_set heap.slots.items a y) p ≡ Some s = ap (λ xs. slice_get xs p) (sym is) ∙ here in
             let within : s.index < index_map_len heap.members = elim (cases_eq p a) as (λ _. s.index < index_map_len heap.members) [
               | inl e ↦
-                  let same : y ≡ s = some_eq (sym (ap (slice_get (slice_set heap.slots.items a y)) e ∙ slice_get-set_same heap.slots.items a y hole.within) ∙ here') in
+                  let same : y ≡ s = same_Some _ _ (sym (ap (slice_get (slice_set heap.slots.items a y)) e ∙ slice_get-set_same heap.slots.items a y hole.within) ∙ here') in
                   subst (λ (z : Slot). z.index < index_map_len heap.members) same (hole.known b y at_b)
               | inr other ↦ hole.known p s (sym (slice_get-set_other heap.slots.items a p y other) ∙ here')
             ] in

@@ -3,8 +3,8 @@ use Rattle.std.specs.Prelude.{List, Some, [], ◌++◌, ◌∷◌, length, slice
 use Rattle.std.proofs.Common.{refl, inl, inr, sym, ap, ◌∙◌, arith}
 use Rattle.std.proofs.lemmas.Bool.{cases_eq}
 use Rattle.std.proofs.lemmas.List.{length-append, length-set, length-take-le}
-use Rattle.std.proofs.lemmas.Option.{none-some, slice_get_within}
-use Rattle.zq_posheap.proofs.Lists.{slice_get-append_end, slice_get-append_left, slice_get-set_other, slice_get-set_same, slice_get-take, some_eq}
+use Rattle.std.proofs.lemmas.Option.{none-some, same_Some, slice_get_within}
+use Rattle.zq_posheap.proofs.Lists.{slice_get-append_end, slice_get-append_left, slice_get-set_other, slice_get-set_same, slice_get-take}
 use Rattle.zq_posheap.specs.Links.{AreInverse}
 
 module _ (xs ys : List ℕ) (inverse : AreInverse xs ys) where
@@ -14,7 +14,7 @@ module _ (xs ys : List ℕ) (inverse : AreInverse xs ys) where
 
   -- nothing stands at two places
   pub one_place : (p q i : ℕ) → slice_get xs p ≡ Some i → slice_get xs q ≡ Some i → p ≡ q
-  one_place p q i here there = some_eq (sym (inverse.there p i here) ∙ inverse.there q i there)
+  one_place p q i here there = same_Some _ _ (sym (inverse.there p i here) ∙ inverse.there q i there)
 
   -- two elements in each other's place
   swapped_there : (a b i j : ℕ) → slice_get xs a ≡ Some i → slice_get xs b ≡ Some j → a ≢ b → (p k : ℕ) →
@@ -28,11 +28,11 @@ module _ (xs ys : List ℕ) (inverse : AreInverse xs ys) where
       let b_in : b < length (slice_set xs a j) = omega (arith, slice_get_within xs b j at_b, length-set xs a j) in
       elim (cases_eq p b) as (λ _. slice_get (slice_set (slice_set ys i b) j a) k ≡ Some p) [
         | inl e ↦
-            let same : k ≡ i = some_eq (sym is ∙ ap (slice_get xs') e ∙ slice_get-set_same _ b i b_in) in
+            let same : k ≡ i = same_Some _ _ (sym is ∙ ap (slice_get xs') e ∙ slice_get-set_same _ b i b_in) in
             rw (same, e) (slice_get-set_other _ j i a others ∙ slice_get-set_same ys i b i_in)
         | inr not_b ↦ elim (cases_eq p a) as (λ _. slice_get (slice_set (slice_set ys i b) j a) k ≡ Some p) [
           | inl e ↦
-              let same : k ≡ j = some_eq (sym is ∙ ap (slice_get xs') e ∙ slice_get-set_other _ b a i apart ∙ slice_get-set_same xs a j a_in) in
+              let same : k ≡ j = same_Some _ _ (sym is ∙ ap (slice_get xs') e ∙ slice_get-set_other _ b a i apart ∙ slice_get-set_same xs a j a_in) in
               rw (same, e) (slice_get-set_same _ j a j_in)
           | inr not_a ↦
               let here : slice_get xs p ≡ Some k = sym (slice_get-set_other _ b p i not_b ∙ slice_get-set_other xs a p j not_a) ∙ is in
@@ -46,7 +46,7 @@ module _ (xs ys : List ℕ) (inverse : AreInverse xs ys) where
   added_there : (n : ℕ) → n ≡ length xs → (p k : ℕ) → slice_get (xs ++ n ∷ []) p ≡ Some k → slice_get (ys ++ n ∷ []) k ≡ Some p
   added_there n long p k is = elim (cases_eq p n) as (λ _. slice_get (ys ++ n ∷ []) k ≡ Some p) [
     | inl e ↦
-        let same : k ≡ n = some_eq (sym is ∙ ap (slice_get (xs ++ n ∷ [])) (e ∙ long) ∙ slice_get-append_end xs n) in
+        let same : k ≡ n = same_Some _ _ (sym is ∙ ap (slice_get (xs ++ n ∷ [])) (e ∙ long) ∙ slice_get-append_end xs n) in
         rw (same, e) (ap (slice_get (ys ++ n ∷ [])) (long ∙ inverse.one_length) ∙ slice_get-append_end ys n)
     | inr apart ↦
         let p_in : p < length xs = omega (arith, slice_get_within (xs ++ n ∷ []) p k is, length-append xs (n ∷ []), long, apart) in
@@ -64,14 +64,14 @@ module _ (xs ys : List ℕ) (inverse : AreInverse xs ys) where
       let is' : slice_get (slice_set xs q i) p ≡ Some k = sym (slice_get-take n (slice_set xs q i) p p_in) ∙ is in
       elim (cases_eq p q) as (λ _. slice_get (take n (slice_set ys i q)) k ≡ Some p) [
         | inl e ↦
-            let same : k ≡ i = some_eq (sym is' ∙ ap (slice_get (slice_set xs q i)) e ∙ slice_get-set_same xs q i (omega (arith, e, p_in))) in
+            let same : k ≡ i = same_Some _ _ (sym is' ∙ ap (slice_get (slice_set xs q i)) e ∙ slice_get-set_same xs q i (omega (arith, e, p_in))) in
             let i_in : i < length ys = slice_get_within ys i n at_i in
-            let other : i ≢ n = λ s. omega (arith, some_eq (sym at_i ∙ ap (slice_get ys) s ∙ moved), e, p_in) in
+            let other : i ≢ n = λ s. omega (arith, same_Some _ _ (sym at_i ∙ ap (slice_get ys) s ∙ moved), e, p_in) in
             rw (same, e) (slice_get-take n (slice_set ys i q) i (omega (arith, i_in, other, long, inverse.one_length)) ∙ slice_get-set_same ys i q i_in)
         | inr apart ↦
             let there : slice_get ys k ≡ Some p = inverse.there p k (sym (slice_get-set_other xs q p i apart) ∙ is') in
-            let not_i : k ≢ i = λ s. omega (arith, some_eq (sym there ∙ ap (slice_get ys) s ∙ at_i), p_in) in
-            let not_n : k ≢ n = λ s. apart (some_eq (sym there ∙ ap (slice_get ys) s ∙ moved)) in
+            let not_i : k ≢ i = λ s. omega (arith, same_Some _ _ (sym there ∙ ap (slice_get ys) s ∙ at_i), p_in) in
+            let not_n : k ≢ n = λ s. apart (same_Some _ _ (sym there ∙ ap (slice_get ys) s ∙ moved)) in
             slice_get-take n (slice_set ys i q) k (omega (arith, slice_get_within ys k p there, not_n, long, inverse.one_length))
             ∙ slice_get-set_other ys i k q not_i ∙ there
       ]

@@ -3,9 +3,9 @@ use Rattle.std.specs.Prelude.{List, Some, [], ◌++◌, ◌∷◌, length, slice
 use Rattle.std.proofs.Common.{refl, inl, inr, subst, sym, ap, ◌∙◌, arith}
 use Rattle.std.proofs.lemmas.Bool.{cases_eq}
 use Rattle.std.proofs.lemmas.List.{length-append, length-map, length-set, map-append, map-set, set-set}
-use Rattle.std.proofs.lemmas.Option.{none-some, slice_get_within}
+use Rattle.std.proofs.lemmas.Option.{none-some, same_Some, slice_get_within}
 use Rattle.zq_posheap.proofs.Inverses as inverses
-use Rattle.zq_posheap.proofs.Lists.{behind, mapped_at, set_again, set_either, slice_get-append_end, slice_get-append_left, slice_get-set_other, slice_get-set_same, some_eq}
+use Rattle.zq_posheap.proofs.Lists.{behind, mapped_at, set_again, set_either, slice_get-append_end, slice_get-append_left, slice_get-set_other, slice_get-set_same}
 use Rattle.zq_posheap.specs.Links.{IsLinked, indices}
 use Rattle.zq_posheap.specs.declared.heap.Slot.{Slot}
 
@@ -39,7 +39,7 @@ module _ (slots : List Slot) (positions : List ℕ) (scores : List ℤ) (linked 
   pub slot_there : (i p : ℕ) (t : ℤ) → slice_get positions i ≡ Some p → slice_get scores i ≡ Some t → slice_get slots p ≡ Some (slot t i)
   slot_there i p t position score =
       let s = slot_at i p position in
-      let same : s.0.score ≡ t = some_eq (sym (linked.scored p s.0 s.1) ∙ ap (slice_get scores) s.2 ∙ score) in
+      let same : s.0.score ≡ t = same_Some _ _ (sym (linked.scored p s.0 s.1) ∙ ap (slice_get scores) s.2 ∙ score) in
       s.1 ∙ (λ k. Some (slot (same k) (s.2 k)))
 
   -- a member's two slots are one
@@ -59,11 +59,11 @@ module _ (slots : List Slot) (positions : List ℕ) (scores : List ℤ) (linked 
         as_many = length-set _ y.index a ∙ length-set positions x.index b ∙ linked.as_many;
         scored = λ p s is. elim (cases_eq p b) as (λ _. slice_get scores s.index ≡ Some s.score) [
           | inl e ↦
-              let same : s ≡ x = some_eq (sym is ∙ ap (slice_get slots') e ∙ slice_get-set_same _ b x b_in) in
+              let same : s ≡ x = same_Some _ _ (sym is ∙ ap (slice_get slots') e ∙ slice_get-set_same _ b x b_in) in
               rw same (linked.scored a x at_a)
           | inr not_b ↦ elim (cases_eq p a) as (λ _. slice_get scores s.index ≡ Some s.score) [
             | inl e ↦
-                let same : s ≡ y = some_eq (sym is ∙ ap (slice_get slots') e ∙ slice_get-set_other _ b a x apart ∙ slice_get-set_same slots a y (slice_get_within slots a x at_a)) in
+                let same : s ≡ y = same_Some _ _ (sym is ∙ ap (slice_get slots') e ∙ slice_get-set_other _ b a x apart ∙ slice_get-set_same slots a y (slice_get_within slots a x at_a)) in
                 rw same (linked.scored b y at_b)
             | inr not_a ↦ linked.scored p s (sym (slice_get-set_other _ b p x not_b ∙ slice_get-set_other slots a p y not_a) ∙ is)
           ]
@@ -81,7 +81,7 @@ module _ (slots : List Slot) (positions : List ℕ) (scores : List ℤ) (linked 
         as_many = linked.as_many ∙ sym (length-set scores i t);
         scored = λ q x is. elim (cases_eq q p) as (λ _. slice_get (slice_set scores i t) x.index ≡ Some x.score) [
           | inl e ↦
-              let same : x ≡ slot t i = some_eq (sym is ∙ ap (slice_get (slice_set slots p (slot t i))) e ∙ slice_get-set_same slots p _ p_in) in
+              let same : x ≡ slot t i = same_Some _ _ (sym is ∙ ap (slice_get (slice_set slots p (slot t i))) e ∙ slice_get-set_same slots p _ p_in) in
               rw same (slice_get-set_same scores i t i_in)
           | inr apart ↦
               let at_q : slice_get slots q ≡ Some x = sym (slice_get-set_other slots p q _ apart) ∙ is in
@@ -99,7 +99,7 @@ module _ (slots : List Slot) (positions : List ℕ) (scores : List ℤ) (linked 
         as_many = omega (arith, length-append positions (n ∷ []), length-append scores (t ∷ []), linked.as_many);
         scored = λ q x is. elim (cases_eq q n) as (λ _. slice_get (scores ++ t ∷ []) x.index ≡ Some x.score) [
           | inl e ↦
-              let same : x ≡ slot t n = some_eq (sym is ∙ ap (slice_get (slots ++ slot t n ∷ [])) (e ∙ long) ∙ slice_get-append_end slots (slot t n)) in
+              let same : x ≡ slot t n = same_Some _ _ (sym is ∙ ap (slice_get (slots ++ slot t n ∷ [])) (e ∙ long) ∙ slice_get-append_end slots (slot t n)) in
               rw same (ap (slice_get (scores ++ t ∷ [])) scores_long ∙ slice_get-append_end scores t)
           | inr apart ↦
               let q_in : q < length slots = omega (arith, slice_get_within (slots ++ slot t n ∷ []) q x is, length-append slots (slot t n ∷ []), long, apart) in

@@ -7,9 +7,6 @@ use Rattle.std.proofs.Common.{ap, ◌∙◌, arith, sym}
 use Rattle.std.proofs.lemmas.List.{map-set, set-get_or}
 use Rattle.std.specs.Prelude.{List, None, Option, Some, is_some, unwrap_or, [], length, map, refl, slice_get, slice_set, suc, zero, ℕ, ◌<◌, ◌∷◌, ◌≡◌, ◌≢◌, ◌+◌, ◌-◌, ◌++◌, swap, swap_remove, take, get_or, option_map}
 
-pub some_eq : {X : Type 0} {x y : X} → Some x ≡ Some y → x ≡ y
-some_eq e = cc
-
 pub slice_get-set_same : {X : Type 0} (xs : List X) (i : ℕ) (x : X) → i < length xs → slice_get (slice_set xs i x) i ≡ Some x
 slice_get-set_same [] i x within = absurd (omega arith)
 slice_get-set_same (y ∷ xs) zero x within = refl

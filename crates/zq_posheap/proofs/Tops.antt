@@ -5,7 +5,7 @@ use Rattle.std.proofs.ByRecursion.{All-get_or}
 use Rattle.std.proofs.HeapSift.{greatest}
 use Rattle.std.proofs.lemmas.List.{length-map}
 use Rattle.std.proofs.lemmas.Map.Entries.{place_from_lookup}
-use Rattle.std.proofs.lemmas.Option.{slice_get_within}
+use Rattle.std.proofs.lemmas.Option.{same_Some, slice_get_within}
 use Rattle.std.specs.BinaryHeap.{IsHeap, lt_by_cmp}
 use Rattle.std.specs.FinMap.{IsAntisymmetric, get, int_cmp-IsAntisymmetric}
 use Rattle.std.specs.Map.{keys_of, lookup, values_of}
@@ -15,7 +15,7 @@ use Rattle.std.specs.declared.cmp.Ordering.TheVariants.{Equal, Greater, Less}
 use Rattle.zq_posheap.proofs.DropLast.{scores}
 use Rattle.zq_posheap.proofs.Entries.{bytes_antisymmetric, get-seen, has_text, seen_in, seen_is}
 use Rattle.zq_posheap.proofs.Linked.{slot_there}
-use Rattle.zq_posheap.proofs.Lists.{mapped_at, option_map_some, some_eq, there_is}
+use Rattle.zq_posheap.proofs.Lists.{mapped_at, option_map_some, there_is}
 use Rattle.zq_posheap.proofs.Ordered.{scored_total, turned_total}
 use Rattle.zq_posheap.proofs.Scored.{scored_there, text_there}
 use Rattle.zq_posheap.specs.First.{IsFirst}
@@ -64,7 +64,7 @@ module _ {V : Type 0} (es : List (List ℕ × Held V)) (slots : List Slot) (posi
   first_is first key w at_top entry found =
       let queue = scored_slots (keys_of es) slots in
       let score : w.score ≡ first.score =
-      some_eq (sym (mapped_at (λ v. v.score) (values_of es) first.index w (mapped_at (λ x. x.1) es first.index (key, w) entry)) ∙ linked.scored 0 first at_top) in
+      same_Some _ _ (sym (mapped_at (λ v. v.score) (values_of es) first.index w (mapped_at (λ x. x.1) es first.index (key, w) entry)) ∙ linked.scored 0 first at_top) in
       let top : Scored = scored_at (keys_of es) first in
       let is : top ≡ (first.score, key) = λ k. (first.score, sym (text_there es first.index key w entry) k) in
       let bound = greatest turned_total queue top (sym (scored_there (keys_of es) slots 0 first top at_top)) ordered in

@@ -65,7 +65,7 @@ module _ (held : Held) (rows : List (Row Entry)) (lists : IsListing held rows) w
 
 -- ---- one row more
 
-get-set_entry : (entries : Entries) (m : List ℕ) (e : Entry) (q : List ℕ) → get (set_entry entries m e) q ≡ cond (eq_by_cmp bytes_cmp q m) (unless_bare e) (get entries q)
+pub get-set_entry : (entries : Entries) (m : List ℕ) (e : Entry) (q : List ℕ) → get (set_entry entries m e) q ≡ cond (eq_by_cmp bytes_cmp q m) (unless_bare e) (get entries q)
 get-set_entry entries m e q =
     elim (is_bare e) as (λ b. get (cond b (remove entries m) (insert entries m e)) q ≡ cond (eq_by_cmp bytes_cmp q m) (cond b None (Some e)) (get entries q)) [
       | true ↦ get_removed entries m q
@@ -213,7 +213,7 @@ away_first p xs ys away = (or_none (list_any p xs) (list_any p ys) (sym (list_an
 away_second : (p : List ℕ → Bool) (xs ys : List (List ℕ)) → list_any p (xs ++ ys) ≡ false → list_any p ys ≡ false
 away_second p xs ys away = (or_none (list_any p xs) (list_any p ys) (sym (list_any-append p xs ys) ∙ away)).1
 
-get-joined_entries : (u v : List ℕ) (a b : Entries) (q : List ℕ) → get (joined_entries u v a b) q ≡ entry_joined u v a b q
+pub get-joined_entries : (u v : List ℕ) (a b : Entries) (q : List ℕ) → get (joined_entries u v a b) q ≡ entry_joined u v a b q
 get-joined_entries u v a b q = get-map_on_all nat_list_cmp_total bytes_antisymmetric (entry_joined u v a b) (keys a ++ keys b) q (λ away.
     nothing_joined u v a b q (get_without nat_list_cmp_total bytes_antisymmetric a q (away_first (eq_by_cmp bytes_cmp q) (keys a) (keys b) away))
     (get_without nat_list_cmp_total bytes_antisymmetric b q (away_second (eq_by_cmp bytes_cmp q) (keys a) (keys b) away)))

@@ -3,6 +3,7 @@ use Rattle.std.proofs.Common.{Err, Ok, Result, ap, of_z, to_z, refl, sym, ◌∙
 use Rattle.std.proofs.lemmas.Bool.{cond-false, cond-true}
 use Rattle.std.specs.FinMap.{get, insert, remove}
 use Rattle.std.specs.Prelude.{List, None, OnErr, Option, Some, cond, false, is_none, option_map, true, ℕ, ℤ, ◌*◌, ◌+◌, ◌==◌, ◌≡◌}
+use Rattle.zq_entry.proofs.EntryLemmas.{none-score_of}
 use Rattle.zq_model.proofs.Sites.{by_site-at, by_site-same}
 use Rattle.zq_model.specs.Entry.{Addition, after_act, without}
 use Rattle.zq_model.specs.Image.{Entry, addition_at, entry_after, is_bare}
@@ -14,7 +15,7 @@ use Rattle.std.specs.Int.{w128}
 use Rattle.zq_entry.proofs.SumLemmas.{value-fits}
 use Rattle.zq_entry.specs.Sums.{MOST_SUM}
 use Rattle.zq_model.specs.Sets.{SITES}
-use Rattle.zq_queue.proofs.Helds.{bare_scores, entries_of-insert, entries_of-remove, get-entries_of, removed_absent, scored_not_bare}
+use Rattle.zq_queue.proofs.Helds.{entries_of-insert, entries_of-remove, get-entries_of, removed_absent, scored_not_bare}
 use Rattle.zq_queue.specs.Entries.{Entries, set_entry}
 use Rattle.zq_queue.specs.Queued.{Held, entries_of}
 
@@ -31,12 +32,12 @@ module _ (rule : Rule) (held : Held) (m : List ℕ) (e : Entry) where
 
   -- one without a score is taken out
   pub taken_out_is_set : score_of rule e ≡ None → entries_of (remove held m) ≡ set_entry (entries_of held) m e
-  taken_out_is_set none = entries_of-remove held m ∙ sym (set_bare (entries_of held) m e (sym (bare_scores rule e) ∙ ap is_none none))
+  taken_out_is_set none = entries_of-remove held m ∙ sym (set_bare (entries_of held) m e (sym (none-score_of rule e) ∙ ap is_none none))
 
   -- or is not put where none was
   pub left_out_is_set : score_of rule e ≡ None → get held m ≡ None → entries_of held ≡ set_entry (entries_of held) m e
   left_out_is_set none absent =
-      sym (set_bare (entries_of held) m e (sym (bare_scores rule e) ∙ ap is_none none) ∙ removed_absent (entries_of held) m (get-entries_of held m ∙ ap (λ o. option_map (λ p. p.1) o) absent))
+      sym (set_bare (entries_of held) m e (sym (none-score_of rule e) ∙ ap is_none none) ∙ removed_absent (entries_of held) m (get-entries_of held m ∙ ap (λ o. option_map (λ p. p.1) o) absent))
 
 -- what holds anyway holds on an error
 pub on_any_err : {T E P : Type 0} (r : Result T E) → P → OnErr r P

@@ -8,6 +8,7 @@ use Rattle.std.specs.FinMap.Entries.{below_all, find, same_entries}
 use Rattle.std.specs.List.{range_with_len}
 use Rattle.std.specs.Ordering.{eq_by_cmp, is_lt}
 use Rattle.std.specs.Prelude.{List, None, Option, Some, T, [], cond, false, is_none, is_some, length, map, option_map, true, unwrap_or, ℕ, ℤ, ◌&&◌, ◌∷◌, ◌≡◌}
+use Rattle.zq_entry.proofs.EntryLemmas.{none-score_of}
 use Rattle.zq_model.proofs.Maps.{same_key}
 use Rattle.zq_model.specs.Entry.{Addition}
 use Rattle.zq_model.specs.Image.{Entry, is_bare, no_additions}
@@ -113,14 +114,8 @@ absent_got held m none = get-entries_of held m ∙ ap (option_map entry_beside) 
 
 -- ---- scores
 
--- an entry has a score exactly where it is not bare
-pub bare_scores : (rule : Rule) (e : Entry) → is_none (score_of rule e) ≡ is_bare e
-bare_scores rule [] = refl
-bare_scores rule (None ∷ e) = bare_scores rule e
-bare_scores rule (Some a ∷ e) = refl
-
 pub scored_not_bare : (rule : Rule) (e : Entry) (x : ℤ) → score_of rule e ≡ Some x → is_bare e ≡ false
-scored_not_bare rule e x is = sym (bare_scores rule e) ∙ ap is_none is
+scored_not_bare rule e x is = sym (none-score_of rule e) ∙ ap is_none is
 
 no_scores : (rule : Rule) (xs : List ℕ) → score_of rule (map {B = Option Addition} (λ _. None) xs) ≡ None
 no_scores rule [] = refl

@@ -10,11 +10,11 @@ use Rattle.std.specs.FinMap.Entries.{below_all, find}
 use Rattle.std.specs.List.{AllByRecursion}
 use Rattle.std.specs.List.Sorted.{IsStrictlySortedBy}
 use Rattle.std.specs.Ordering.{eq_by_cmp, is_lt}
-use Rattle.std.specs.Prelude.{Contains, List, None, Option, Some, [], filter_map, get_or, length, option_map, unwrap_or, ℕ, ℤ, ◌∷◌, ◌≡◌, ◌⊎◌}
+use Rattle.std.specs.Prelude.{Contains, List, None, Some, [], filter_map, get_or, length, option_map, unwrap_or, ℕ, ℤ, ◌∷◌, ◌≡◌, ◌⊎◌}
 use Rattle.std.specs.declared.cmp.Ordering.TheVariants.{Less}
 use Rattle.zq_model.proofs.Listing.{in_filter_map, in_filter_map_from, key_from_list, key_of_list}
 use Rattle.zq_model.proofs.Maps.{key_same, same_key}
-use Rattle.zq_model.proofs.Queued.{queued_score, score_queued}
+use Rattle.zq_model.proofs.Queued.{queued_score, score_queued, some_score, with_score}
 use Rattle.zq_model.proofs.Rising.{is_true, less_from, not_below_itself, rising_keys, rising_one, scored_exact, scored_total}
 use Rattle.zq_model.specs.Image.{Entry, Members, entry_at, no_additions}
 use Rattle.zq_model.specs.Meaning.{IsRising, Scored, scored_cmp}
@@ -79,22 +79,13 @@ module _ {X : Type 0} where
 
 -- ---- who stands in the list
 
-abbrev with_score : List ℕ → ℤ → Scored
-with_score m x = (x, m)
-
-score_and_member : (r : Option ℤ) (n m : List ℕ) (x : ℤ) → option_map (with_score n) r ≡ Some (with_score m x) → (r ≡ Some x) × (n ≡ m)
-score_and_member None n m x e = absurd (none-some (with_score m x) e)
-score_and_member (Some y) n m x e =
-    let pair : with_score n y ≡ with_score m x = same_Some (with_score n y) (with_score m x) e in
-    (ap (λ (z : Scored). Some z.0) pair, ap (λ (z : Scored). z.1) pair)
-
 module _ (rule : Rule) (held : Entries) where
   -- what stands in the list is a member with its score
   pub listed_score : (x : ℤ) (m : List ℕ) → IsIn (x, m) (listed rule held) → score_of rule (entry_in held m) ≡ Some x
   listed_score x m here =
       let inside = key_of_list scored_total scored_exact (λ _. tt) (filter_map (scored_in rule) (entries held)) (x, m) here in
       let e = in_filter_map_from (scored_in rule) (x, m) (entries held) inside in
-      let s = score_and_member (score_of rule e.0.1) e.0.0 m x e.2 in
+      let s = some_score (score_of rule e.0.1) e.0.0 m x e.2 in
       ap (λ o. score_of rule (unwrap_or o no_additions)) (ap (get held) (sym s.1) ∙ entry_got held e.0 e.1) ∙ s.0
 
   -- each member that has a score stands there with it

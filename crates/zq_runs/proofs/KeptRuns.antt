@@ -1,9 +1,9 @@
 -- What every run of a world keeps.
 
 use Rattle.zq_model.specs.Heaps.{heap_of}
-use Rattle.std.proofs.Common.{mod-lt, Err, List, None, Ok, Some, [], arith, false, inl, inr, length, ltb-true, refl, slice_index, subst, suc, sym, true, zero, ℕ, ◌++◌, ◌+◌, ◌<◌, ◌∷◌, ◌≡◌, ◌≤◌}
+use Rattle.std.proofs.Common.{mod-lt, Err, List, None, Ok, Some, [], arith, false, inl, inr, length, ltb-true, refl, slice_index, subst, suc, sym, true, ℕ, ◌++◌, ◌+◌, ◌<◌, ◌∷◌, ◌≡◌, ◌≤◌}
 use Rattle.std.proofs.lemmas.Bool.{and_parts, leb-false, or_parts}
-use Rattle.std.proofs.lemmas.Option.{none-some, same_Some}
+use Rattle.std.proofs.lemmas.Option.{none-some}
 use Rattle.std.specs.Prelude.{Bool, if◌then◌else◌, slice_get, take}
 use Rattle.zq_model.proofs.MeantQueues.{queue_is}
 use Rattle.zq_model.proofs.Membership.{in_union}
@@ -13,6 +13,7 @@ use Rattle.zq_model.specs.Bounded.{HasShortNames}
 use Rattle.zq_model.specs.Operation.{LONGEST, Operation}
 use Rattle.zq_model.specs.Rule.{Rule}
 use Rattle.zq_model.specs.Sets.{Early, IsClosed, IsHeaps, IsIn, IsMade, IsWorld, Known, LAST, New, SITES, Taken, in_heap, vector_of}
+use Rattle.zq_moves.proofs.Read.{in_place}
 use Rattle.zq_moves.specs.Moves.{Move, Queues}
 use Rattle.zq_plans.specs.Plan.{is_there, plan_of}
 use Rattle.zq_resp.specs.Request.{IsRequest}
@@ -104,12 +105,6 @@ module _ (rule : Rule) (K : ℕ) (heaps : IsHeaps K) (past : List Sets) (st : St
 
 -- ---- operations that are handed over, and merges
 
--- an element that is looked up stands in the list
-pub looked_up : {X : Type 0} (xs : List X) (i : ℕ) (x : X) → slice_get xs i ≡ Some x → IsIn x xs
-looked_up [] i x e = absurd (none-some x e)
-looked_up (y ∷ xs) zero x e = inl (same_Some y x e)
-looked_up (y ∷ xs) (suc i) x e = inr (looked_up xs i x e)
-
 module _ (K : ℕ) (past : List Sets) (st : State) (kept : IsKept K past st) where
   taken_kept : (site : ℕ) (o : Operation) (taken : Taken) → IsIn o st.made → judged st site o ≡ taken → IsKept K past (after_taken K st site o taken)
   taken_kept site o New i is =
@@ -124,7 +119,7 @@ module _ (K : ℕ) (past : List Sets) (st : State) (kept : IsKept K past st) whe
   take_kept site op =
       elim (slice_get st.made op) as (λ r. slice_get st.made op ≡ r → IsKept K past (after_take K st site r)) [
         | None ↦ λ _. kept
-        | Some o ↦ λ e. taken_kept site o (judged st site o) (looked_up st.made op o e) refl
+        | Some o ↦ λ e. taken_kept site o (judged st site o) (in_place st.made op o e) refl
       ] refl
 
 -- what a site had at a moment is a closed set of what was made
@@ -132,7 +127,7 @@ pub had : (W : List Operation) (past : List Sets) → ((sets : Sets) → IsIn se
 had W past are moment =
     elim (slice_get past moment) as (λ r. slice_get past moment ≡ r → AreOf W (set_in r)) [
       | None ↦ λ _. record { within = λ s o i. absurd i; closed = λ s. record { before = λ o i. absurd i } }
-      | Some sets ↦ λ e. are sets (looked_up past moment sets e)
+      | Some sets ↦ λ e. are sets (in_place past moment sets e)
     ] refl
 
 merge_kept : (K : ℕ) (r : Run) (site from heap moment : ℕ) → IsKept K r.past r.now → IsKept K r.past (after_merge K r site from heap moment)

@@ -1,35 +1,32 @@
 -- The books of a site after moves, and how many of the moves stand.
 
 use Rattle.std.proofs.Common.{List, None, Some, [], ap, ap₂, arith, eq-eqb, eqb-true, false, inl, inr, le-leb, leb-true, length, map, option_map, refl, slice_index, subst, suc, sym, true, true≢false, zero, ℕ, ◌++◌, ◌+◌, ◌<◌, ◌==◌, ◌∙◌, ◌∷◌, ◌≡◌, ◌≤◌, ◌⊎◌}
-use Rattle.std.proofs.lemmas.Bool.{cases_lt, cond-true, or_cases, or_left, or_right, cond-false, ne_eqb}
-use Rattle.std.proofs.lemmas.List.{get_or-set_same, get_or_past, length-map, take-append-drop}
+use Rattle.std.proofs.lemmas.Bool.{cases_lt, cond-true, or_cases, or_left, or_right, cond-false, ne_eqb, false_from_ne_true}
+use Rattle.std.proofs.lemmas.List.{get_or-set_same, get_or_past, length-map, take_all}
 use Rattle.std.proofs.lemmas.Option.{none-some, same_Some, slice_get-map, slice_get_within}
 use Rattle.std.specs.List.{list_any}
-use Rattle.std.specs.Prelude.{Bool, if◌then◌else◌, nat_le, drop, slice_get, slice_set, take}
+use Rattle.std.specs.Prelude.{Bool, if◌then◌else◌, nat_le, slice_get, slice_set, take}
 use Rattle.zq_history.specs.Books.{Book}
 use Rattle.zq_model.proofs.Made.{making_closed, making_image, making_world}
 use Rattle.zq_model.proofs.Maps.{in_map}
-use Rattle.zq_model.proofs.Membership.{any_some, in_left}
+use Rattle.zq_model.proofs.Membership.{any_some, in_taken}
 use Rattle.zq_model.proofs.Sites.{length-by_site}
 use Rattle.zq_model.specs.Heaps.{heap_of}
 use Rattle.zq_model.specs.Image.{Image, image_after, image_of}
 use Rattle.zq_model.specs.Operation.{Operation, operation_over}
 use Rattle.zq_model.specs.Rule.{Rule}
 use Rattle.zq_model.specs.Sets.{IsClosed, IsHeaps, IsIn, IsMade, IsWorld, LAST, SITES, last, vector_of}
+use Rattle.zq_moves.proofs.Read.{in_place, placed_in}
 use Rattle.zq_moves.specs.Lent.{books_after, is_home, made, made_in}
 use Rattle.zq_moves.specs.Moves.{Move}
 use Rattle.zq_plans.specs.Run.{IsWhy, LAST_COUNT, Number, is_worn}
 use Rattle.zq_runs.proofs.BooksOf.{book_here, book_there, books_of_others, same_elsewhere, with_at_here}
-use Rattle.zq_runs.proofs.KeptRuns.{heap_below, looked_up, made_is}
+use Rattle.zq_runs.proofs.KeptRuns.{heap_below, made_is}
 use Rattle.zq_runs.specs.Books.{AreBooksOf, AreSound, AreUnworn, IsBookOf, IsSoundMove}
 use Rattle.zq_plans.specs.Plan.{Plan}
 use Rattle.zq_plans.specs.Replies.{Reply, bytes_of}
 use Rattle.zq_runs.specs.Doing.{done_by, done_to}
 use Rattle.zq_runs.specs.State.{State, after_move, after_moves, home_of, is_full, is_spent, operation_by, standing}
-
-pub false_if_not_true : (b : Bool) → (b ≡ true → ⊥) → b ≡ false
-false_if_not_true true none = absurd (none refl)
-false_if_not_true false none = refl
 
 -- what is read of a mapped list is mapped
 mapped_at : {X Y : Type 0} (f : X → Y) (xs : List X) (i : ℕ) (y : Y) → slice_get (map f xs) i ≡ Some y → (x : X) × (slice_get xs i ≡ Some x) × (f x ≡ y)
@@ -39,24 +36,11 @@ mapped_at {X = X} f xs i y at =
       | Some x ↦ λ found e. (x, found, same_Some (f x) y e)
     ] refl (sym (slice_get-map f xs i) ∙ at)
 
--- what stands in a list is read of it somewhere
-placed_in : {X : Type 0} (x : X) (xs : List X) → IsIn x xs → (i : ℕ) × (slice_get xs i ≡ Some x)
-placed_in x [] i = absurd i
-placed_in x (y ∷ xs) (inl e) = (0, ap (λ z. Some z) e)
-placed_in x (y ∷ xs) (inr there) = let rest = placed_in x xs there in (suc rest.0, rest.1)
-
 -- a number inside a list is that of an element
 pub read_within : {X : Type 0} (xs : List X) (i : ℕ) → i < length xs → (x : X) × (slice_get xs i ≡ Some x)
 read_within [] i inside = absurd (omega (arith, inside))
 read_within (x ∷ xs) zero inside = (x, refl)
 read_within (x ∷ xs) (suc i) inside = read_within xs i (omega (arith, inside))
-
-take_all : {X : Type 0} (xs : List X) → take (length xs) xs ≡ xs
-take_all [] = refl
-take_all (x ∷ xs) = ap (λ ys. x ∷ ys) (take_all xs)
-
-in_taken : {X : Type 0} (x : X) (k : ℕ) (xs : List X) → IsIn x (take k xs) → IsIn x xs
-in_taken x k xs i = subst (IsIn x) (take-append-drop k xs) (in_left x (take k xs) (drop k xs) i)
 
 -- what a test that asks twice says
 both_true : (b c : Bool) → (if b then c else false) ≡ true → (b ≡ true) × (c ≡ true)
@@ -100,7 +84,7 @@ module _ (rule : Rule) (K site stamp : ℕ) (heaps : IsHeaps K) (below : site < 
 
       book_stays : is_home move b ≡ false → IsBookOf rule K (after_move K site stamp move st) site h b
       book_stays away =
-          let apart : (h == home) ≡ false = false_if_not_true (h == home) (λ e.
+          let apart : (h == home) ≡ false = false_from_ne_true (h == home) (λ e.
           true≢false (sym (eq-eqb _ _ (ap (heap_of move.key move.member) is.heaps ∙ sym (eqb-true h home e) ∙ sym is.heap)) ∙ away)) in
           book_there rule K st site home stamp (st.made ++ next st move ∷ []) (next st move ∷ st.sets site) h b is apart
           (same_elsewhere K (st.sets site) (next st move ∷ st.sets site) home h world_after apart (λ o i. inr i) (λ o i other. elim i [
@@ -125,7 +109,7 @@ module _ (rule : Rule) (K site stamp : ℕ) (heaps : IsHeaps K) (below : site < 
 
   -- ---- moves, one after the other
 
-  more_stand : (st : State) (move : Move) (moves : List Move) (n : ℕ) → n < standing K site stamp (move ∷ moves) st →
+  pub more_stand : (st : State) (move : Move) (moves : List Move) (n : ℕ) → n < standing K site stamp (move ∷ moves) st →
       (is_spent st site (home_of K move) ≡ false) × (standing K site stamp (move ∷ moves) st ≡ suc (standing K site stamp moves (after_move K site stamp move st)))
   more_stand st move moves n some =
       let rest = standing K site stamp moves (after_move K site stamp move st) in
@@ -209,7 +193,7 @@ module _ (rule : Rule) (K site stamp : ℕ) (heaps : IsHeaps K) (below : site < 
         | inr count ↦ inr (let least = leb-true LAST_COUNT (st.counts site home) count in omega (arith, least, counted))
       ] in (
         moved move b,
-        in_map (moved move) b books (looked_up books home b found.1),
+        in_map (moved move) b books (in_place books home b found.1),
         subst IsOver (sym (cond-true (is_home move b) (made_in site stamp move b) b at_home)) over,
       )
 
@@ -247,7 +231,7 @@ module _ (rule : Rule) (K site stamp : ℕ) (heaps : IsHeaps K) (below : site < 
   all_stand moves st books new world closed sound are unworn is =
       let most = standing_below moves st in
       let least = stand_so_far (length moves) moves st books world closed sound are
-      (subst AreUnworn (is ∙ ap (λ ms. books_after site stamp ms books) (sym (take_all moves))) unworn) (omega arith) in
+      (subst AreUnworn (is ∙ ap (λ ms. books_after site stamp ms books) (sym (take_all (length moves) moves (omega arith)))) unworn) (omega arith) in
       let all : standing K site stamp moves st ≡ length moves = omega (arith, most, least) in
       (all, subst (AreBooksOf rule K (after_moves K site stamp moves st) site) (sym is) (books_moved moves st books world closed sound all are))
 
@@ -289,7 +273,7 @@ module _ (K site stamp : ℕ) (plan : Plan) (cut : ℕ → Reply) (st : State) w
   done_whole all =
       let whole : (if length plan.moves == length plan.moves then plan.reply else cut (length plan.moves)) ≡ plan.reply
       = cond-true (length plan.moves == length plan.moves) plan.reply (cut (length plan.moves)) (eq-eqb _ _ refl) in
-      ap (done_to K site stamp plan cut st) all ∙ (λ i. record { now = after_moves K site stamp (take_all plan.moves i) st; reply = bytes_of (whole i) })
+      ap (done_to K site stamp plan cut st) all ∙ (λ i. record { now = after_moves K site stamp (take_all (length plan.moves) plan.moves (omega arith) i) st; reply = bytes_of (whole i) })
 
   pub done_part : (k : ℕ) → standing K site stamp plan.moves st ≡ k → k < length plan.moves →
       done_by K site stamp plan cut st ≡ record { now = after_moves K site stamp (take k plan.moves) st; reply = bytes_of (cut k) }

@@ -1,7 +1,7 @@
 -- A pop of one pair over the book that has it, and over all books of the site.
 
 use Rattle.std.proofs.Common.{List, Some, [], ap, arith, eqb-true, inl, inr, map, refl, subst, suc, sym, true, zero, ℕ, ◌+◌, ◌≤◌, ◌∙◌, ◌∷◌, ◌≡◌}
-use Rattle.std.proofs.lemmas.Bool.{cond-false}
+use Rattle.std.proofs.lemmas.Bool.{cond-false, false_from_ne_true}
 use Rattle.std.proofs.lemmas.Option.{none-some, same_Some}
 use Rattle.std.specs.Prelude.{if◌then◌else◌, slice_get, slice_set, take}
 use Rattle.zq_history.specs.Books.{Book}
@@ -17,7 +17,6 @@ use Rattle.zq_moves.specs.Lent.{books_after, is_home, made_in, queues_of}
 use Rattle.zq_moves.specs.Moves.{Move, Queue, Queues}
 use Rattle.zq_plans.specs.Plan.{drops, plan_of}
 use Rattle.zq_plans.specs.Replies.{pairs_reply}
-use Rattle.zq_runs.proofs.MovedBooks.{false_if_not_true}
 use Rattle.zq_runs.specs.Books.{AreBooksOf}
 use Rattle.zq_runs.specs.State.{State}
 use Rattle.zq_words.specs.Command.{Zpopnear}
@@ -40,10 +39,10 @@ pub record IsPlaced (K h : ℕ) (b : Book) : Type 0 where
   pub heaps : b.heaps ≡ K
 
 -- the books are those of the heaps from a on, in order
-abbrev ArePlaced : ℕ → ℕ → List Book → Type 0
+abbrev pub ArePlaced : ℕ → ℕ → List Book → Type 0
 ArePlaced K a books = (i : ℕ) (b : Book) → slice_get books i ≡ Some b → IsPlaced K (a + i) b
 
-placed_rest : (K a : ℕ) (b : Book) (books : List Book) → ArePlaced K a (b ∷ books) → ArePlaced K (a + 1) books
+pub placed_rest : (K a : ℕ) (b : Book) (books : List Book) → ArePlaced K a (b ∷ books) → ArePlaced K (a + 1) books
 placed_rest K a b books are i c at =
     let is = are (suc i) c at in
     record { heap = is.heap ∙ (omega arith); heaps = is.heaps }
@@ -58,7 +57,7 @@ module _ (K site stamp : ℕ) (move : Move) where
   moved_away : (h : ℕ) (b : Book) → IsPlaced K h b → (h ≡ home → ⊥) → moved b ≡ b
   moved_away h b is apart =
       cond-false (is_home move b) (made_in site stamp move b) b
-      (false_if_not_true (is_home move b) (λ e. apart (sym is.heap ∙ sym (eqb-true _ _ e) ∙ ap (heap_of move.key move.member) is.heaps)))
+      (false_from_ne_true (is_home move b) (λ e. apart (sym is.heap ∙ sym (eqb-true _ _ e) ∙ ap (heap_of move.key move.member) is.heaps)))
 
   all_away : (books : List Book) (a : ℕ) → ArePlaced K a books → home + 1 ≤ a → map moved books ≡ books
   all_away [] a are past = refl

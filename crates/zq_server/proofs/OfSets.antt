@@ -1,14 +1,14 @@
 -- The book of a server with one heap, by the set of operations of which it has the image.
 
 use Rattle.std.proofs.Common.{Bool, List, Some, [], ap, arith, false, inl, inr, length, map, refl, subst, suc, sym, take, true, true≢false, zero, ℕ, ◌+◌, ◌<◌, ◌∙◌, ◌∷◌, ◌≡◌}
-use Rattle.std.proofs.lemmas.List.{length-map, take-append-drop}
+use Rattle.std.proofs.lemmas.List.{length-map}
 use Rattle.std.proofs.lemmas.Option.{same_Some}
-use Rattle.std.specs.Prelude.{Err, None, Ok, drop, if◌then◌else◌, slice_get}
+use Rattle.std.specs.Prelude.{Err, None, Ok, if◌then◌else◌, slice_get}
 use Rattle.zq_commands.specs.Beginning.{begun}
 use Rattle.zq_history.specs.Books.{Book}
 use Rattle.zq_model.proofs.JoinImages.{image_of-nothing}
 use Rattle.zq_model.proofs.Listing.{in_map_from}
-use Rattle.zq_model.proofs.Membership.{in_left}
+use Rattle.zq_model.proofs.Membership.{in_taken}
 use Rattle.zq_model.specs.Bounded.{HasShortNames}
 use Rattle.zq_model.specs.Meaning.{IsWholeQueue}
 use Rattle.zq_model.proofs.MeantQueues.{whole_queue_is}
@@ -223,9 +223,6 @@ moved_set S stamp moves (b ∷ []) new of sound unworn is =
     let more = grows stamp moves st sound stands.0 (record { world = of.world; closed = of.closed; short = of.short }) in
     ((after_moves 1 SITE stamp moves st).sets SITE, of_books (after_moves 1 SITE stamp moves st) new stands.1 more.0, more.1)
 moved_set S stamp moves (b ∷ c ∷ books) new of sound unworn is = absurd (let none = of.number in omega (arith, none))
-
-in_taken : {X : Type 0} (x : X) (k : ℕ) (xs : List X) → IsIn x (take k xs) → IsIn x xs
-in_taken x k xs i = subst (IsIn x) (take-append-drop k xs) (in_left x (take k xs) (drop k xs) i)
 
 module _ (S : List Operation) (old new : List Book) (bytes : Word) (of : IsOfSet S old) (unworn : AreUnworn new) where
   kept : new ≡ old → Grown S new

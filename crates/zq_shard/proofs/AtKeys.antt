@@ -19,7 +19,7 @@ use Rattle.zq_shard.specs.Queues.{AreQueues, HasAt, entries_in, entries_or_none,
 
 -- ---- a queue with members, or without
 
-nil_from_length : {X : Type 0} (xs : List X) → length xs ≡ 0 → xs ≡ []
+pub nil_from_length : {X : Type 0} (xs : List X) → length xs ≡ 0 → xs ≡ []
 nil_from_length [] e = refl
 nil_from_length (x ∷ xs) e = absurd (omega (arith, e))
 

@@ -1,6 +1,6 @@
 -- The entries of a heap, key by key.
 
-use Rattle.std.proofs.Common.{Bool, Bor, Less, List, None, Option, Some, T, [], ap, ap₂, append_assoc, append-nil, arith, cond, false, get_or, is_some, length, map, refl, subst, sym, take, true, ℕ, ◌&&◌, ◌+◌, ◌++◌, ◌<◌, ◌||◌, ◌∙◌, ◌∷◌, ◌≡◌}
+use Rattle.std.proofs.Common.{Bool, Bor, Less, List, None, Option, Some, T, [], ap, ap₂, append_assoc, append-nil, cond, false, get_or, is_some, length, map, refl, subst, sym, take, true, ℕ, ◌&&◌, ◌+◌, ◌++◌, ◌<◌, ◌||◌, ◌∙◌, ◌∷◌, ◌≡◌}
 use Rattle.std.proofs.lemmas.Bool.{and_from, and_parts}
 use Rattle.std.proofs.lemmas.Cmp.{nat_list_cmp_total, tied_itself}
 use Rattle.std.proofs.lemmas.List.{map-append, take_more}
@@ -16,6 +16,7 @@ use Rattle.zq_model.proofs.Rising.{is_true}
 use Rattle.zq_model.specs.Image.{Entry, Place, place_cmp}
 use Rattle.zq_queue.specs.Entries.{Entries, bytes_cmp}
 use Rattle.zq_queue.specs.Queued.{Queued}
+use Rattle.zq_shard.proofs.AtKeys.{nil_from_length}
 use Rattle.zq_shard.proofs.Members.{get-members_in, same_place}
 use Rattle.zq_model.specs.Rows.{Row, row_of}
 use Rattle.zq_queue.specs.Lent.{lent_entry}
@@ -155,9 +156,5 @@ members_more key items i d begun old new below was is =
 pub no_block : (key : List ℕ) (es : Entries) → es ≡ empty → block key es ≡ []
 no_block key es is = ap (placed key) (ap entries is ∙ no_entries)
   where
-    nil_from_length : {X : Type 0} (xs : List X) → length xs ≡ 0 → xs ≡ []
-    nil_from_length [] e = refl
-    nil_from_length (x ∷ xs) e = absurd (omega (arith, e))
-
     no_entries : entries (empty {K = List ℕ} {X = Entry} {R = bytes_cmp}) ≡ []
     no_entries = nil_from_length _ (sym (len-entries (empty {K = List ℕ} {X = Entry} {R = bytes_cmp})) ∙ len-empty bytes_cmp Entry)

@@ -1,27 +1,19 @@
 -- The join of two sides, key by key.
 
-use Rattle.std.proofs.Common.{List, None, Option, Some, ap, ap₂, false, is_some, refl, sym, true, true≢false, ℕ, ◌++◌, ◌∙◌, ◌≡◌}
-use Rattle.std.proofs.lemmas.Bool.{or_parts}
+use Rattle.std.proofs.Common.{List, None, Option, Some, ap, ap₂, false, is_some, refl, sym, true, true≢false, ℕ, ◌∙◌, ◌≡◌}
 use Rattle.std.proofs.lemmas.Cmp.{nat_list_cmp_total}
-use Rattle.std.proofs.lemmas.List.Folds.{list_any-append}
 use Rattle.std.proofs.lemmas.Map.Lookups.{exact_bytes}
-use Rattle.std.specs.FinMap.{empty, find, get, get-empty, keys, same_map}
-use Rattle.std.specs.Ordering.{eq_by_cmp}
+use Rattle.std.specs.FinMap.{empty, find, get, get-empty, same_map}
 use Rattle.zq_model.proofs.Entries.{get-join}
-use Rattle.zq_model.proofs.Maps.{get-map_on_all, get_without, place_exact, place_total}
+use Rattle.zq_model.proofs.Maps.{place_exact, place_total}
 use Rattle.zq_model.specs.Image.{join_entry, unless_bare}
 use Rattle.zq_model.specs.Rule.{Rule}
-use Rattle.zq_queue.proofs.Built.{nothing_joined}
-use Rattle.zq_queue.specs.Entries.{Entries, bytes_cmp, entry_joined, joined_entries}
+use Rattle.zq_queue.proofs.Built.{get-joined_entries, nothing_joined}
+use Rattle.zq_queue.specs.Entries.{bytes_cmp, joined_entries}
 use Rattle.zq_queue.specs.Queued.{Queued}
 use Rattle.zq_shard.proofs.AtKeys.{entries_unless, unless_none}
 use Rattle.zq_shard.proofs.Members.{entry_at-members_in, get-members_in}
 use Rattle.zq_shard.specs.Queues.{and_then, entries_in, entries_or_none, members_in, members_joined, queue_joined}
-
-get-joined_entries : (u v : List ℕ) (a b : Entries) (q : List ℕ) → get (joined_entries u v a b) q ≡ entry_joined u v a b q
-get-joined_entries u v a b q = get-map_on_all nat_list_cmp_total exact_bytes (entry_joined u v a b) (keys a ++ keys b) q (λ away.
-    let parts = or_parts _ _ (sym (list_any-append (eq_by_cmp bytes_cmp q) (keys a) (keys b)) ∙ away) in
-    nothing_joined u v a b q (get_without nat_list_cmp_total exact_bytes a q parts.0) (get_without nat_list_cmp_total exact_bytes b q parts.1))
 
 -- nothing comes of two keys that are not there
 pub none_joined : (rule : Rule) (u v : List ℕ) → queue_joined rule u v None None ≡ None

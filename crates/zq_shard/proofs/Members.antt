@@ -5,13 +5,14 @@ use Rattle.std.proofs.lemmas.Bool.{or_parts}
 use Rattle.std.proofs.lemmas.Cmp.{nat_list_cmp_total}
 use Rattle.std.proofs.lemmas.List.Folds.{list_any-append}
 use Rattle.std.proofs.lemmas.Map.Lookups.{exact_bytes}
-use Rattle.std.specs.FinMap.{find, get, get-empty, get-insert, get-remove, insert, keys, remove, same_map}
+use Rattle.std.specs.FinMap.{find, get, get-empty, keys, same_map}
 use Rattle.std.specs.List.{flat_map, list_any}
 use Rattle.std.specs.Ordering.{eq_by_cmp, is_eq, ordering_then}
 use Rattle.zq_model.proofs.Entries.{get-put_entry}
 use Rattle.zq_model.proofs.Maps.{get-map_on_all, get_without, place_exact, place_total, same_key}
-use Rattle.zq_model.specs.Image.{Entry, Members, Place, entry_at, is_bare, no_additions, place_cmp, put_entry, unless_bare}
-use Rattle.zq_queue.specs.Entries.{Entries, bytes_cmp, entry_in, set_entry}
+use Rattle.zq_model.specs.Image.{Entry, Members, Place, entry_at, no_additions, place_cmp, put_entry, unless_bare}
+use Rattle.zq_queue.proofs.Built.{get-set_entry}
+use Rattle.zq_queue.specs.Entries.{bytes_cmp, entry_in, set_entry}
 use Rattle.zq_queue.specs.Queued.{Queued}
 use Rattle.zq_shard.specs.Queues.{HasAt, entries_at, entries_in, entries_or_none, members_in, places_of}
 
@@ -74,14 +75,6 @@ entries_at-members_in queues key =
     (λ member. get-entries_at (members_in queues) key member ∙ get-members_in queues (key, member))
 
 -- ---- a change at one key
-
-pub get-set_entry : (entries : Entries) (member : List ℕ) (entry : Entry) (q : List ℕ) →
-    get (set_entry entries member entry) q ≡ cond (eq_by_cmp bytes_cmp q member) (unless_bare entry) (get entries q)
-get-set_entry entries member entry q =
-    elim (is_bare entry) as (λ b. get (cond b (remove entries member) (insert entries member entry)) q ≡ cond (eq_by_cmp bytes_cmp q member) (cond b None (Some entry)) (get entries q)) [
-      | true ↦ get-remove nat_list_cmp_total entries member q
-      | false ↦ get-insert nat_list_cmp_total entries member entry q
-    ]
 
 -- where one key's queue has another entry of a member, and the other keys keep theirs, so have the members
 pub members_set : (k member : List ℕ) (entry : Entry) (w : Option Queued) (old new : List (List ℕ × Queued)) → HasAt k w old new →

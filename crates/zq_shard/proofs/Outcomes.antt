@@ -3,10 +3,6 @@
 use Rattle.std.proofs.Common.{Err, Ok, Result}
 use Rattle.std.specs.Prelude.{IfOk, OnErr, OnOk}
 
-pub if_err : {X E P : Type 0} (r : Result X E) → P → OnErr r P
-if_err (Ok x) p = tt {0}
-if_err (Err e) p = p
-
 pub ok_map : {X E P Q : Type 0} (r : Result X E) → OnOk r P → (P → Q) → OnOk r Q
 ok_map (Ok x) p f = f p
 ok_map (Err e) p f = tt {0}

@@ -10,6 +10,7 @@ use Rattle.std.specs.Prelude.{suc, zero}
 use Rattle.zq_model.proofs.BoundedImages.{bounded_rows}
 use Rattle.zq_model.proofs.Entries.{entry_unless_bare, get-put_entry, kept_entry}
 use Rattle.zq_model.proofs.Maps.{in_map, key_same, place_exact, place_total, same_key}
+use Rattle.zq_model.proofs.Membership.{in_taken}
 use Rattle.zq_model.proofs.SparseEntries.{addition_listed, entry_back}
 use Rattle.zq_model.specs.Bounded.{IsBounded, IsBoundedAt, IsBoundedRow}
 use Rattle.zq_model.specs.Entry.{Addition}
@@ -107,17 +108,11 @@ in_at [] i d below = absurd (omega (arith, below))
 in_at (x ∷ xs) zero d below = inl refl
 in_at (x ∷ xs) (suc i) d below = inr (in_at xs i d (omega arith))
 
-in_take : {X : Type 0} (x : X) (n : ℕ) (xs : List X) → IsIn x (take n xs) → IsIn x xs
-in_take x zero xs i = absurd i
-in_take x (suc n) [] i = absurd i
-in_take x (suc n) (y ∷ xs) (inl e) = inl e
-in_take x (suc n) (y ∷ xs) (inr i) = inr (in_take x n xs i)
-
 -- the first so many rows are in order
 pub order_take : (n : ℕ) (rows : List Row) → AreInOrder rows → AreInOrder (take n rows)
 order_take zero rows order = tt
 order_take (suc n) [] order = tt
-order_take (suc n) (row ∷ rows) order = ((λ later i. order.0 later (in_take later n rows i)), order_take n rows order.1)
+order_take (suc n) (row ∷ rows) order = ((λ later i. order.0 later (in_taken later n rows i)), order_take n rows order.1)
 
 map_take : {X Y : Type 0} (f : X → Y) (n : ℕ) (xs : List X) → map f (take n xs) ≡ take n (map f xs)
 map_take f zero xs = refl

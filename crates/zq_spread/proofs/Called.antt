@@ -1,10 +1,10 @@
 -- Commands over all heaps of a site, and over two that are drawn.
 
 use Rattle.std.proofs.Common.{ap, arith, inl, inr, subst, suc, sym, zero, ◌∙◌}
-use Rattle.std.proofs.lemmas.Bool.{cases_eq, cases_lt}
+use Rattle.std.proofs.lemmas.Bool.{cases_lt}
 use Rattle.std.proofs.lemmas.Option.{slice_get_past, slice_get_within}
 use Rattle.std.specs.List.{range_with_len}
-use Rattle.std.specs.Prelude.{Bool, Err, IfOk, IsSome, List, None, Ok, OnErr, Option, Result, Some, [], length, map, max, refl, slice_get, take, true, ℕ, ◌&&◌, ◌+◌, ◌<◌, ◌∷◌, ◌≡◌, ◌≤◌, ◌⊎◌}
+use Rattle.std.specs.Prelude.{Bool, IsSome, List, None, Option, Some, [], length, map, max, refl, slice_get, take, true, ℕ, ◌&&◌, ◌+◌, ◌<◌, ◌∷◌, ◌≡◌, ◌≤◌, ◌⊎◌}
 use Rattle.zq_commands.proofs.SitePlaces.{site_homes}
 use Rattle.zq_commands.specs.Commands.{HasBooks}
 use Rattle.zq_commands.specs.SiteBooks.{AreOfSite}
@@ -12,6 +12,7 @@ use Rattle.zq_commands.specs.VecBooks.{lending_of, rule_in}
 use Rattle.zq_dots.specs.Rule.{rule_of}
 use Rattle.zq_history.specs.Books.{Book, Step}
 use Rattle.zq_model.proofs.Maps.{in_map}
+use Rattle.zq_model.proofs.Membership.{in_or_not, in_range_with_len}
 use Rattle.zq_model.specs.Bounded.{IsBounded}
 use Rattle.zq_model.specs.Queue.{queue_of}
 use Rattle.zq_model.specs.Rule.{Rule}
@@ -20,8 +21,9 @@ use Rattle.zq_model.specs.Sets.{IsIn}
 use Rattle.zq_moves.proofs.Counted.{in_merged, queue_merged}
 use Rattle.zq_moves.specs.Lent.{queues_of}
 use Rattle.zq_moves.specs.Moves.{Queue}
+use Rattle.zq_posheap.proofs.Lists.{there_is}
 use Rattle.zq_spread.proofs.ManyHeaps.{seen_same, steps_same}
-use Rattle.zq_spread.proofs.Seats.{found_at, seen_later}
+use Rattle.zq_spread.proofs.Seats.{seen_later}
 use Rattle.zq_spread.specs.Calls.{AreWorkedIn, greatest_stamp, heaps_of}
 use Rattle.zq_spread.specs.Dispatch.{HasQueued, IsCommand, IsNear, IsWornOut, all_heaps}
 use Rattle.zq_spread.specs.Kept.{Follows, follows_further}
@@ -56,13 +58,6 @@ in_range_high : (a n k : ℕ) → IsIn k (range_with_len a n) → k < a + n
 in_range_high a zero k here = absurd here
 in_range_high a (suc n) k (inl same) = omega (arith, same)
 in_range_high a (suc n) k (inr there) = let high = in_range_high (a + 1) n k there in omega (arith, high)
-
-pub range_in : (a n k : ℕ) → a ≤ k → k < a + n → IsIn k (range_with_len a n)
-range_in a zero k low high = absurd (omega (arith, low, high))
-range_in a (suc n) k low high = elim (cases_eq a k) [
-  | inl same ↦ inl same
-  | inr other ↦ inr (range_in (a + 1) n k (omega (arith, low, other)) (omega (arith, high)))
-]
 
 pub heaps_all : (site : Site) (a n : ℕ) → a + n ≤ heaps_of site → AreHeapsOf site (range_with_len a n)
 heaps_all site a zero most = tt
@@ -109,16 +104,6 @@ homes_all site books command some most are =
     rule_first (c ∷ bs) some are = (book_place site 0 (heaps_of site) 0 (c ∷ bs) c are refl).rule
 
 -- ---- a pass that comes back
-
-in_or_not : (k : ℕ) (heaps : List ℕ) → IsIn k heaps ⊎ (IsIn k heaps → ⊥)
-in_or_not k [] = inr (λ none. none)
-in_or_not k (h ∷ heaps) = elim (cases_eq h k) [
-  | inl same ↦ inl (inl same)
-  | inr other ↦ elim (in_or_not k heaps) [
-    | inl there ↦ inl (inr there)
-    | inr out ↦ inr (λ is. elim is [ inl same ↦ other same | inr there ↦ out there ])
-  ]
-]
 
 pub pass_back : (site : Site) (heaps : List ℕ) (p q : Pass) → IsPassOf site p → AreBack site heaps p q → IsPassOf site q
 pass_back site heaps p q is back = record {
@@ -182,7 +167,7 @@ module _ (site : Site) (p q : Pass) (at_p : IsPassOf site p) (at_q : IsPassOf si
   worked_before r (h ∷ heaps) (x ∷ found) [] steps inside are = absurd are
   worked_before r (h ∷ heaps) (x ∷ found) (y ∷ left) [] inside are = absurd are
   worked_before r (h ∷ heaps) (x ∷ found) (y ∷ left) (ss ∷ steps) inside are =
-      let room = found_at site.rooms.items h (inside h (inl refl)) in (
+      let room = there_is site.rooms.items h (inside h (inl refl)) in (
         record {
           follows = later_seen x (seen_at q h) (seen_at p h) (seat_seen room.0 (slice_get q.seats.items h) (at_q.seat h room.0 room.1)) are.0.follows (stopped.seen h);
           worked = are.0.worked;
@@ -202,7 +187,7 @@ module _ (site : Site) (p q : Pass) (at_p : IsPassOf site p) (at_q : IsPassOf si
     worked = worked_before r (all_heaps site) call.found call.left call.steps (λ k here. let high = in_range_high 0 (heaps_of site) k here in omega (arith, high)) call.worked;
     others = λ k out.
         let stays = call.others k out in
-        let high : heaps_of site ≤ k = elim (cases_lt k (heaps_of site)) [ inl low ↦ absurd (out (range_in 0 (heaps_of site) k (omega arith) (omega (arith, low)))) | inr high ↦ omega (arith, high) ] in
+        let high : heaps_of site ≤ k = elim (cases_lt k (heaps_of site)) [ inl low ↦ absurd (out (in_range_with_len 0 (heaps_of site) k (omega arith) (omega (arith, low)))) | inr high ↦ omega (arith, high) ] in
         (stays.0 ∙ seen_past site p q k at_p at_q high, stays.1 ∙ stopped.steps k);
     done = call.done;
   }
@@ -215,7 +200,7 @@ module _ (site : Site) (p q : Pass) (at_p : IsPassOf site p) (at_q : IsPassOf si
       steps = λ k. worn.1.steps k ∙ stopped.steps k;
       seen = λ k. elim (cases_lt k (heaps_of site)) [
         | inl low ↦
-            let room = found_at site.rooms.items k low in
+            let room = there_is site.rooms.items k low in
             later_both (seen_at r k) (seen_at q k) (seen_at p k) (seat_seen room.0 (slice_get q.seats.items k) (at_q.seat k room.0 room.1)) (worn.1.seen k) (stopped.seen k)
         | inr high ↦ subst (λ o. IsSeenLater (seen_at r k) o) (seen_past site p q k at_p at_q (omega (arith, high))) (worn.1.seen k)
       ];
@@ -230,15 +215,6 @@ module _ (site : Site) (p q : Pass) (at_p : IsPassOf site p) (at_q : IsPassOf si
   pub near_after : (command : Command) (reply : Word) (r : Pass) (drawn : List ℕ) → IsPassOf site r → IsCommand site command reply q r (all_heaps site) ⊎ IsWornOut reply q r → IsNear site command reply p r drawn
   near_after command reply r drawn at_r (inl call) = inr (inl (command_before command reply r call))
   near_after command reply r drawn at_r (inr worn) = inr (inr (inl (worn_before reply r at_r worn)))
-
--- what holds of the value of a result, and gives something else of it
-pub if_ok : {T E : Type 0} {P Q : T → Type 0} (r : Result T E) → ((x : T) → P x → Q x) → IfOk r P → IfOk r Q
-if_ok (Ok x) gives is = gives x is
-if_ok (Err e) gives is = tt
-
-pub on_error : {T E : Type 0} {P Q : Type 0} (r : Result T E) → (P → Q) → OnErr r P → OnErr r Q
-on_error (Ok x) gives is = tt
-on_error (Err e) gives is = gives is
 
 -- ---- a member of the key
 

@@ -11,6 +11,7 @@ use Rattle.zq_history.specs.Books.{Book, Record, steps_of}
 use Rattle.zq_history.specs.Reach.{IsWorked}
 use Rattle.zq_model.specs.Heaps.{heap_of}
 use Rattle.zq_model.specs.Rule.{Rule}
+use Rattle.zq_plans.proofs.Narrow.{same_heap}
 use Rattle.zq_plans.specs.Run.{IsRun}
 use Rattle.zq_spread.proofs.Twins.{AreTwins, IsTwin, begun_twin, run_twins}
 use Rattle.zq_spread.specs.Answers.{HasWorked}
@@ -19,9 +20,6 @@ use Rattle.zq_words.specs.Command.{Command, Del, Ping, Zadd, ZaddIncr, Zcard, Zc
 use Rattle.zq_words.specs.Heaps.{heaps_of}
 use Rattle.zq_words.specs.Words.{Word}
 use Rattle.zq_words.specs.declared.heaps.Heaps.TheVariants.{One}
-
-same_heap : (a b : ℕ) → One a ≡ One b → a ≡ b
-same_heap a b e = cc
 
 -- a member of the heap lies in its book
 here : (key member : List ℕ) (h K : ℕ) (book : Book) → book.heap ≡ h → book.heaps ≡ K → heap_of key member K ≡ h → HasBook key member (lending_of (book ∷ []))

@@ -4,11 +4,11 @@ use Rattle.std.proofs.Common.{ap, arith, inl, inr, subst, sym, ◌∙◌}
 use Rattle.std.proofs.lemmas.Bool.{cases_eq}
 use Rattle.std.proofs.lemmas.List.Elements.{All-cons, All-head, All-nil, All-tail}
 use Rattle.std.proofs.lemmas.List.Sums.{sum_by-cons}
+use Rattle.std.proofs.lemmas.Option.{same_Some}
 use Rattle.std.specs.List.{AllZip}
-use Rattle.std.specs.Prelude.{All, IsSome, List, None, Option, Some, [], length, refl, slice_get, sum, ℕ, ◌+◌, ◌≡◌, ◌≤◌, ◌∷◌}
+use Rattle.std.specs.Prelude.{All, IsSome, List, None, Option, Some, [], length, refl, slice_get, ℕ, ◌≡◌, ◌≤◌, ◌∷◌}
 use Rattle.zq_history.specs.Reach.{Reached}
 use Rattle.zq_journal.specs.Books.{LAST_STAMP}
-use Rattle.zq_spread.proofs.Seats.{same_some}
 use Rattle.zq_spread.specs.Companies.{IsCountBack, IsSameBut, IsSamePass, steps_of_all}
 use Rattle.zq_spread.specs.Kept.{Follows, follows_itself}
 use Rattle.zq_spread.specs.Passes.{IsCountOf, IsPassBut, IsPassOf, IsSeatOf, seen_in, steps_at}
@@ -53,7 +53,7 @@ module _ (site : Site) (heap : ℕ) (room : Room) (at : slice_get site.rooms.ite
   back_count x y back counts h r at_h = elim (cases_eq h heap) [
     | inl same ↦ (
         let one : Some room ≡ Some r = sym at ∙ ap (slice_get site.rooms.items) (sym same) ∙ at_h in
-        subst (λ q. IsCountOf q (slice_get y.counts.items h)) (same_some room r one) (subst (λ k. IsCountOf room (slice_get y.counts.items k)) (sym same) back.count))
+        subst (λ q. IsCountOf q (slice_get y.counts.items h)) (same_Some room r one) (subst (λ k. IsCountOf room (slice_get y.counts.items k)) (sym same) back.count))
     | inr other ↦ subst (IsCountOf r) (sym (back.rest h other)) (counts h r at_h)
   ]
 
@@ -140,9 +140,6 @@ pub count_in : (room : Room) (o : Option (Option Count)) → IsCountOf room o �
 count_in room (Some (Some count)) is = (count, refl)
 count_in room (Some None) is = absurd is
 count_in room None is = absurd is
-
-pub sum_first : (n : ℕ) (xs : List ℕ) → sum (n ∷ xs) ≡ n + sum xs
-sum_first n xs = sum_by-cons (λ x. x) n xs
 
 pub sum_none : (h : ℕ) (xs : List Pass) → length xs ≡ 0 → steps_of_all h xs ≡ 0
 sum_none h [] none = refl

@@ -14,11 +14,11 @@ use Rattle.zq_journal.specs.declared.faults.TakeFault.{TakeFault}
 use Rattle.zq_journal.specs.declared.faults.TakeFault.TheVariants.{NoMemory, WrongHeap, Worn}
 use Rattle.zq_model.specs.Heaps.{heap_of}
 use Rattle.zq_model.specs.Sets as sets
+use Rattle.zq_posheap.proofs.Lists.{there_is}
 use Rattle.zq_shard.specs.Shard.{HeapImage, IsOfHeap, IsSameHeap}
 use Rattle.zq_shard.specs.Taken.{answer_of}
 use Rattle.zq_shard.specs.declared.taken.Taken.{Taken}
 use Rattle.zq_spread.proofs.Counted.{if_some}
-use Rattle.zq_spread.proofs.Seats.{found_at}
 use Rattle.zq_spread.specs.Answers.{HasWorked, IsMerged, IsTaken}
 use Rattle.zq_spread.specs.Calls.{IsCall, IsLikeSite, IsOfSite, heaps_of}
 use Rattle.zq_spread.specs.Passes.{IsRoomAt, seen_at, steps_at}
@@ -141,7 +141,7 @@ IsBegunIn site old h stamp held = (room : Room) → slice_get site.rooms.items h
 pub begun_on : (site : Site) (old : Pass) (h stamp : ℕ) (held : Held Kept) → h < heaps_of site → IsSome (given held) → IsBegunIn site old h stamp held →
     (room : Room) × (slice_get site.rooms.items h ≡ Some room) × (found : Kept) × (given held ≡ Some found) × IsBegun room (seen_at old h) old.stamp stamp (value_of held) found
 begun_on site old h stamp held within some begun =
-    let room = found_at site.rooms.items h within in
+    let room = there_is site.rooms.items h within in
     let found = seen_some (IsBegun room.0 (seen_at old h) old.stamp stamp (value_of held)) (given held) some (begun room.0 room.1) in
     (room.0, room.1, found.0, found.1, found.2)
 

@@ -1,15 +1,14 @@
 -- What stands in a list with one more at its end, and in lists whose elements change one by one.
 
 use Rattle.std.proofs.Common.{ap, arith, inl, inr, subst, sym, ◌∙◌}
-use Rattle.std.proofs.lemmas.Option.{slice_get_within}
+use Rattle.std.proofs.lemmas.Option.{same_Some, slice_get_within}
 use Rattle.std.specs.List.{AllZip}
 use Rattle.std.specs.Prelude.{List, Some, [], length, refl, slice_get, slice_set, suc, zero, ℕ, ◌++◌, ◌+◌, ◌≡◌, ◌≤◌, ◌⊎◌, ◌∷◌}
-use Rattle.zq_spread.proofs.Seats.{same_some}
 
 module _ {X : Type 0} where
   -- it stood there before, or it is the one at the end
   pub behind : (xs : List X) (x y : X) (i : ℕ) → slice_get (xs ++ x ∷ []) i ≡ Some y → (slice_get xs i ≡ Some y) ⊎ ((i ≡ length xs) × (x ≡ y))
-  behind [] x y zero e = inr (refl, same_some x y e)
+  behind [] x y zero e = inr (refl, same_Some x y e)
   behind [] x y (suc i) e = absurd (let within = slice_get_within [] i y e in omega (arith, within))
   behind (a ∷ rest) x y zero e = inl e
   behind (a ∷ rest) x y (suc i) e = elim (behind rest x y i e) [ inl there ↦ inl there | inr last ↦ inr (ap suc last.0, last.1) ]
@@ -32,7 +31,7 @@ module _ {X : Type 0} where
     zip_at [] [] i y all e = absurd (let within = slice_get_within [] i y e in omega (arith, within))
     zip_at [] (b ∷ bs) i y all e = absurd all
     zip_at (a ∷ rest) [] i y all e = absurd all
-    zip_at (a ∷ rest) (b ∷ bs) zero y all e = (a, refl, subst (R a) (same_some b y e) all.0)
+    zip_at (a ∷ rest) (b ∷ bs) zero y all e = (a, refl, subst (R a) (same_Some b y e) all.0)
     zip_at (a ∷ rest) (b ∷ bs) (suc i) y all e = zip_at rest bs i y all.1 e
 
     pub zip_length : (xs ys : List X) → AllZip R xs ys → length ys ≡ length xs
@@ -71,7 +70,7 @@ module _ {X : Type 0} where
     one_more i [] [] x y so at is = absurd (let within = slice_get_within [] i x at in omega (arith, within))
     one_more i [] (b ∷ bs) x y so at is = absurd so
     one_more i (a ∷ rest) [] x y so at is = absurd so
-    one_more zero (a ∷ rest) (b ∷ bs) x y so at is = (subst (λ o. R o y) (sym (same_some a x at)) is, same_lists rest bs (ap tail so))
+    one_more zero (a ∷ rest) (b ∷ bs) x y so at is = (subst (λ o. R o y) (sym (same_Some a x at)) is, same_lists rest bs (ap tail so))
       where
         tail : List X → List X
         tail [] = []

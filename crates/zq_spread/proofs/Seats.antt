@@ -1,11 +1,12 @@
 -- The seats and counts of a pass, while a call has one of them.
 
-use Rattle.std.proofs.Common.{ap, arith, inl, inr, subst, sym, ◌∙◌}
+use Rattle.std.proofs.Common.{ap, inl, inr, subst, sym, ◌∙◌}
 use Rattle.std.proofs.lemmas.Bool.{cases_eq}
 use Rattle.std.proofs.lemmas.List.{length-set}
-use Rattle.std.proofs.lemmas.Option.{slice_get_read}
-use Rattle.std.specs.Prelude.{List, None, Option, Some, [], get_or, length, refl, slice_get, slice_set, suc, zero, ℕ, ◌<◌, ◌≡◌, ◌≤◌, ◌∷◌}
+use Rattle.std.proofs.lemmas.Option.{same_Some, slice_get_read}
+use Rattle.std.specs.Prelude.{List, None, Option, Some, [], get_or, length, slice_get, slice_set, ℕ, ◌<◌, ◌≡◌, ◌≤◌, ◌∷◌}
 use Rattle.zq_journal.specs.Books.{LAST_STAMP}
+use Rattle.zq_posheap.proofs.Lists.{slice_get-set_other, slice_get-set_same}
 use Rattle.zq_spread.specs.Kept.{follows_itself}
 use Rattle.zq_spread.specs.Passes.{IsCountOf, IsPassBut, IsPassOf, IsSeatOf, IsSeenLater, IsStopped, seen_at, steps_at}
 use Rattle.zq_spread.specs.declared.kept.Kept.{Kept}
@@ -14,27 +15,6 @@ use Rattle.zq_spread.specs.declared.room.Room.{Room}
 use Rattle.zq_spread.specs.declared.site.Site.{Site}
 use Rattle.zq_tally.specs.declared.count.Count.{Count}
 use Rattle.zq_ticketlock.specs.declared.seat.Seat.{Seat}
-
--- what stands at an index that is within the list
-pub found_at : {X : Type 0} (xs : List X) (i : ℕ) → i < length xs → (x : X) × (slice_get xs i ≡ Some x)
-found_at [] i within = absurd (omega arith)
-found_at (x ∷ xs) zero within = (x, refl)
-found_at (x ∷ xs) (suc i) within = found_at xs i (omega arith)
-
-pub set_same : {X : Type 0} (xs : List X) (i : ℕ) (y : X) → i < length xs → slice_get (slice_set xs i y) i ≡ Some y
-set_same [] i y within = absurd (omega arith)
-set_same (x ∷ xs) zero y within = refl
-set_same (x ∷ xs) (suc i) y within = set_same xs i y (omega arith)
-
-pub set_other : {X : Type 0} (xs : List X) (i k : ℕ) (y : X) → (k ≡ i → ⊥) → slice_get (slice_set xs i y) k ≡ slice_get xs k
-set_other [] i k y other = refl
-set_other (x ∷ xs) zero zero y other = absurd (other refl)
-set_other (x ∷ xs) zero (suc k) y other = refl
-set_other (x ∷ xs) (suc i) zero y other = refl
-set_other (x ∷ xs) (suc i) (suc k) y other = set_other xs i k y (λ e. other (ap suc e))
-
-pub same_some : {X : Type 0} (x y : X) → Some x ≡ Some y → x ≡ y
-same_some x y e = cc
 
 -- what stood where it was taken out
 pub taken_at : {X : Type 0} (xs : List X) (n i : ℕ) (x took y : X) → length xs ≡ n → i < n → x ≡ get_or xs i x → took ≡ x → took ≡ y → slice_get xs i ≡ Some y
@@ -47,7 +27,7 @@ seat_out site pass new heap x seats counts stamp is = record {
   seats = ap length seats ∙ length-set pass.seats.items heap x ∙ is.seats;
   counts = ap (λ c. length c.items) counts ∙ is.counts;
   rooms = is.rooms;
-  seat = λ h room other at. subst (IsSeatOf room) (sym (ap (λ l. slice_get l h) seats ∙ set_other pass.seats.items heap h x (λ same. other (inl (sym same))))) (is.seat h room at);
+  seat = λ h room other at. subst (IsSeatOf room) (sym (ap (λ l. slice_get l h) seats ∙ slice_get-set_other pass.seats.items heap h x (λ same. other (inl (sym same))))) (is.seat h room at);
   count = λ h room at. subst (λ c. IsCountOf room (slice_get c.items h)) (sym counts) (is.count h room at);
   stamp = subst (λ n. n ≤ LAST_STAMP) (sym stamp) is.stamp;
 }
@@ -58,9 +38,9 @@ pub seat_home : (site : Site) (pass new : Pass) (heap : ℕ) (out : List ℕ) (r
     IsPassBut site (heap ∷ out) pass → IsPassBut site out new
 seat_home site pass new heap out room seat within at seats counts stamp fits is =
     let here : slice_get new.seats.items heap ≡ Some (Some seat) =
-    ap (λ l. slice_get l heap) seats ∙ set_same pass.seats.items heap (Some seat) (subst (λ n. heap < n) (sym is.seats) within) in
+    ap (λ l. slice_get l heap) seats ∙ slice_get-set_same pass.seats.items heap (Some seat) (subst (λ n. heap < n) (sym is.seats) within) in
     let there : (h : ℕ) → (h ≡ heap → ⊥) → slice_get new.seats.items h ≡ slice_get pass.seats.items h =
-    λ h other. ap (λ l. slice_get l h) seats ∙ set_other pass.seats.items heap h (Some seat) other in
+    λ h other. ap (λ l. slice_get l h) seats ∙ slice_get-set_other pass.seats.items heap h (Some seat) other in
     record {
       seats = ap length seats ∙ length-set pass.seats.items heap (Some seat) ∙ is.seats;
       counts = ap (λ c. length c.items) counts ∙ is.counts;
@@ -68,7 +48,7 @@ seat_home site pass new heap out room seat within at seats counts stamp fits is 
       seat = λ h other_room away at_h. elim (cases_eq h heap) [
         | inl same ↦ (
             let one : Some room ≡ Some other_room = sym at ∙ ap (slice_get site.rooms.items) (sym same) ∙ at_h in
-            subst (λ r. IsSeatOf r (slice_get new.seats.items h)) (same_some room other_room one) (subst (IsSeatOf room) (sym (ap (slice_get new.seats.items) same ∙ here)) fits))
+            subst (λ r. IsSeatOf r (slice_get new.seats.items h)) (same_Some room other_room one) (subst (IsSeatOf room) (sym (ap (slice_get new.seats.items) same ∙ here)) fits))
         | inr other ↦ subst (IsSeatOf other_room) (sym (there h other)) (is.seat h other_room (λ here. elim here [ inl e ↦ other (sym e) | inr later ↦ away later ]) at_h)
       ];
       count = λ h room at. subst (λ c. IsCountOf room (slice_get c.items h)) (sym counts) (is.count h room at);
@@ -98,9 +78,9 @@ pub count_back : (site : Site) (pass new : Pass) (out : List ℕ) (heap : ℕ) (
 count_back site pass new out heap room x count within at seats counts stamp fits is =
     let long : length (slice_set pass.counts.items heap x) ≡ length site.rooms.items = length-set pass.counts.items heap x ∙ is.counts in
     let here : slice_get new.counts.items heap ≡ Some (Some count) =
-    ap (λ l. slice_get l heap) counts ∙ set_same (slice_set pass.counts.items heap x) heap (Some count) (subst (λ n. heap < n) (sym long) within) in
+    ap (λ l. slice_get l heap) counts ∙ slice_get-set_same (slice_set pass.counts.items heap x) heap (Some count) (subst (λ n. heap < n) (sym long) within) in
     let there : (h : ℕ) → (h ≡ heap → ⊥) → slice_get new.counts.items h ≡ slice_get pass.counts.items h =
-    λ h other. ap (λ l. slice_get l h) counts ∙ set_other (slice_set pass.counts.items heap x) heap h (Some count) other ∙ set_other pass.counts.items heap h x other in
+    λ h other. ap (λ l. slice_get l h) counts ∙ slice_get-set_other (slice_set pass.counts.items heap x) heap h (Some count) other ∙ slice_get-set_other pass.counts.items heap h x other in
     record {
       seats = ap (λ l. length l.items) seats ∙ is.seats;
       counts = ap length counts ∙ length-set (slice_set pass.counts.items heap x) heap (Some count) ∙ long;
@@ -109,7 +89,7 @@ count_back site pass new out heap room x count within at seats counts stamp fits
       count = λ h other_room at_h. elim (cases_eq h heap) [
         | inl same ↦ (
             let one : Some room ≡ Some other_room = sym at ∙ ap (slice_get site.rooms.items) (sym same) ∙ at_h in
-            subst (λ r. IsCountOf r (slice_get new.counts.items h)) (same_some room other_room one) (subst (IsCountOf room) (sym (ap (slice_get new.counts.items) same ∙ here)) fits))
+            subst (λ r. IsCountOf r (slice_get new.counts.items h)) (same_Some room other_room one) (subst (IsCountOf room) (sym (ap (slice_get new.counts.items) same ∙ here)) fits))
         | inr other ↦ subst (IsCountOf other_room) (sym (there h other)) (is.count h other_room at_h)
       ];
       stamp = stamp;

@@ -9,8 +9,8 @@ use Rattle.std.specs.Prelude.{IfSome, List, Some, [], length, refl, slice_get, v
 use Rattle.zq_dots.specs.Rule.{rule_of}
 use Rattle.zq_dots.specs.declared.rule.Rule.{Rule}
 use Rattle.zq_history.specs.Books.{Book}
+use Rattle.zq_posheap.proofs.Lists.{slice_get-set_other, slice_get-set_same, there_is}
 use Rattle.zq_spread.proofs.Places.{behind, zip_at, zip_length}
-use Rattle.zq_spread.proofs.Seats.{found_at, set_other, set_same}
 use Rattle.zq_spread.specs.Companies.{opening_of}
 use Rattle.zq_spread.specs.Grounds.{AreSettled, HasPlaces, IsCounted, IsGround, IsNewIn, IsReady, IsRoomOver, IsSeated}
 use Rattle.zq_spread.specs.Makers.{IsMade}
@@ -48,10 +48,10 @@ given_new : (K h : ℕ) (room : Room) (kept : Kept) (before mid after : Pass) �
 given_new K h room kept before mid after within counted seated of has =
     let seats_long : length mid.seats.items ≡ K = ap (λ l. length l.items) counted.seats ∙ has.seats in
     let seat : slice_get after.seats.items h ≡ Some (Some seated.seat) =
-    ap (λ l. slice_get l h) seated.seats ∙ set_same mid.seats.items h (Some seated.seat) (subst (λ n. h < n) (sym seats_long) within) in
+    ap (λ l. slice_get l h) seated.seats ∙ slice_get-set_same mid.seats.items h (Some seated.seat) (subst (λ n. h < n) (sym seats_long) within) in
     let count : slice_get after.counts.items h ≡ Some (Some counted.count) =
     ap (λ l. slice_get l.items h) seated.counts ∙ ap (λ l. slice_get l h) counted.counts
-    ∙ set_same before.counts.items h (Some counted.count) (subst (λ n. h < n) (sym has.counts) within) in
+    ∙ slice_get-set_same before.counts.items h (Some counted.count) (subst (λ n. h < n) (sym has.counts) within) in
     record {
       seat = subst (IsSeatOf room) (sym seat) (seated.lock_is, subst (λ o. IfSome o (IsOf room)) (sym seated.seen_is) of);
       count = subst (IsCountOf room) (sym count) counted.table;
@@ -63,8 +63,8 @@ given_others : (h k : ℕ) (t : Tally) (lock : TicketLock Kept) (kept : Kept) (r
     IsSeated lock (Some kept) h mid after → IsNewIn room k book before → IsNewIn room k book after
 given_others h k t lock kept room book before mid after other counted seated new =
     stays_new room k book before after
-    (ap (λ l. slice_get l k) seated.seats ∙ set_other mid.seats.items h k (Some seated.seat) other ∙ ap (λ l. slice_get l.items k) counted.seats)
-    (ap (λ l. slice_get l.items k) seated.counts ∙ ap (λ l. slice_get l k) counted.counts ∙ set_other before.counts.items h k (Some counted.count) other) new
+    (ap (λ l. slice_get l k) seated.seats ∙ slice_get-set_other mid.seats.items h k (Some seated.seat) other ∙ ap (λ l. slice_get l.items k) counted.seats)
+    (ap (λ l. slice_get l.items k) seated.counts ∙ ap (λ l. slice_get l k) counted.counts ∙ slice_get-set_other before.counts.items h k (Some counted.count) other) new
 
 -- one heap more has its book
 pub settled_more : (K n : ℕ) (rule : Rule) (books : List Book) (rooms : List Room) (room : Room) (kept : Kept) (before mid after : List Pass) → AreSettled K n rule books rooms before →
@@ -113,14 +113,14 @@ pub made : (number n : ℕ) (books : List Book) (site : Site) (passes : List Pas
 made number n books site passes named some ruled is =
     let rooms = site.rooms.items in
     let book_at : (h : ℕ) (room : Room) → slice_get rooms h ≡ Some room → (book : Book) × (slice_get books h ≡ Some book) =
-    λ h room at. found_at books h (let low = slice_get_within rooms h room at in let same = is.number in omega (arith, low, same)) in
+    λ h room at. there_is books h (let low = slice_get_within rooms h room at in let same = is.number in omega (arith, low, same)) in
     let room_at : (h : ℕ) (book : Book) → slice_get books h ≡ Some book → (room : Room) × (slice_get rooms h ≡ Some room) =
-    λ h book at. found_at rooms h (let low = slice_get_within books h book at in let same = is.number in omega (arith, low, same)) in
+    λ h book at. there_is rooms h (let low = slice_get_within books h book at in let same = is.number in omega (arith, low, same)) in
     let new_at : (i h : ℕ) (pass : Pass) (room : Room) → slice_get passes i ≡ Some pass → slice_get rooms h ≡ Some room → (book : Book) × IsNewIn room h book pass =
     λ i h pass room at at_room. let b = book_at h room at_room in (b.0, is.new i h pass room b.0 at at_room b.1) in
     let steps_of : (i : ℕ) (pass : Pass) → slice_get passes i ≡ Some pass → (h : ℕ) → steps_at pass h ≡ 0 =
     λ i pass at h. elim (cases_lt h (length rooms)) [
-      | inl low ↦ (let room = found_at rooms h low in (new_at i h pass room.0 at room.1).1.none)
+      | inl low ↦ (let room = there_is rooms h low in (new_at i h pass room.0 at room.1).1.none)
       | inr high ↦ ap steps_in (slice_get_past pass.counts.items h (let same = is.number in let long = (is.places i pass at).counts in omega (arith, high, same, long)))
     ] in
     let pass_of : (i : ℕ) (pass : Pass) → slice_get passes i ≡ Some pass → IsPassOf site pass =

@@ -2,9 +2,8 @@
 
 use Rattle.std.proofs.Common.{List, Some, [], ap, arith, get_or, length, refl, reverse, set, subst, suc, sym, zero, ℕ, ◌++◌, ◌+◌, ◌-◌, ◌<◌, ◌∙◌, ◌∷◌, ◌≡◌}
 use Rattle.std.proofs.lemmas.List.{length-map, length-reverse, reverse-append, reverse-reverse}
-use Rattle.std.proofs.lemmas.Option.{slice_get_read}
+use Rattle.std.proofs.lemmas.Option.{same_Some, slice_get_read}
 use Rattle.std.specs.Prelude.{slice_get}
-use Rattle.zq_spread.proofs.Seats.{same_some}
 use Rattle.zq_spread.specs.Recorded.{kept_itself}
 use Rattle.zq_spread.specs.Several.{AreHeldOn, IsHeldOn, books_of, held_on_itself}
 use Rattle.zq_spread.specs.declared.kept.Kept.{Kept}
@@ -68,7 +67,7 @@ module _ {X : Type 0} where
 
 book_read : (helds : List (Held Kept)) (p : ℕ) (x : Held Kept) → slice_get helds p ≡ Some x → slice_get (books_of helds) p ≡ Some (value_of x).book
 book_read [] p x is = absurd (cc)
-book_read (h ∷ helds) zero x is = ap (λ (y : Held Kept). Some (value_of y).book) (same_some h x is)
+book_read (h ∷ helds) zero x is = ap (λ (y : Held Kept). Some (value_of y).book) (same_Some h x is)
 book_read (h ∷ helds) (suc p) x is = book_read helds p x is
 
 book_set : (helds : List (Held Kept)) (p : ℕ) (y : Held Kept) → books_of (set helds p y) ≡ set (books_of helds) p (value_of y).book
@@ -78,7 +77,7 @@ book_set (h ∷ helds) (suc p) y = ap (λ l. (value_of h).book ∷ l) (book_set 
 
 held_set : (helds : List (Held Kept)) (p : ℕ) (x y : Held Kept) → slice_get helds p ≡ Some x → IsHeldOn x y → AreHeldOn helds (set helds p y)
 held_set [] p x y is on = absurd (cc)
-held_set (h ∷ helds) zero x y is on = (subst (λ k. IsHeldOn k y) (sym (same_some h x is)) on, held_on_itself helds)
+held_set (h ∷ helds) zero x y is on = (subst (λ k. IsHeldOn k y) (sym (same_Some h x is)) on, held_on_itself helds)
 held_set (h ∷ helds) (suc p) x y is on = (record { lock = refl; was_given = refl; kept = kept_itself (value_of h) }, held_set helds p x y is on)
 
 pub as_many : (items : List (Held Kept)) → length (books_of (reverse items)) ≡ length items

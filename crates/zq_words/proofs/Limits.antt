@@ -3,6 +3,7 @@
 use Rattle.std.proofs.Common.{arith, sym, subst}
 use Rattle.std.proofs.lemmas.Bool.{and_parts}
 use Rattle.std.proofs.lemmas.List.Elements.{All-cons, All-head, All-nil, All-tail}
+use Rattle.std.proofs.lemmas.Option.{none-some, same_Some}
 use Rattle.std.specs.Int.Signed.{le_z_yes}
 use Rattle.std.specs.List.{after_first, before_first, list_any}
 use Rattle.std.specs.Option.{option_map}
@@ -17,12 +18,6 @@ use Rattle.zq_words.specs.declared.bound.Limit.{Limit}
 use Rattle.zq_words.specs.declared.bound.Limit.TheVariants.{At, Highest, Lowest}
 use Rattle.zq_words.specs.declared.refused.Refused.{Refused}
 
-pub some_eq : {X : Type 0} {x y : X} → Some x ≡ Some y → x ≡ y
-some_eq e = cc
-
-pub none_some : {X : Type 0} {x : X} → None ≡ Some x → ⊥
-none_some e = cc
-
 pub ok_eq : {x y : Command} → ◌≡◌ {A = Reading} (Ok x) (Ok y) → x ≡ y
 ok_eq e = cc
 
@@ -31,15 +26,15 @@ err_ok e = cc
 
 -- what passed the test passes it
 pub passed : (p : ℤ → Bool) (o : Option ℤ) (z : ℤ) → if_passes p o ≡ Some z → p z ≡ true
-passed p None z e = absurd (none_some e)
+passed p None z e = absurd (none-some _ e)
 passed p (Some y) z e = by (p y) refl e
   where
     by : (b : Bool) → p y ≡ b → cond b (Some y) None ≡ Some z → p z ≡ true
-    by true is f = subst (λ x. p x ≡ true) (some_eq f) is
-    by false is f = absurd (none_some f)
+    by true is f = subst (λ x. p x ≡ true) (same_Some _ _ f) is
+    by false is f = absurd (none-some _ f)
 
 unless : {X : Type 0} (b : Bool) (o : Option X) (x : X) → cond b None o ≡ Some x → o ≡ Some x
-unless true o x e = absurd (none_some e)
+unless true o x e = absurd (none-some _ e)
 unless false o x e = e
 
 pub from_test : {x y : ℤ} → int_le x y ≡ true → x ≤ℤ y
@@ -53,18 +48,18 @@ score_within text z e =
     (from_test both.0, from_test both.1)
 
 at_within : (text : Word) (score : Option ℤ) (limit : Limit) → ((z : ℤ) → score ≡ Some z → IsWithin MOST z) → option_map At score ≡ Some limit → IsLimit limit
-at_within text None limit within e = absurd (none_some e)
-at_within text (Some z) limit within e = subst IsLimit (some_eq e) (within z refl)
+at_within text None limit within e = absurd (none-some _ e)
+at_within text (Some z) limit within e = subst IsLimit (same_Some _ _ e) (within z refl)
 
 limit_within : (text : Word) (low high : Bool) (limit : Limit) → cond low (Some Lowest) (cond high (Some Highest) (option_map At (written_score text))) ≡ Some limit → IsLimit limit
-limit_within text true high limit e = subst IsLimit (some_eq e) tt
-limit_within text false true limit e = subst IsLimit (some_eq e) tt
+limit_within text true high limit e = subst IsLimit (same_Some _ _ e) tt
+limit_within text false true limit e = subst IsLimit (same_Some _ _ e) tt
 limit_within text false false limit e = at_within text (written_score text) limit (score_within text) e
 
 bound_made : (is_out : Bool) (found : Option Limit) (bound : Bound) → ((limit : Limit) → found ≡ Some limit → IsLimit limit) →
     option_map (bound_at is_out) found ≡ Some bound → IsLimit bound.limit
-bound_made is_out None bound within e = absurd (none_some e)
-bound_made is_out (Some limit) bound within e = subst (λ b. IsLimit b.limit) (some_eq e) (within limit refl)
+bound_made is_out None bound within e = absurd (none-some _ e)
+bound_made is_out (Some limit) bound within e = subst (λ b. IsLimit b.limit) (same_Some _ _ e) (within limit refl)
 
 bound_either : (is_out : Bool) (inner text : Word) (bound : Bound) →
     cond is_out (option_map (bound_at true) (limit_of inner)) (option_map (bound_at false) (limit_of text)) ≡ Some bound → IsLimit bound.limit
@@ -77,13 +72,13 @@ bound_within text bound e = bound_either _ (drop 1 text) text bound e
 
 onto : (s : Option ℤ) (m : Word) (ps : Option (List (ℤ × Word))) (pairs : List (ℤ × Word)) → pair_onto s m ps ≡ Some pairs →
     (z : ℤ) × (rest : List (ℤ × Word)) × (s ≡ Some z) × (ps ≡ Some rest) × ((z, m) ∷ rest ≡ pairs)
-onto (Some z) m (Some rest) pairs e = (z, rest, refl, refl, some_eq e)
-onto (Some z) m None pairs e = absurd (none_some e)
-onto None m ps pairs e = absurd (none_some e)
+onto (Some z) m (Some rest) pairs e = (z, rest, refl, refl, same_Some _ _ e)
+onto (Some z) m None pairs e = absurd (none-some _ e)
+onto None m ps pairs e = absurd (none-some _ e)
 
 pub pairs_within : (words : List Word) (pairs : List (ℤ × Word)) → All IsShort words → pairs_of words ≡ Some pairs → All IsPair pairs × (length pairs ≤ length words)
-pairs_within [] pairs short e = subst (λ ps. All IsPair ps × (length ps ≤ 0)) (some_eq e) (All-nil IsPair, omega arith)
-pairs_within (a ∷ []) pairs short e = subst (λ ps. All IsPair ps × (length ps ≤ 1)) (some_eq e) (All-nil IsPair, omega arith)
+pairs_within [] pairs short e = subst (λ ps. All IsPair ps × (length ps ≤ 0)) (same_Some _ _ e) (All-nil IsPair, omega arith)
+pairs_within (a ∷ []) pairs short e = subst (λ ps. All IsPair ps × (length ps ≤ 1)) (same_Some _ _ e) (All-nil IsPair, omega arith)
 pairs_within (a ∷ m ∷ words) pairs short e =
     let parts = onto (written_score a) m (pairs_of words) pairs e in
     let after = All-tail IsShort a (m ∷ words) short in

@@ -1,10 +1,10 @@
 -- What options that are read one after the other ask for.
 
 use Rattle.std.proofs.Common.{arith, subst, sym, ◌∙◌}
+use Rattle.std.proofs.lemmas.Option.{same_Some}
 use Rattle.std.specs.List.{list_any}
 use Rattle.std.specs.Option.{option_and_then, option_map}
 use Rattle.std.specs.Prelude.{Bool, List, None, Option, Some, [], false, length, nat_le, refl, true, ◌||◌, ◌∷◌, ◌≡◌}
-use Rattle.zq_words.proofs.Limits.{some_eq}
 use Rattle.zq_words.specs.Command.{or_else, zrange}
 use Rattle.zq_words.specs.Options.{ByScores, LimitTo, RangeOption, Rev, WithScores, is_by_scores, is_rev, is_with_scores, limit_in, limits_in, window_of}
 use Rattle.zq_words.specs.OptionsRead.{next_window, no_options, ranged, read, with_option}
@@ -87,4 +87,4 @@ by_asked key a b options os asks = rw (asks.by_score, asks.is_turned, asks.with_
 pub range_read : (key a b : Word) (found : Option (List RangeOption)) (options : Options) → Some options ≡ option_map (read no_options) found →
     ranged key a b options ≡ or_else refused.Syntax found (zrange key a b)
 range_read key a b None options e = cc
-range_read key a b (Some os) options e = subst (λ o. ranged key a b o ≡ zrange key a b os) (sym (some_eq e)) (by_asked key a b (read no_options os) os (asked os))
+range_read key a b (Some os) options e = subst (λ o. ranged key a b o ≡ zrange key a b os) (sym (same_Some _ _ e)) (by_asked key a b (read no_options os) os (asked os))

@@ -3,13 +3,11 @@
 use Rattle.std.proofs.Common.{ap, arith, ◌∙◌}
 use Rattle.std.proofs.lemmas.Bool.{and_parts}
 use Rattle.std.proofs.lemmas.Int.{ints}
-use Rattle.std.specs.Prelude.{Bool, None, Option, Some, T, cond, false, int_le, neg_ℤ, pos, refl, true, ℤ, ◌&&◌, ◌^◌, ◌-◌, ◌≡◌, ◌≤ℤ◌}
-use Rattle.zq_words.proofs.Limits.{from_test, some_eq}
+use Rattle.std.proofs.lemmas.Option.{same_Some}
+use Rattle.std.specs.Prelude.{Bool, None, Option, Some, cond, false, int_le, neg_ℤ, pos, refl, true, ℤ, ◌&&◌, ◌^◌, ◌-◌, ◌≡◌, ◌≤ℤ◌}
+use Rattle.zq_model.proofs.Rising.{is_true}
+use Rattle.zq_words.proofs.Limits.{from_test}
 use Rattle.zq_words.specs.Words.{Word, if_passes, integer_of, is_i64, is_in_range}
-
-is_true : (b : Bool) → T b → b ≡ true
-is_true true t = refl
-is_true false t = absurd t
 
 to_test : (x y : ℤ) → x ≤ℤ y → int_le x y ≡ true
 to_test x y h = is_true (int_le x y) h.le
@@ -45,5 +43,5 @@ pub score_passed : (b : Bool) (front part : Word) (whole : Option ℤ) → Some 
     if_passes is_in_range whole ≡ cond b None (if_passes is_in_range (integer_of front))
 score_passed true front part whole e f = cc
 score_passed false front part whole e f =
-    let g : whole ≡ if_passes is_i64 (integer_of front) = f ∙ ap (λ text. if_passes is_i64 (integer_of text)) (some_eq e) in
+    let g : whole ≡ if_passes is_i64 (integer_of front) = f ∙ ap (λ text. if_passes is_i64 (integer_of text)) (same_Some _ _ e) in
     ap (if_passes is_in_range) g ∙ passes_both (integer_of front)

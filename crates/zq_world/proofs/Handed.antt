@@ -1,8 +1,7 @@
 -- An operation that is handed to a site: what its books are then, and what is answered.
 
-use Rattle.std.proofs.Common.{List, None, Some, [], suc, zero, ◌+◌, ap, arith, false, le-leb, leb-true, refl, subst, sym, true, ℕ, ◌∷◌, ◌≡◌, ◌<◌}
-use Rattle.std.proofs.lemmas.Bool.{cond-false, cond-true, or_left, or_right}
-use Rattle.std.proofs.lemmas.Option.{none-some, same_Some}
+use Rattle.std.proofs.Common.{List, None, Some, ◌+◌, arith, false, le-leb, leb-true, refl, subst, sym, true, ℕ, ◌∷◌, ◌≡◌, ◌<◌}
+use Rattle.std.proofs.lemmas.Bool.{cond-false, cond-true, false_from_ne_true, or_left, or_right}
 use Rattle.std.specs.Prelude.{nat_le, slice_get, slice_set, ◌||◌}
 use Rattle.zq_history.specs.Books.{Book, Took, recorded}
 use Rattle.zq_journal.specs.Books.{book_when}
@@ -10,20 +9,15 @@ use Rattle.zq_model.specs.Operation.{Operation}
 use Rattle.zq_model.specs.Rule.{Rule}
 use Rattle.zq_model.specs.Sets.{Early, IsClosed, IsWorld, Known, New, Taken}
 use Rattle.zq_plans.specs.Run.{LAST_COUNT}
+use Rattle.zq_posheap.proofs.Lists.{set_again}
 use Rattle.zq_runs.proofs.BooksOf.{books_taken}
-use Rattle.zq_runs.proofs.MovedBooks.{false_if_not_true}
 use Rattle.zq_runs.proofs.SiteBooks.{stamps_are}
 use Rattle.zq_runs.specs.Books.{AreBooksOf, greatest_stamp}
 use Rattle.zq_runs.specs.Events.{after_taken, answer_taken, is_blocked, judged}
 use Rattle.zq_runs.specs.State.{State, counted, greatest, is_worn, next_stamp}
 
 not_above : (n : ℕ) → n < LAST_COUNT → nat_le LAST_COUNT n ≡ false
-not_above n below = false_if_not_true (nat_le LAST_COUNT n) (λ e. let above = leb-true LAST_COUNT n e in omega (arith, above, below))
-
-pub set_same : {X : Type 0} (xs : List X) (i : ℕ) (x : X) → slice_get xs i ≡ Some x → slice_set xs i x ≡ xs
-set_same [] i x at = absurd (none-some x at)
-set_same (y ∷ xs) zero x at = let same = same_Some y x at in λ i. sym same i ∷ xs
-set_same (y ∷ xs) (suc i) x at = ap (λ ys. y ∷ ys) (set_same xs i x at)
+not_above n below = false_from_ne_true (nat_le LAST_COUNT n) (λ e. let above = leb-true LAST_COUNT n e in omega (arith, above, below))
 
 module _ (rule : Rule) (K : ℕ) (st : State) (site : ℕ) (books : List Book) (are : AreBooksOf rule K st site books) where
   -- a stamp of the site is at its last value where the greatest of its books is
@@ -75,11 +69,11 @@ module _ (rule : Rule) (K : ℕ) (st : State) (site : ℕ) (books : List Book) (
         cond-false (is_blocked K st site o.heap) None (Some New) free,
       )
   handed_to o b stamp Known world closed found below few is judge = (
-    subst (λ xs. AreBooksOf rule K st site xs) (sym (set_same books o.heap b found)) are,
+    subst (λ xs. AreBooksOf rule K st site xs) (sym (set_again books o.heap b found)) are,
     cond-false (is_worn K st site) None (Some Known) (unworn_if below),
   )
   handed_to o b stamp Early world closed found below few is judge = (
-    subst (λ xs. AreBooksOf rule K st site xs) (sym (set_same books o.heap b found)) are,
+    subst (λ xs. AreBooksOf rule K st site xs) (sym (set_again books o.heap b found)) are,
     cond-false (is_worn K st site) None (Some Early) (unworn_if below),
   )
 

@@ -1,7 +1,6 @@
 -- A site that is handed an operation which was made.
 
-use Rattle.std.proofs.Common.{List, Some, [], ap, arith, false, map, refl, subst, sym, true, zero, suc, ℕ, ◌<◌, ◌==◌, ◌∙◌, ◌∷◌, ◌≡◌}
-use Rattle.std.proofs.lemmas.Option.{same_Some}
+use Rattle.std.proofs.Common.{List, Some, ap, arith, false, refl, subst, sym, true, ℕ, ◌<◌, ◌==◌, ◌∙◌, ◌∷◌, ◌≡◌}
 use Rattle.std.specs.Prelude.{if◌then◌else◌, slice_get}
 use Rattle.zq_dots.specs.Placed.{Placed}
 use Rattle.zq_history.specs.Books.{Book}
@@ -23,13 +22,6 @@ use Rattle.zq_world.specs.Frames.{placed}
 use Rattle.zq_world.specs.Play.{Holds, Played, run_of}
 use Rattle.zq_world.specs.declared.player.Player.{Player}
 use Rattle.std.proofs.Common.{inl, inr}
-
--- an operation that is placed, at its place
-pub placed_at : (K : ℕ) (ops : List Operation) (i : ℕ) (p : Placed) → slice_get (map (placed K) ops) i ≡ Some p → (o : Operation) × (slice_get ops i ≡ Some o) × (placed K o ≡ p)
-placed_at K [] zero p at = absurd (cc)
-placed_at K [] (suc i) p at = absurd (cc)
-placed_at K (o ∷ ops) zero p at = (o, refl, same_Some (placed K o) p at)
-placed_at K (o ∷ ops) (suc i) p at = placed_at K ops i p at
 
 module _ (played : Played) (player : Player) (held : Holds played player) where
   abbrev K : ℕ

@@ -1,16 +1,15 @@
 -- The one book of a move's heap, among books that are lent, and what the move tells over them.
 
 use Rattle.std.proofs.Common.{List, Some, [], ap, arith, false, inl, inr, map, refl, suc, sym, true, zero, ℕ, ◌++◌, ◌<◌, ◌∙◌, ◌∷◌, ◌≡◌, ◌≢◌}
-use Rattle.std.proofs.lemmas.Bool.{cond-false, cond-true, eqb-true, false_from_ne_true}
+use Rattle.std.proofs.lemmas.Bool.{cond-false, cond-true, false_from_ne_true}
 use Rattle.std.proofs.lemmas.List.{map-append}
 use Rattle.std.proofs.lemmas.Option.{same_Some}
 use Rattle.std.specs.Prelude.{filter, set, slice_get}
-use Rattle.zq_commands.proofs.BookMoves.{set_lent_after}
+use Rattle.zq_commands.proofs.BookMoves.{home_heap, set_lent_after}
 use Rattle.zq_commands.specs.Lending.{IsLending, lent_after, operations_by}
 use Rattle.zq_commands.specs.VecBooks.{heaps_in, lending_of}
 use Rattle.zq_dots.specs.Placed.{Placed}
 use Rattle.zq_history.specs.Books.{Book}
-use Rattle.zq_model.specs.Heaps.{heap_of}
 use Rattle.zq_model.specs.Operation.{Operation}
 use Rattle.zq_model.specs.Sets.{IsIn}
 use Rattle.zq_moves.proofs.Homes.{lent_each}
@@ -20,11 +19,8 @@ use Rattle.zq_moves.specs.Moves.{Move}
 use Rattle.zq_world.specs.Told.{lending_told, operations_in, told_in}
 
 module _ (site stamp : ℕ) (move : Move) where
-  home_heap : (K : ℕ) (b : Book) → IsLent K b → is_home move b ≡ true → heap_of move.key move.member K ≡ b.heap
-  home_heap K b lent home = ap (heap_of move.key move.member) (sym lent.heaps) ∙ eqb-true _ _ home
-
   not_home : (K : ℕ) (b c : Book) → IsLent K b → IsLent K c → is_home move b ≡ true → b.heap ≢ c.heap → is_home move c ≡ false
-  not_home K b c lent others home apart = false_from_ne_true _ (λ there. apart (sym (home_heap K b lent home) ∙ home_heap K c others there))
+  not_home K b c lent others home apart = false_from_ne_true _ (λ there. apart (sym (home_heap site stamp move K b lent home) ∙ home_heap site stamp move K c others there))
 
   none_home : (K : ℕ) (b : Book) (books : List Book) → IsLent K b → is_home move b ≡ true → AreLent K books → ((later : Book) → IsIn later books → b.heap < later.heap) →
       filter (is_home move) books ≡ []

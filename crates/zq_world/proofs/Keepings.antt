@@ -1,16 +1,16 @@
 -- Frames that are written when their moment is there.
 
-use Rattle.std.proofs.Common.{List, Ok, Some, Vec, [], ap, arith, inl, inr, length, map, refl, set, subst, suc, sym, zero, ℕ, ◌+◌, ◌<◌, ◌∙◌, ◌++◌, ◌∷◌, ◌≡◌, ◌≤◌, ◌⊎◌, ⊎_elim}
+use Rattle.std.proofs.Common.{List, Ok, Some, Vec, [], ap, arith, inl, inr, length, map, set, subst, sym, ℕ, ◌+◌, ◌<◌, ◌∙◌, ◌++◌, ◌∷◌, ◌≡◌, ◌≤◌}
 use Rattle.std.proofs.lemmas.Bool.{cases_eq}
 use Rattle.std.proofs.lemmas.List.{take_all}
 use Rattle.std.proofs.lemmas.Option.{same_Some}
 use Rattle.std.specs.Prelude.{slice_get}
 use Rattle.std.specs.declared.alloc.Global.{Global}
-use Rattle.zq_commands.proofs.VecBooks.{get_set, get_set_other}
 use Rattle.zq_journal.specs.Books.{state_of}
-use Rattle.zq_model.proofs.Membership.{in_union}
+use Rattle.zq_model.proofs.Membership.{in_or_not, in_union}
 use Rattle.zq_model.specs.Operation.{Operation}
 use Rattle.zq_model.specs.Sets.{IsIn}
+use Rattle.zq_posheap.proofs.Lists.{behind, mapped_at, slice_get-set_other, slice_get-set_same}
 use Rattle.zq_runs.proofs.Moments.{moments_are}
 use Rattle.zq_runs.proofs.MovedBooks.{read_within}
 use Rattle.zq_runs.specs.Events.{Do, Event, Merge, Take, set_at}
@@ -27,31 +27,9 @@ pub record AreSoFar (played : Played) (at : ℕ) (done : List ℕ) (events : Lis
   pub here : (i : ℕ) (e : Event) (frame : Vec ℕ Global) → at ≤ i → IsIn i done → slice_get events i ≡ Some e → slice_get frames i ≡ Some frame → IsReady played (at + 1) e frame.items
   pub earlier : (i : ℕ) (e : Event) (frame : Vec ℕ Global) → at ≤ i → slice_get events i ≡ Some e → slice_get frames i ≡ Some frame → IsReady played at e frame.items
 
-pub mapped : {X Y : Type 0} (f : X → Y) (xs : List X) (i : ℕ) (x : X) → slice_get xs i ≡ Some x → slice_get (map f xs) i ≡ Some (f x)
-mapped f [] zero x at = absurd (cc)
-mapped f [] (suc i) x at = absurd (cc)
-mapped f (y ∷ xs) zero x at = ap (λ z. Some (f z)) (same_Some y x at)
-mapped f (y ∷ xs) (suc i) x at = mapped f xs i x at
-
-pub unmapped : {X Y : Type 0} (f : X → Y) (xs : List X) (i : ℕ) (y : Y) → slice_get (map f xs) i ≡ Some y → (x : X) × (slice_get xs i ≡ Some x) × (f x ≡ y)
-unmapped f [] zero y at = absurd (cc)
-unmapped f [] (suc i) y at = absurd (cc)
-unmapped f (x ∷ xs) zero y at = (x, refl, same_Some (f x) y at)
-unmapped f (x ∷ xs) (suc i) y at = unmapped f xs i y at
-
 pub only : (i place : ℕ) → IsIn i (place ∷ []) → i ≡ place
 only i place (inl same) = sym same
 only i place (inr none) = absurd none
-
-decided : (i : ℕ) (places : List ℕ) → IsIn i places ⊎ (IsIn i places → ⊥)
-decided i [] = inr (λ none. none)
-decided i (place ∷ places) = elim (cases_eq place i) [
-  | inl same ↦ inl (inl same)
-  | inr apart ↦ elim (decided i places) [
-    | inl here ↦ inl (inr here)
-    | inr away ↦ inr (λ among. ⊎_elim apart away among)
-  ]
-]
 
 -- what is ready for later moments is for earlier ones
 ready_before : (played : Played) (at : ℕ) (e : Event) (bytes : List ℕ) → IsReady played (at + 1) e bytes → IsReady played at e bytes
@@ -72,16 +50,16 @@ module _ (played : Played) (at : ℕ) (events : List Event) where
   pub far_first : (frames : List (Vec ℕ Global)) → AreReady played at at events (map (λ f. f.items) frames) → AreSoFar played at [] events frames
   far_first frames are = record {
     here = λ i e frame low none. absurd none;
-    earlier = λ i e frame low here there. are.each i e frame.items low here (mapped (λ (f : Vec ℕ Global). f.items) frames i frame there);
+    earlier = λ i e frame low here there. are.each i e frame.items low here (mapped_at (λ (f : Vec ℕ Global). f.items) frames i frame there);
   }
 
   pub far_last : (done : List ℕ) (frames : List (Vec ℕ Global)) → ((place site from heap : ℕ) → slice_get events place ≡ Some (Merge site from heap at) → IsIn place done) →
       AreSoFar played at done events frames → AreReady played (at + 1) at events (map (λ f. f.items) frames)
   far_last done frames all far = record {
     each = λ i e bytes low here there.
-        let frame = unmapped (λ (f : Vec ℕ Global). f.items) frames i bytes there in
+        let frame = behind (λ (f : Vec ℕ Global). f.items) frames i bytes there in
         let earlier = subst (IsReady played at e) frame.2 (far.earlier i e frame.0 low here frame.1) in
-        elim (decided i done) [
+        elim (in_or_not i done) [
           | inl among ↦ subst (IsReady played (at + 1) e) frame.2 (far.here i e frame.0 low among here frame.1)
           | inr away ↦ ready_other played at e bytes (λ site from heap is. away (all i site from heap (here ∙ ap (λ x. Some x) is))) earlier
         ];
@@ -108,19 +86,19 @@ module _ (played : Played) (at : ℕ) (events : List Event) where
       let written : (i : ℕ) (x : Event) (frame : Vec ℕ Global) → i ≡ place → slice_get events i ≡ Some x → slice_get (set frames place its) i ≡ Some frame → IsReady played (at + 1) x frame.items
       = λ i x frame same here there.
       let event : e ≡ x = same_Some e x (sym is ∙ ap (slice_get events) (sym same) ∙ here) in
-      let bytes : its ≡ frame = same_Some its frame (sym (get_set frames place its inside) ∙ ap (slice_get (set frames place its)) (sym same) ∙ there) in
+      let bytes : its ≡ frame = same_Some its frame (sym (slice_get-set_same frames place its inside) ∙ ap (slice_get (set frames place its)) (sym same) ∙ there) in
       subst (λ (y : Event). IsReady played (at + 1) y frame.items) event (subst (λ (v : Vec ℕ Global). IsReady played (at + 1) e v.items) bytes ready) in
       record {
         here = λ i x frame low among here there. elim (cases_eq i place) [
           | inl same ↦ written i x frame same here there
           | inr apart ↦ elim (in_union i done (place ∷ []) among) [
-            | inl before ↦ far.here i x frame low before here (sym (get_set_other frames place i its apart) ∙ there)
+            | inl before ↦ far.here i x frame low before here (sym (slice_get-set_other frames place i its apart) ∙ there)
             | inr last ↦ absurd (apart (only i place last))
           ]
         ];
         earlier = λ i x frame low here there. elim (cases_eq i place) [
           | inl same ↦ ready_before played at x frame.items (written i x frame same here there)
-          | inr apart ↦ far.earlier i x frame low here (sym (get_set_other frames place i its apart) ∙ there)
+          | inr apart ↦ far.earlier i x frame low here (sym (slice_get-set_other frames place i its apart) ∙ there)
         ];
       }
 

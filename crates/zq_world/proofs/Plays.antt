@@ -6,13 +6,12 @@ use Rattle.std.proofs.lemmas.Option.{same_Some, slice_get_within}
 use Rattle.std.specs.Prelude.{slice_get}
 use Rattle.std.specs.declared.alloc.Global.{Global}
 use Rattle.zq_commands.proofs.InTurn.{take_next}
-use Rattle.zq_commands.proofs.VecBooks.{get_set_other}
 use Rattle.zq_merge.specs.State.{state_at}
 use Rattle.zq_model.specs.Operation.{Operation}
 use Rattle.zq_model.specs.Rule.{Rule}
+use Rattle.zq_posheap.proofs.Lists.{behind, mapped_at, slice_get-set_other}
 use Rattle.zq_runs.specs.Events.{Do, Event, Merge, Take, is_possible}
 use Rattle.zq_runs.specs.Runs.{first_missing}
-use Rattle.zq_world.proofs.Keepings.{mapped, unmapped}
 use Rattle.zq_world.proofs.Prefixes.{missing_at, moments_of, set_stays}
 use Rattle.zq_world.specs.Frames.{heap_at, placed}
 use Rattle.zq_world.specs.Keeping.{AreReady, IsReady}
@@ -80,10 +79,10 @@ module _ (rule : Rule) (K sites : ℕ) (events : List Event) where
         number = length-set frames place its ∙ number;
         ready = record {
           each = λ i x bytes low at there.
-              let frame = unmapped items (set frames place its) i bytes there in
+              let frame = behind items (set frames place its) i bytes there in
               let apart : i ≡ place → ⊥ = λ same. omega (arith, same, low) in
               let same : slice_get (frames_in frames) i ≡ Some bytes
-              = mapped items frames i frame.0 (sym (get_set_other frames place i its apart) ∙ frame.1) ∙ ap (λ bs. Some bs) frame.2 in
+              = mapped_at items frames i frame.0 (sym (slice_get-set_other frames place i its apart) ∙ frame.1) ∙ ap (λ bs. Some bs) frame.2 in
               let was = ready.each i x bytes (omega (arith, low)) at same in
               subst (λ (played : Played). IsReady played (place + 1) x bytes) (after_next place e here)
               (subst (λ n. IsReady (after (before place) e) (n + 1) x bytes) many

@@ -1,11 +1,12 @@
 -- A run with one event more.
 
-use Rattle.std.proofs.Common.{List, None, Option, Some, [], ap, arith, false, length, refl, sym, true, zero, suc, ℕ, ◌++◌, ◌+◌, ◌<◌, ◌∙◌, ◌∷◌, ◌≡◌}
+use Rattle.std.proofs.Common.{List, None, Option, Some, [], ap, arith, false, length, refl, sym, true, ℕ, ◌++◌, ◌+◌, ◌<◌, ◌∙◌, ◌∷◌, ◌≡◌}
 use Rattle.std.proofs.lemmas.Bool.{cond-false, cond-true}
 use Rattle.std.proofs.lemmas.List.{length_push}
 use Rattle.std.proofs.lemmas.Option.{none-some}
-use Rattle.std.specs.Prelude.{if◌then◌else◌, slice_get}
+use Rattle.std.specs.Prelude.{if◌then◌else◌}
 use Rattle.zq_model.specs.Rule.{Rule}
+use Rattle.zq_posheap.proofs.Lists.{slice_get-append_left}
 use Rattle.zq_runs.specs.Events.{Event, Run, is_possible, set_at, set_in, state_after}
 use Rattle.zq_runs.specs.Runs.{AreEvents, IsEvent, IsPlayable, after_event, missing_from, run, run_on, start}
 use Rattle.zq_runs.specs.State.{Sets}
@@ -29,17 +30,12 @@ module _ (rule : Rule) (K : ℕ) where
   pub moments_of : (events : List Event) → length (run rule K events).past ≡ length events + 1
   moments_of events = let long = past_length events start in omega (arith, long)
 
-  get_front : {X : Type 0} (xs ys : List X) (i : ℕ) → i < length xs → slice_get (xs ++ ys) i ≡ slice_get xs i
-  get_front [] ys i inside = absurd (omega (arith, inside))
-  get_front (x ∷ xs) ys zero inside = refl
-  get_front (x ∷ xs) ys (suc i) inside = get_front xs ys i (omega (arith, inside))
-
   -- what the sites had before stays what they had
   pub set_stays : (events : List Event) (e : Event) (moment site : ℕ) → moment < length (run rule K events).past →
       set_at (run rule K (events ++ e ∷ [])) moment site ≡ set_at (run rule K events) moment site
   set_stays events e moment site before =
       ap (λ (r : Run). set_at r moment site) (run_next events e)
-      ∙ ap (λ (sets : Option Sets). set_in sets site) (get_front (run rule K events).past ((state_after rule K (run rule K events) e).sets ∷ []) moment before)
+      ∙ ap (λ (sets : Option Sets). set_in sets site) (slice_get-append_left (run rule K events).past ((state_after rule K (run rule K events) e).sets ∷ []) moment before)
 
   module _ (sites : ℕ) where
     missing_next : (i : ℕ) (xs : List Event) (e : Event) (r : Run) → missing_from rule K sites i xs r ≡ None → is_possible K sites (run_on rule K xs r) e ≡ true →

@@ -6,10 +6,10 @@ use Rattle.std.proofs.lemmas.List.{length-set}
 use Rattle.std.proofs.lemmas.Option.{same_Some}
 use Rattle.std.specs.Prelude.{slice_get}
 use Rattle.std.specs.declared.alloc.Global.{Global}
-use Rattle.zq_commands.proofs.VecBooks.{get_set, get_set_other}
 use Rattle.zq_dots.specs.Placed.{Placed}
 use Rattle.zq_history.specs.Books.{Book}
 use Rattle.zq_model.specs.Rule.{Rule}
+use Rattle.zq_posheap.proofs.Lists.{slice_get-set_other, slice_get-set_same}
 use Rattle.zq_runs.specs.Books.{AreBooksOf}
 use Rattle.zq_runs.specs.Events.{Event, Run, answer_to, is_possible, state_after}
 use Rattle.zq_runs.specs.Runs.{IsEvent}
@@ -28,9 +28,9 @@ stands_set rule K sites st later books made told site its stands inside are othe
   number = length-set books site its ∙ stands.number;
   each = λ other theirs at. elim (cases_eq other site) [
     | inl same ↦
-        let it : its ≡ theirs = same_Some its theirs (sym (get_set books site its inside) ∙ ap (slice_get (set books site its)) (sym same) ∙ at) in
+        let it : its ≡ theirs = same_Some its theirs (sym (slice_get-set_same books site its inside) ∙ ap (slice_get (set books site its)) (sym same) ∙ at) in
         subst (λ (n : ℕ). AreBooksOf rule K later n theirs.items) (sym same) (subst (λ (v : Vec Book Global). AreBooksOf rule K later site v.items) it are)
-    | inr apart ↦ others other theirs.items (ne_eqb other site apart) (stands.each other theirs (sym (get_set_other books site other its apart) ∙ at))
+    | inr apart ↦ others other theirs.items (ne_eqb other site apart) (stands.each other theirs (sym (slice_get-set_other books site other its apart) ∙ at))
   ];
   told = is;
 }

@@ -1,9 +1,9 @@
 -- What moves of a site tell is what its state then has made.
 
 use Rattle.std.proofs.Common.{List, Some, [], ap, arith, eq-eqb, eqb-true, false, inl, inr, map, refl, suc, sym, true, zero, ℕ, ◌++◌, ◌+◌, ◌<◌, ◌∙◌, ◌∷◌, ◌≡◌, ◌≤◌, length}
-use Rattle.std.proofs.lemmas.Bool.{cond-false, cond-true}
+use Rattle.std.proofs.lemmas.Bool.{cond-false, cond-true, false_from_ne_true}
 use Rattle.std.proofs.lemmas.Option.{same_Some}
-use Rattle.std.specs.Prelude.{filter, if◌then◌else◌, slice_get}
+use Rattle.std.specs.Prelude.{filter, slice_get}
 use Rattle.zq_commands.specs.Lending.{operations_by}
 use Rattle.zq_commands.specs.Running.{told_after}
 use Rattle.zq_dots.specs.Placed.{Placed}
@@ -15,27 +15,21 @@ use Rattle.zq_model.specs.Sets.{IsClosed, IsHeaps, IsWorld, SITES}
 use Rattle.zq_moves.specs.Lent.{is_home, made, operation_in}
 use Rattle.zq_moves.specs.Moves.{Move}
 use Rattle.zq_runs.proofs.KeptRuns.{heap_below}
-use Rattle.zq_runs.proofs.MovedBooks.{books_then, closed_then, false_if_not_true, read_within, world_then}
-use Rattle.zq_runs.proofs.NearBooks.{IsPlaced}
+use Rattle.zq_runs.proofs.MovedBooks.{books_then, closed_then, more_stand, read_within, world_then}
+use Rattle.zq_runs.proofs.NearBooks.{ArePlaced, IsPlaced, placed_rest}
 use Rattle.zq_runs.specs.Books.{AreBooksOf, AreSound}
-use Rattle.zq_runs.specs.State.{State, after_move, after_moves, home_of, is_spent, operation_by, standing}
+use Rattle.zq_runs.specs.State.{State, after_move, after_moves, home_of, operation_by, standing}
 use Rattle.zq_world.specs.Frames.{placed}
 use Rattle.zq_world.specs.Told.{AreAmong, operations_in}
 
 -- ---- the one book of a move's heap
-
-abbrev ArePlaced : ℕ → ℕ → List Book → Type 0
-ArePlaced K a books = (i : ℕ) (b : Book) → slice_get books i ≡ Some b → IsPlaced K (a + i) b
-
-placed_rest : (K a : ℕ) (b : Book) (books : List Book) → ArePlaced K a (b ∷ books) → ArePlaced K (a + 1) books
-placed_rest K a b books are i c at = let is = are (suc i) c at in record { heap = is.heap ∙ (omega arith); heaps = is.heaps }
 
 module _ (K site : ℕ) (move : Move) where
   home_is : (h : ℕ) (b : Book) → IsPlaced K h b → h ≡ home_of K move → is_home move b ≡ true
   home_is h b is here = eq-eqb _ _ (ap (heap_of move.key move.member) is.heaps ∙ sym here ∙ sym is.heap)
 
   home_not : (h : ℕ) (b : Book) → IsPlaced K h b → (h ≡ home_of K move → ⊥) → is_home move b ≡ false
-  home_not h b is apart = false_if_not_true (is_home move b) (λ e. apart (sym is.heap ∙ sym (eqb-true _ _ e) ∙ ap (heap_of move.key move.member) is.heaps))
+  home_not h b is apart = false_from_ne_true (is_home move b) (λ e. apart (sym is.heap ∙ sym (eqb-true _ _ e) ∙ ap (heap_of move.key move.member) is.heaps))
 
   none_home : (books : List Book) (a : ℕ) → ArePlaced K a books → home_of K move + 1 ≤ a → filter (is_home move) books ≡ []
   none_home [] a are past = refl
@@ -73,21 +67,12 @@ module _ (rule : Rule) (K site stamp : ℕ) (heaps : IsHeaps K) (below : site < 
       = λ i. operation_over (is.heap i) (is.state i).vector site move.key move.member move.act in
       ap (map (operation_in site move)) one ∙ ap (λ (o : Operation). o ∷ []) same
 
-  more_stand : (st : State) (move : Move) (moves : List Move) (n : ℕ) → n < standing K site stamp (move ∷ moves) st →
-      (is_spent st site (home_of K move) ≡ false) × (standing K site stamp (move ∷ moves) st ≡ suc (standing K site stamp moves (after_move K site stamp move st)))
-  more_stand st move moves n some =
-      let rest = standing K site stamp moves (after_move K site stamp move st) in
-      elim (is_spent st site (home_of K move)) as (λ c. n < (if c then 0 else suc rest) → (c ≡ false) × ((if c then 0 else suc rest) ≡ suc rest)) [
-        | true ↦ λ none. absurd (omega (arith, none))
-        | false ↦ λ _. (refl, refl)
-      ] some
-
   pub told_moves : (moves : List Move) (st : State) (books : List Book) → IsWorld K (st.sets site) → IsClosed (st.sets site) → AreSound moves →
       standing K site stamp moves st ≡ length moves → AreBooksOf rule K st site books → told_after site stamp moves books (Some st.made) ≡ Some (after_moves K site stamp moves st).made
   told_moves [] st books world closed sound all are = refl
   told_moves (move ∷ moves) st books world closed sound all are =
       let its = sound move (inl refl) in
-      let stands = more_stand st move moves (length moves) (omega (arith, all)) in
+      let stands = more_stand rule K site stamp heaps below st move moves (length moves) (omega (arith, all)) in
       let next_all = stands.1 in
       ap (λ (os : List Operation). told_after site stamp moves (made site stamp move books) (Some (st.made ++ os))) (told_move st books move are)
       ∙ told_moves moves (after_move K site stamp move st) (made site stamp move books)

@@ -6,12 +6,12 @@ use Rattle.std.proofs.lemmas.List.{length-map, length-set}
 use Rattle.std.proofs.lemmas.Option.{same_Some, slice_get-map, slice_get_within}
 use Rattle.std.specs.Prelude.{slice_get}
 use Rattle.std.specs.declared.alloc.Global.{Global}
-use Rattle.zq_commands.proofs.VecBooks.{get_set, get_set_other}
 use Rattle.zq_model.proofs.Membership.{in_left, in_right, in_union}
 use Rattle.zq_model.specs.Sets.{IsIn}
+use Rattle.zq_posheap.proofs.Lists.{behind, mapped_at, slice_get-set_other, slice_get-set_same}
 use Rattle.zq_runs.proofs.MovedBooks.{read_within}
 use Rattle.zq_runs.specs.Events.{Do, Event, Merge, Take}
-use Rattle.zq_world.proofs.Keepings.{mapped, only, unmapped}
+use Rattle.zq_world.proofs.Keepings.{only}
 use Rattle.zq_world.specs.Play.{event_of}
 use Rattle.zq_world.specs.Wanted.{AreWanted, IsWith, places_in}
 use Rattle.zq_world.specs.declared.event.Event as declared
@@ -23,7 +23,7 @@ pub wanted_none : (events : List Event) (wanted : List (Vec ℕ Global)) → ((m
 wanted_none events wanted none = record {
   each = λ place site from heap moment places low is at. absurd (omega (arith, low));
   inside = λ moment place places at here.
-      let its = unmapped (λ (v : Vec ℕ Global). v.items) wanted moment places at in
+      let its = behind (λ (v : Vec ℕ Global). v.items) wanted moment places at in
       absurd (subst (IsIn place) (sym its.2 ∙ none moment its.0 its.1) here);
 }
 
@@ -89,10 +89,10 @@ with_pushed wanted moment place old new at is =
     record {
       number = length-map (set wanted moment new) items ∙ length-set wanted moment new ∙ sym (length-map wanted items);
       here = λ places before.
-          let was = unmapped items wanted moment places before in
+          let was = behind items wanted moment places before in
           let same : old ≡ was.0 = same_Some old was.0 (sym at ∙ was.1) in
-          mapped items (set wanted moment new) moment new (get_set wanted moment new inside) ∙ ap (λ ps. Some ps) (is ∙ ap (λ (v : Vec ℕ Global). v.items ++ place ∷ []) same ∙ ap (λ ps. ps ++ place ∷ []) was.2);
-      others = λ other apart. slice_get-map items (set wanted moment new) other ∙ ap (option_map items) (get_set_other wanted moment other new apart) ∙ sym (slice_get-map items wanted other);
+          mapped_at items (set wanted moment new) moment new (slice_get-set_same wanted moment new inside) ∙ ap (λ ps. Some ps) (is ∙ ap (λ (v : Vec ℕ Global). v.items ++ place ∷ []) same ∙ ap (λ ps. ps ++ place ∷ []) was.2);
+      others = λ other apart. slice_get-map items (set wanted moment new) other ∙ ap (option_map items) (slice_get-set_other wanted moment other new apart) ∙ sym (slice_get-map items wanted other);
     }
 
 -- where there is no such moment, nothing is pushed
@@ -100,7 +100,7 @@ pub with_none : (wanted : List (Vec ℕ Global)) (moment place : ℕ) → length
 with_none wanted moment place past = record {
   number = refl;
   here = λ places before.
-      let was = unmapped (λ (v : Vec ℕ Global). v.items) wanted moment places before in
+      let was = behind (λ (v : Vec ℕ Global). v.items) wanted moment places before in
       let inside = slice_get_within wanted moment was.0 was.1 in
       absurd (omega (arith, inside, past));
   others = λ other apart. refl;

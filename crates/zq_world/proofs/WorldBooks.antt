@@ -1,9 +1,8 @@
 -- The books of a site, among those of a world.
 
-use Rattle.std.proofs.Common.{Err, List, Ok, Result, Some, Vec, ap, map, refl, subst, suc, zero, ℕ, ◌∙◌, ◌∷◌, ◌≡◌, []}
+use Rattle.std.proofs.Common.{List, Some, Vec, ap, map, refl, subst, suc, zero, ℕ, ◌∙◌, ◌∷◌, ◌≡◌, []}
 use Rattle.std.proofs.lemmas.Option.{same_Some}
 use Rattle.std.specs.Prelude.{slice_get}
-use Rattle.std.specs.Result.{IfOk}
 use Rattle.std.specs.declared.alloc.Global.{Global}
 use Rattle.zq_commands.specs.SiteBooks.{AreOfSite}
 use Rattle.zq_commands.specs.VecBooks.{rule_in}
@@ -33,7 +32,3 @@ answer_is rule K st site books words of_site are =
     let heaps : IsHeaps K = subst IsHeaps are.number of_site.number in
     let ruled = rule_of_site rule K st site books heaps are in
     ap (λ q. answer_over q (command_of words)) (ap (λ r. queues_of r books) ruled ∙ queues_are rule K st site books are)
-
-pub if_ok : {T E : Type 0} {P Q : T → Type 0} (r : Result T E) → ((x : T) → P x → Q x) → IfOk r P → IfOk r Q
-if_ok (Ok x) f p = f x p
-if_ok (Err e) f p = tt

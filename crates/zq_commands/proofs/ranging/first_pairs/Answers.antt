@@ -1,7 +1,6 @@
 use Rattle.std.proofs.Common.{[], subst, ap, arith, drop, length, map, sym, take, ◌+◌, ◌-◌, ◌∙◌, ◌∷◌, ◌≡◌, ◌≤◌}
 use Rattle.std.proofs.lemmas.List.{drop_all, length-map, length-take}
 use Rattle.std.specs.Prelude.{filter}
-use Rattle.zq_commands.proofs.AtPlace.{at_place}
 use Rattle.zq_commands.proofs.FirstPairs.{no_queue}
 use Rattle.zq_commands.proofs.RanPlans.{drop_at}
 use Rattle.zq_commands.proofs.Runs.{lent_behind, run_none, run_woven}
@@ -9,6 +8,7 @@ use Rattle.zq_commands.specs.FirstPairs.{lent_pair}
 use Rattle.zq_commands.specs.Weaving.{woven}
 use Rattle.zq_moves.specs.Lent.{AreLent, queues_of}
 use Rattle.zq_plans.specs.Ranges.{is_within, turned_if}
+use Rattle.zq_posheap.proofs.Lists.{there_is}
 use Rattle.zq_commands.proofs.ranging.first_pairs.Goals as goal
 
 pub loop-place-init : goal.loop-place-init
@@ -27,7 +27,7 @@ merge-requires g c =
     let lent = g.B.Books.lent c.args.books.now in
     let section = c.args.section.now in
     let place = c.loop-place.place - 1 in
-    let book = at_place lent.books place (omega (arith, c.loop-place.invariant.within, c.loop-place-test.true)) in
+    let book = there_is lent.books place (omega (arith, c.loop-place.invariant.within, c.loop-place-test.true)) in
     let run = c.in_ok-run.ensures book.0 book.1 in
     omega (
       arith,
@@ -44,7 +44,7 @@ loop-place-preserved g c =
     let t = c.args.is_turned in
     let p = is_within section.min section.max in
     let place = c.loop-place.place - 1 in
-    let book = at_place lent.books place (omega (arith, c.loop-place.invariant.within, c.loop-place-test.true)) in
+    let book = there_is lent.books place (omega (arith, c.loop-place.invariant.within, c.loop-place-test.true)) in
     let next : c.loop-place.place ≡ place + 1 = omega (arith, c.loop-place-test.true) in
     let run = c.in_ok-run.ensures book.0 book.1 in
     let are : AreLent lent.heaps (book.0 ∷ drop (place + 1) lent.books) = subst (AreLent lent.heaps) (drop_at lent.books place book.0 book.1) (lent_behind lent.heaps place lent.books c.requires.books) in

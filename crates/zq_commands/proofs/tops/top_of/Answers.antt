@@ -1,12 +1,12 @@
 use Rattle.std.proofs.Common.{[], ap, arith, drop, length, option_map, sym, ◌+◌, ◌-◌, ◌∙◌, ◌∷◌, ◌≡◌, ◌≤◌}
 use Rattle.std.proofs.lemmas.List.{drop_all}
 use Rattle.std.specs.Prelude.{slice_get}
-use Rattle.zq_commands.proofs.AtPlace.{at_place}
 use Rattle.zq_commands.proofs.FirstPairs.{no_queue}
 use Rattle.zq_commands.proofs.RanPlans.{drop_at}
 use Rattle.zq_commands.specs.FirstPairs.{lent_pair}
 use Rattle.zq_moves.specs.Lent.{queues_of}
 use Rattle.zq_moves.specs.Merging.{least}
+use Rattle.zq_posheap.proofs.Lists.{there_is}
 use Rattle.zq_commands.proofs.tops.top_of.Goals as goal
 
 pub loop-place-init : goal.loop-place-init
@@ -23,7 +23,7 @@ loop-place-preserved g c =
     let lent = g.B.Books.lent c.args.books.now in
     let place = c.loop-place.place - 1 in
     let key = c.args.key.now in
-    let book = at_place lent.books place (omega (arith, c.loop-place.invariant.within, c.loop-place-test.true)) in
+    let book = there_is lent.books place (omega (arith, c.loop-place.invariant.within, c.loop-place-test.true)) in
     let next : c.loop-place.place ≡ place + 1 = omega (arith, c.loop-place-test.true) in
     let here : option_map lent_pair c.top.result ≡ slice_get (queues_of lent.rule (book.0 ∷ []) key) 0 = c.top.ensures book.0 book.1 in
     record {

@@ -1,12 +1,13 @@
 use Rattle.std.proofs.Common.{None, Some, ap, subst, sym, true≢false, ◌∙◌, ◌≡◌}
 use Rattle.indexmap.specs.IndexMap.{set_value_at}
 use Rattle.zq_dots.specs.Rule.{rule_of}
+use Rattle.zq_queue.proofs.Changing.{on_any_err}
 use Rattle.zq_queue.specs.Entries.{set_entry}
 use Rattle.zq_queue.specs.Queued.{Queued}
 use Rattle.zq_shard.proofs.AtIndex.{none_is, rewritten_at, updates_at, value_is}
 use Rattle.zq_shard.proofs.AtKeys.{entries_found, removed_at, written_at}
 use Rattle.zq_shard.proofs.ByBytes.{found}
-use Rattle.zq_shard.proofs.Outcomes.{if_err, ok_map}
+use Rattle.zq_shard.proofs.Outcomes.{ok_map}
 use Rattle.zq_shard.specs.Queues.{HasAt, entries_in, or_none, unless_empty}
 use Rattle.zq_shard.proofs.queues.put_back.Goals as goal
 use Rattle.zq_shard.proofs.queues.put_back.Goals.{In_ok-put_back, In_ok-put_back-2}
@@ -26,7 +27,7 @@ is_new c =
 
 pub returns-in_err-put_back-clause-refused : goal.returns-in_err-put_back-clause-refused
 returns-in_err-put_back-clause-refused c =
-    if_err c.from_residual.result (ap (set_value_at c.args.queues.now.entries c.in-Some.index) c.in_err-put_back.ensures.refused
+    on_any_err c.from_residual.result (ap (set_value_at c.args.queues.now.entries c.in-Some.index) c.in_err-put_back.ensures.refused
     ∙ rewritten_at c.args.queues.now.entries c.in-Some.index _ c.pair_mut-queue.result.1.now c.pair_mut-queue.ensures.value)
 
 pub returns-then-is_empty-clause-back : goal.returns-then-is_empty-clause-back

@@ -2,13 +2,13 @@ use Rattle.std.proofs.Common.{None, Some, ap, subst, sym, true≢false, ◌∙�
 use Rattle.std.specs.FinMap.{get, get-empty}
 use Rattle.indexmap.specs.IndexMap.{set_value_at}
 use Rattle.zq_dots.specs.Rule.{rule_of}
+use Rattle.zq_queue.proofs.Changing.{on_any_err}
 use Rattle.zq_queue.specs.Effects.{HasRoom, entries_after}
 use Rattle.zq_queue.specs.Entries.{bytes_cmp, entry_in}
 use Rattle.zq_queue.specs.Queued.{Queued}
 use Rattle.zq_shard.proofs.AtIndex.{none_is, rewritten_at, updates_at, value_is}
 use Rattle.zq_shard.proofs.AtKeys.{entries_found, removed_at, written_at}
 use Rattle.zq_shard.proofs.ByBytes.{found}
-use Rattle.zq_shard.proofs.Outcomes.{if_err}
 use Rattle.zq_shard.specs.Queues.{HasAt, entries_in, unless_empty}
 use Rattle.zq_shard.proofs.queues.take.Goals as goal
 use Rattle.zq_shard.proofs.queues.take.Goals.{In_ok-before, In_ok-take, else-is_empty, then-is_empty}
@@ -27,7 +27,7 @@ take-requires-clause-room c =
 
 pub returns-in_err-before-clause-refused : goal.returns-in_err-before-clause-refused
 returns-in_err-before-clause-refused c =
-    if_err c.from_residual.result (ap (set_value_at c.args.queues.now.entries c.in-Some.index) c.in_err-before.ensures.refused
+    on_any_err c.from_residual.result (ap (set_value_at c.args.queues.now.entries c.in-Some.index) c.in_err-before.ensures.refused
     ∙ rewritten_at c.args.queues.now.entries c.in-Some.index _ c.pair_mut-queue.result.1.now c.pair_mut-queue.ensures.value)
 
 pub returns-in-Some-clause-before : goal.returns-in-Some-clause-before

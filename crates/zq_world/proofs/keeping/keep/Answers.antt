@@ -7,8 +7,9 @@ use Rattle.std.specs.declared.alloc.Global.{Global}
 use Rattle.zq_commands.proofs.InTurn.{take_next}
 use Rattle.zq_model.specs.Sets.{IsIn}
 use Rattle.zq_moves.proofs.Read.{in_place}
+use Rattle.zq_posheap.proofs.Lists.{mapped_at}
 use Rattle.zq_runs.specs.Events.{Event}
-use Rattle.zq_world.proofs.Keepings.{AreSoFar, far_last, far_same, far_set, mapped, ready_else, ready_now}
+use Rattle.zq_world.proofs.Keepings.{AreSoFar, far_last, far_same, far_set, ready_else, ready_now}
 use Rattle.zq_world.specs.Play.{event_of}
 use Rattle.zq_world.specs.Steps.{IsElsewhere, IsFrame}
 use Rattle.zq_world.proofs.keeping.keep.Goals as goal
@@ -44,7 +45,7 @@ loop-i-preserved c =
     let inside = inside_of (length c.args.events.now) places c.requires.inside c.loop-i.i c.loop-i-test.true in
     let its = c.index-events-place.result in
     let e : Event = event_of its in
-    let here = mapped event_of c.args.events.now place its (slice_get_read c.args.events.now (length c.args.events.now) place its refl inside c.index-events-place.is) in
+    let here = mapped_at event_of c.args.events.now place its (slice_get_read c.args.events.now (length c.args.events.now) place its refl inside c.index-events-place.is) in
     let room : place < length frames = omega (arith, inside, before.number, c.requires.number) in
     let done = take_next places c.loop-i.i place (slice_get-get_or places c.loop-i.i 0 c.loop-i-test.true) in
     elim c.match-branch-2.branch [

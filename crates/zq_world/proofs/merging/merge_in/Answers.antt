@@ -6,9 +6,10 @@ use Rattle.zq_journal.specs.Books.{LAST_STAMP, state_of}
 use Rattle.zq_model.specs.Sets.{IsIn}
 use Rattle.zq_moves.proofs.Read.{in_place}
 use Rattle.zq_plans.specs.Run.{LAST_COUNT}
+use Rattle.zq_posheap.proofs.Lists.{set_again}
 use Rattle.zq_runs.specs.Books.{AreBooksOf, greatest_stamp}
 use Rattle.zq_shard.specs.Shard.{HeapImage, IsSameHeap}
-use Rattle.zq_world.proofs.Handed.{blocked_count, blocked_stamp, set_same}
+use Rattle.zq_world.proofs.Handed.{blocked_count, blocked_stamp}
 use Rattle.zq_world.proofs.Merged.{merged_into, merged_not}
 use Rattle.zq_world.proofs.SeenBooks.{stamp_above}
 use Rattle.zq_world.specs.Steps.{merged_state}
@@ -95,6 +96,6 @@ returns-in-Err-Worn-clause-merged c = λ rule K st site T are world closed shut 
     let b = c.index_mut.result.now in
     let why = c.in-Err-Worn.ensures.worn.0 (ap (λ e. Err e) c.in-Err-Worn.field-0-is) in
     let set : slice_set books c.heap.result c.merge.new.self ≡ books
-    = (λ i. slice_set books (c.heap.ensures.same i) (c.in-Err-Worn.ensures.refused i)) ∙ set_same books heap b (here d) in
+    = (λ i. slice_set books (c.heap.ensures.same i) (c.in-Err-Worn.ensures.refused i)) ∙ set_again books heap b (here d) in
     subst (λ xs. AreBooksOf rule K (merged_state K st site heap T) site xs) (sym set)
     (merged_not rule K st site heap T books are (blocked_count rule K st site books are heap b (here d) why.2))

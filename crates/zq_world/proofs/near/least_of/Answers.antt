@@ -1,12 +1,12 @@
 use Rattle.std.proofs.Common.{List, [], ap, arith, drop, length, sym, ◌+◌, ◌-◌, ◌<◌, ◌∙◌, ◌∷◌, ◌≡◌}
 use Rattle.std.proofs.lemmas.List.{drop_all}
 use Rattle.std.specs.Prelude.{slice_get}
-use Rattle.zq_commands.proofs.AtPlace.{at_place}
 use Rattle.zq_commands.proofs.RanPlans.{drop_at}
 use Rattle.zq_commands.specs.VecBooks.{rule_in}
 use Rattle.zq_history.specs.Books.{Book}
 use Rattle.zq_moves.specs.Lent.{queues_of}
 use Rattle.zq_moves.specs.Merging.{least}
+use Rattle.zq_posheap.proofs.Lists.{there_is}
 use Rattle.zq_world.proofs.near.least_of.Goals as goal
 
 pub loop-place-init : goal.loop-place-init
@@ -32,8 +32,8 @@ loop-place-preserved c =
     let before = c.loop-place.invariant in
     let next : c.loop-place.place ≡ place + 1 = omega (arith, c.loop-place-test.true) in
     let within : place < length books = omega (arith, before.within, c.loop-place-test.true) in
-    let here = at_place books place within in
-    let best = at_place books c.loop-place.near before.inside in
+    let here = there_is books place within in
+    let best = there_is books c.loop-place.near before.inside in
     record {
       within = within;
       inside = c.lesser-near.ensures.inside;

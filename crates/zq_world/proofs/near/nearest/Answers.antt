@@ -1,21 +1,17 @@
-use Rattle.std.proofs.Common.{None, Option, Some, [], ap, false, length, max, min, option_map, refl, rules, sym, true, ◌∙◌, ◌∷◌, ◌≡◌}
+use Rattle.std.proofs.Common.{Some, [], ap, false, length, max, min, rules, sym, true, ◌∙◌, ◌∷◌, ◌≡◌}
 use Rattle.std.proofs.lemmas.Bool.{cond-false, cond-true}
 use Rattle.std.specs.Prelude.{is_some, slice_get}
-use Rattle.zq_commands.proofs.AtPlace.{at_place}
 use Rattle.zq_commands.specs.FirstPairs.{lent_pair}
 use Rattle.zq_commands.specs.VecBooks.{rule_in}
 use Rattle.zq_history.specs.Books.{Book}
 use Rattle.zq_moves.specs.Lent.{queues_of}
 use Rattle.zq_moves.specs.Moves.{Queue}
 use Rattle.zq_plans.specs.Plan.{is_there}
+use Rattle.zq_posheap.proofs.Lists.{is_some-map, there_is}
 use Rattle.zq_runs.specs.Doing.{first_drawn, second_drawn}
 use Rattle.zq_world.proofs.Nearest.{first_there}
 use Rattle.zq_world.proofs.near.nearest.Goals as goal
 use Rattle.zq_world.proofs.near.nearest.Goals.{After-top}
-
-some_mapped : {X Y : Type 0} (f : X → Y) (x : Option X) → is_some (option_map f x) ≡ is_some x
-some_mapped f None = refl
-some_mapped f (Some x) = refl
 
 -- the first pair of the nearer book is the first of both that are drawn
 both_first : (c : After-top) (low high near : Book) → slice_get c.args.books.now.items (min (first_drawn (length c.args.books.now.items) c.args.w1) (second_drawn (length c.args.books.now.items) c.args.w1 c.args.w2)) ≡ Some low →
@@ -35,7 +31,7 @@ there_is : (c : After-top) (low high near : Book) → slice_get c.args.books.now
     slice_get c.args.books.now.items c.lesser-near.result ≡ Some near → is_there (queues_of (rule_in c.args.books.now.items) (low ∷ high ∷ []) c.args.key.now) ≡ is_some c.top.result
 there_is c low high near at_low at_high at_near =
     let q = queues_of (rule_in c.args.books.now.items) (low ∷ high ∷ []) c.args.key.now in
-    sym (first_there q) ∙ ap is_some (sym (both_first c low high near at_low at_high at_near) ∙ sym (c.top.ensures near at_near)) ∙ some_mapped lent_pair c.top.result
+    sym (first_there q) ∙ ap is_some (sym (both_first c low high near at_low at_high at_near) ∙ sym (c.top.ensures near at_near)) ∙ is_some-map lent_pair c.top.result
 
 pub returns-then-is_some-clause-first : goal.returns-then-is_some-clause-first
 returns-then-is_some-clause-first c = λ low high near at_low at_high at_near.
@@ -54,6 +50,6 @@ returns-else-is_some-clause-first c = λ low high near at_low at_high at_near.
     let key = c.args.key.now in
     let both = queues_of (rule_in books) (low ∷ high ∷ []) key in
     let none : is_some c.top.result ≡ false = search rules in
-    let its = at_place books c.lesser-near.result c.lesser-near.ensures.inside in
+    let its = there_is books c.lesser-near.result c.lesser-near.ensures.inside in
     c.least_of.ensures.first near at_near
     ∙ ap (λ (q : Queue). slice_get q 0) (sym (cond-false (is_there both) both (queues_of (rule_in books) books key) (there_is d low high its.0 at_low at_high its.1 ∙ none)))

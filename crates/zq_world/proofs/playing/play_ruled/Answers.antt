@@ -5,8 +5,8 @@ use Rattle.std.specs.Prelude.{slice_get}
 use Rattle.std.specs.declared.alloc.Global.{Global}
 use Rattle.zq_dots.specs.Rule.{rule_of}
 use Rattle.zq_model.specs.Sets.{IsIn}
+use Rattle.zq_posheap.proofs.Lists.{mapped_at}
 use Rattle.zq_runs.specs.Events.{Event, Merge, is_possible}
-use Rattle.zq_world.proofs.Keepings.{mapped}
 use Rattle.zq_world.proofs.Plays.{at_last, at_next, before, made_at, missing_here, moments_at, so_many}
 use Rattle.zq_world.specs.Keeping.{AreReady, IsReady}
 use Rattle.zq_world.specs.Play.{Played, event_of, run_of}
@@ -16,7 +16,7 @@ use Rattle.zq_world.proofs.playing.play_ruled.Goals.{After-is_there}
 
 -- the places that are read for a moment are those that are wanted for it
 read_at : (wanted : List (Vec ℕ Global)) (events at : ℕ) (places : Vec ℕ Global) → length wanted ≡ events → at < events → places ≡ slice_index_or wanted at places → slice_get (places_in wanted) at ≡ Some places.items
-read_at wanted events at places number inside is = mapped (λ (v : Vec ℕ Global). v.items) wanted at places (slice_get_read wanted (length wanted) at places refl (omega (arith, number, inside)) is)
+read_at wanted events at places number inside is = mapped_at (λ (v : Vec ℕ Global). v.items) wanted at places (slice_get_read wanted (length wanted) at places refl (omega (arith, number, inside)) is)
 
 pub keep-requires-clause-inside : goal.keep-requires-clause-inside
 keep-requires-clause-inside c = λ place among.
@@ -49,7 +49,7 @@ module _ (c : After-is_there) where
   here : slice_get events at ≡ Some event
   here =
       let all = c.args.events.now in
-      mapped event_of all at c.index-events-place.result (slice_get_read all (length all) at c.index-events-place.result refl c.loop-place-test.true c.index-events-place.is)
+      mapped_at event_of all at c.index-events-place.result (slice_get_read all (length all) at c.index-events-place.result refl c.loop-place-test.true c.index-events-place.is)
 
   moments : length (run_of played).past ≡ at + 1
   moments = let inside = slice_get_within events at event here in moments_at (rule_of c.args.rule) c.args.heaps c.args.sites events at (omega (arith, inside))
@@ -72,7 +72,7 @@ module _ (c : After-is_there) where
       let frames = c.keep.new.frames.items in
       let inside = slice_get_within events at event here in
       let room : at < length frames = omega (arith, inside, c.in_ok-keep.ensures.number, c.loop-place.invariant.number) in
-      let there = mapped (λ (f : Vec ℕ Global). f.items) frames at frame (slice_get_read frames (length frames) at frame refl room is) in
+      let there = mapped_at (λ (f : Vec ℕ Global). f.items) frames at frame (slice_get_read frames (length frames) at frame refl room is) in
       subst (λ bytes. IsReady played (length (run_of played).past) event bytes) (sym read) (subst (λ n. IsReady played n event frame.items) (sym moments) (ready.each at event frame.items (omega arith) here there))
 
 pub returns-then-not-is_there-clause-missing : goal.returns-then-not-is_there-clause-missing

@@ -1,8 +1,8 @@
 use Rattle.std.proofs.Common.{arith, length, refl, subst, ◌≤◌}
 use Rattle.std.proofs.lemmas.Option.{slice_get_read, slice_get_within}
-use Rattle.zq_commands.proofs.SitePlaces.{place_in}
 use Rattle.zq_journal.specs.Books.{LAST_STAMP}
 use Rattle.zq_model.specs.Sets.{IsCounters}
+use Rattle.zq_moves.proofs.Read.{placed_in}
 use Rattle.zq_plans.specs.Run.{LAST_COUNT}
 use Rattle.zq_shard.specs.Shard.{HeapImage}
 use Rattle.zq_world.proofs.SeenBooks.{seen_next}
@@ -25,6 +25,6 @@ loop-book-preserved c =
 
 pub returns : goal.returns
 returns c = λ book here.
-    let at = place_in book c.args.books.now here in
+    let at = placed_in book c.args.books.now here in
     let inside = slice_get_within c.args.books.now at.0 book at.1 in
     c.loop-book.invariant at.0 book (omega (arith, inside, c.loop-book-test.false)) at.1

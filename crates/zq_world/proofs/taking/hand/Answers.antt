@@ -8,9 +8,10 @@ use Rattle.zq_delta.specs.declared.version.Version.TheVariants as delta
 use Rattle.zq_dots.specs.Placed.{Placed}
 use Rattle.zq_model.specs.Operation.{Operation}
 use Rattle.zq_model.specs.Sets.{IsIn, IsWorld, Taken}
-use Rattle.zq_runs.proofs.KeptRuns.{looked_up}
+use Rattle.zq_moves.proofs.Read.{in_place}
+use Rattle.zq_posheap.proofs.Lists.{behind}
 use Rattle.zq_runs.specs.Events.{Handed, Take, after_take, after_taken, answer_taken, answer_to_take, judged}
-use Rattle.zq_world.proofs.Handing.{closed_of, its_book, made_taken, others_taken, placed_at, world_with}
+use Rattle.zq_world.proofs.Handing.{closed_of, its_book, made_taken, others_taken, world_with}
 use Rattle.zq_world.proofs.Standing.{held_next, stands_set}
 use Rattle.zq_world.specs.Frames.{placed}
 use Rattle.zq_world.specs.declared.answer.Answer.TheVariants as answers
@@ -31,8 +32,8 @@ given c played held =
     let made = c.args.player.now.made.items in
     let p = c.index.result.now in
     let at_p = slice_get_read made (length made) c.args.op p refl c.requires.made c.index.ensures in
-    let found = placed_at played.heaps st.made c.args.op p (ap (λ (xs : List Placed). slice_get xs c.args.op) (sym held.stands.told) ∙ at_p) in
-    let here = looked_up st.made c.args.op found.0 found.1 in
+    let found = behind (placed played.heaps) st.made c.args.op p (ap (λ (xs : List Placed). slice_get xs c.args.op) (sym held.stands.told) ∙ at_p) in
+    let here = in_place st.made c.args.op found.0 found.1 in
     let read = c.carrying.ensures.operations played.rule played.heaps played.sites played.events held.playable found.0 here in
     let same = c.in_ok-op.ensures.same (subst (λ (q : Placed). found_at (op_spelling delta.Two q) ≡ Ok (q, length (op_spelling delta.Two q))) found.2 read) in
     record { o = found.0; at = found.1; here = here; is = same ∙ sym found.2 }

@@ -7,10 +7,11 @@ use Rattle.zq_model.specs.Image.{Image}
 use Rattle.zq_model.specs.Sets.{IsIn, New, Taken, taken_of}
 use Rattle.zq_moves.proofs.Read.{in_place}
 use Rattle.zq_plans.specs.Run.{LAST_COUNT}
+use Rattle.zq_posheap.proofs.Lists.{set_again}
 use Rattle.zq_runs.specs.Books.{AreBooksOf, greatest_stamp}
 use Rattle.zq_runs.specs.Events.{after_taken, answer_taken, judged}
 use Rattle.zq_shard.specs.Shard.{IsOfHeap}
-use Rattle.zq_world.proofs.Handed.{handed_not, handed_to, set_same, worn_taken}
+use Rattle.zq_world.proofs.Handed.{handed_not, handed_to, worn_taken}
 use Rattle.zq_world.proofs.SeenBooks.{stamp_above}
 use Rattle.zq_world.proofs.taking.take_in.Goals as goal
 use Rattle.zq_world.proofs.taking.take_in.Goals.{After-greatest_stamp-stamp, After-index_mut}
@@ -101,7 +102,7 @@ returns-in-Err-Worn-clause-handed c = λ rule K st site are world closed.
     let judge : judged st site o ≡ New = sym (ap (λ (a : Image). taken_of a.vector o) (are.each o.heap b (here d)).state) ∙ why.1 in
     let not = handed_not rule K st site books are o b (here d) why.2 in
     let set : slice_set books c.heap.result new ≡ books
-    = (λ i. slice_set books (c.heap.ensures.same i) (c.in-Err-Worn.ensures.refused i)) ∙ set_same books o.heap b (here d) in (
+    = (λ i. slice_set books (c.heap.ensures.same i) (c.in-Err-Worn.ensures.refused i)) ∙ set_again books o.heap b (here d) in (
       subst (λ t. AreBooksOf rule K (after_taken K st site o t) site (slice_set books c.heap.result new)) (sym judge)
           (subst (λ s. AreBooksOf rule K s site (slice_set books c.heap.result new)) (sym not.0) (subst (λ xs. AreBooksOf rule K st site xs) (sym set) are)),
       sym not.1 ∙ sym (ap (answer_taken K st site o) judge),

@@ -3,8 +3,8 @@ use Rattle.std.proofs.lemmas.List.{length-map}
 use Rattle.std.proofs.lemmas.Option.{same_Some, slice_get_read}
 use Rattle.std.specs.Prelude.{slice_get}
 use Rattle.std.specs.declared.alloc.Global.{Global}
+use Rattle.zq_posheap.proofs.Lists.{mapped_at}
 use Rattle.zq_runs.specs.Events.{Merge}
-use Rattle.zq_world.proofs.Keepings.{mapped}
 use Rattle.zq_world.proofs.Wanteds.{merge_is, wanted_none, wanted_same, wanted_with}
 use Rattle.zq_world.specs.Play.{event_of}
 use Rattle.zq_world.specs.Wanted.{AreWanted, places_in}
@@ -23,7 +23,7 @@ loop-place-preserved c =
     let events = map event_of all in
     let place = c.loop-place.place in
     let its = c.index-events-place.result in
-    let here : slice_get events place ≡ Some (event_of its) = mapped event_of all place its (slice_get_read all (length all) place its refl c.loop-place-test.true c.index-events-place.is) in
+    let here : slice_get events place ≡ Some (event_of its) = mapped_at event_of all place its (slice_get_read all (length all) place its refl c.loop-place-test.true c.index-events-place.is) in
     let old = c.loop-place.wanted.items in
     elim c.match-events-place.branch [
       | in-Merge+in_ok-want w ↦

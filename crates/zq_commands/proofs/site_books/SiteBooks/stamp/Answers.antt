@@ -1,9 +1,9 @@
 use Rattle.std.proofs.Common.{List, ap, arith, length, subst, ◌∙◌}
 use Rattle.std.specs.Prelude.{slice_get}
-use Rattle.zq_commands.proofs.SitePlaces.{place_in}
 use Rattle.zq_history.specs.Books.{Book}
 use Rattle.zq_journal.specs.Books.{LAST_STAMP}
 use Rattle.zq_model.specs.Sets.{IsIn}
+use Rattle.zq_moves.proofs.Read.{placed_in}
 use Rattle.zq_commands.proofs.site_books.SiteBooks.stamp.Goals as goal
 
 pub greatest_stamp-requires : goal.greatest_stamp-requires
@@ -14,7 +14,7 @@ unfolding LAST_STAMP
 returns-clause-dated c = (
   c.greatest_stamp.ensures.bounded,
   λ book here.
-      let at = place_in book c.args.self.now here in
+      let at = placed_in book c.args.self.now here in
       c.greatest_stamp.ensures.above at.0 book (ap (λ (xs : List Book). slice_get xs at.0) (c.deref.ensures.value ∙ c.self.view_is) ∙ at.1),
 )
 

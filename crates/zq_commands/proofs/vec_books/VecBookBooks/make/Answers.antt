@@ -1,10 +1,10 @@
-use Rattle.std.proofs.Common.{Err, List, Ok, Result, Some, ap, length, refl, set, subst, sym, ◌∙◌, ◌≡◌}
+use Rattle.std.proofs.Common.{List, Some, ap, length, refl, set, subst, sym, ◌∙◌, ◌≡◌}
 use Rattle.std.proofs.lemmas.List.{set-get_or}
 use Rattle.std.proofs.lemmas.Option.{slice_get_read}
+use Rattle.std.proofs.lemmas.Result.{on_ok_weaker}
 use Rattle.std.specs.Prelude.{slice_get}
-use Rattle.std.specs.Result.{OnOk}
 use Rattle.zq_commands.proofs.BookMoves.{set_dated, set_lending, set_lent_after, why_worn, worn_why}
-use Rattle.zq_commands.proofs.OnOk.{on_both, on_ok}
+use Rattle.zq_commands.proofs.OnOk.{both_ok, on_both}
 use Rattle.zq_commands.proofs.VecBooks.{recorded_at}
 use Rattle.zq_commands.specs.Lending.{IsDated, IsLending}
 use Rattle.zq_commands.specs.VecBooks.{lending_of}
@@ -28,10 +28,6 @@ move_in c = record { key = c.args.key.now; member = c.args.member.now; act = act
 same_set : (c : After-index_mut) → set c.args.self.now.items c.args.place c.index_mut.result.now ≡ c.args.self.now.items
 same_set c = ap (set c.args.self.now.items c.args.place) c.index_mut.ensures.value ∙ set-get_or c.args.self.now.items c.args.place c.index_mut.result.now
 
-both_ok : (P Q : Type 0) {T E : Type 0} (r : Result T E) → OnOk r P → OnOk r Q → OnOk r (P × Q)
-both_ok P Q (Ok x) p q = (p, q)
-both_ok P Q (Err e) p q = tt
-
 pub make_in-requires-clause-stamp : goal.make_in-requires-clause-stamp
 make_in-requires-clause-stamp c = c.requires.dated.1 c.index_mut.result.now (in_place c.args.self.now.items c.args.place c.index_mut.result.now (stands c))
 
@@ -42,7 +38,7 @@ returns-clause-made c =
     let place = c.args.place in
     let old = c.index_mut.result.now in
     let is = stands d in
-    on_ok c.make_in.result (λ made. ap (λ (b : Book). lending_of (set books place b)) made
+    on_ok_weaker c.make_in.result (λ made. ap (λ (b : Book). lending_of (set books place b)) made
     ∙ set_lent_after c.args.site c.args.stamp (move_in d) books place old c.requires.lent is (c.requires.home old is)) c.make_in.ensures.made
 
 pub returns-clause-worn : goal.returns-clause-worn

@@ -3,10 +3,11 @@ use Rattle.std.proofs.lemmas.Int.{to_z-of_z}
 use Rattle.std.specs.Int.{w128, w64}
 use Rattle.std.specs.Prelude.{◌+ℤ◌}
 use mir.Val.{SFits, of_z, to_z}
+use Rattle.zq_model.proofs.Bounds.{within_add}
 use Rattle.zq_model.specs.Operation.{IsWithin, MOST}
 use Rattle.zq_model.specs.Sets.{SITES}
 use Rattle.zq_entry.specs.Sums.{MOST_SUM}
-use Rattle.zq_entry.proofs.SumLemmas.{value-fits, value-within}
+use Rattle.zq_entry.proofs.SumLemmas.{value-fits}
 use Rattle.zq_entry.proofs.addition_ref.AdditionRef.value.Goals as goal
 
 -- the score, widened
@@ -25,7 +26,7 @@ both : (c : goal.After-total) → to_z w128 (of_z w128 c.from.result) +ℤ to_z 
 both c = ap (λ x. x +ℤ to_z w128 (of_z w128 c.total.result)) (score c) ∙ ap (λ x. c.value.result +ℤ x) (sums c)
 
 within : (c : goal.After-total) → IsWithin (MOST + SITES * MOST_SUM) (c.value.result +ℤ c.total.result)
-within c = value-within c.value.result c.total.result c.value.ensures.within c.total.ensures.within
+within c = within_add MOST (SITES * MOST_SUM) c.value.result c.total.result c.value.ensures.within c.total.ensures.within
 
 -- the result
 value : (c : goal.After-total) → to_z w128 (of_z w128 (to_z w128 (of_z w128 c.from.result) +ℤ to_z w128 (of_z w128 c.total.result))) ≡ c.value.result +ℤ c.total.result

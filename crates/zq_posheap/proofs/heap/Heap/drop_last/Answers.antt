@@ -1,12 +1,12 @@
 use Rattle.std.proofs.Common.{arith, ap, sym, ◌∙◌}
 use Rattle.std.proofs.lemmas.List.{length-map}
-use Rattle.std.proofs.lemmas.Option.{slice_get_within}
+use Rattle.std.proofs.lemmas.Option.{same_Some, slice_get_within}
 use Rattle.std.specs.Prelude.{[], get_or, length, take, ◌-◌, ◌<◌, ◌≤◌, ◌≡◌}
 use Rattle.std.specs.FinMap.{get, remove}
 use Rattle.indexmap.specs.IndexMap.{keys}
 use Rattle.zq_posheap.proofs.DropLast.{at_its_place, at_the_end, moved_there, not_none, removed_last, still_linked, still_queued}
 use Rattle.zq_posheap.proofs.Linked.{index_within}
-use Rattle.zq_posheap.proofs.Lists.{last_is, read_at, some_eq}
+use Rattle.zq_posheap.proofs.Lists.{last_is, read_at}
 use Rattle.zq_posheap.proofs.Places.{seen_there}
 use Rattle.zq_posheap.proofs.Told.{known, places_long}
 use Rattle.zq_posheap.specs.Moves.{scores_in}
@@ -118,7 +118,7 @@ returns-clause-given g c = λ t is.
     let slots = heap.slots.items in
     let s = c.in_ok-index.field-0 in
     let last = last_is slots _ c.pop.result s c.requires.occupied heap.slots.ok.0 c.pop.ensures.value c.in_ok-index.was in
-    let same : t ≡ s = some_eq (sym is ∙ last) in
+    let same : t ≡ s = same_Some _ _ (sym is ∙ last) in
     sym ((λ k. get (entries_map heap) (get_or (keys heap.members) (same k).index []))
     ∙ seen_there heap.members s.index _ c.len-last.ensures.unique (sym c.swap_remove_index.ensures.entry ∙ c.in_ok-held.was))
 
@@ -128,7 +128,7 @@ returns-clause-held g c = λ t is.
     let slots = heap.slots.items in
     let s = c.in_ok-index.field-0 in
     let last = last_is slots _ c.pop.result s c.requires.occupied heap.slots.ok.0 c.pop.ensures.value c.in_ok-index.was in
-    let same : t ≡ s = some_eq (sym is ∙ last) in
+    let same : t ≡ s = same_Some _ _ (sym is ∙ last) in
     let gone = c.swap_remove_index in
     let removed = removed_last heap.members gone.new.self s (known heap c.requires.linked _ s last) gone.result gone.ensures.entry gone.ensures.updates in
     let removed' = removed ∙ (λ k. remove (entries_map heap) (get_or (keys heap.members) (sym same k).index [])) in

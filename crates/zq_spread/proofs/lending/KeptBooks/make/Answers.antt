@@ -1,5 +1,6 @@
-use Rattle.std.proofs.Common.{Err, Ok, Result, [], ap, arith, inl, refl, subst, sym, ◌∙◌, ◌∷◌, ◌≡◌}
-use Rattle.std.specs.Result.{OnErr, OnOk}
+use Rattle.std.proofs.Common.{[], ap, arith, inl, refl, subst, sym, ◌∙◌, ◌∷◌, ◌≡◌}
+use Rattle.std.proofs.lemmas.Result.{on_ok_weaker}
+use Rattle.zq_commands.proofs.OnOk.{both_ok, on_both}
 use Rattle.zq_commands.specs.Lending.{IsDated, IsLending}
 use Rattle.zq_commands.specs.VecBooks.{lending_of}
 use Rattle.zq_dots.specs.Act.{act_of}
@@ -9,18 +10,6 @@ use Rattle.zq_moves.specs.Lent.{made_in}
 use Rattle.zq_moves.specs.Moves.{Move}
 use Rattle.zq_spread.proofs.Alone.{dated, lends, lent_made, only_place, why_worn, worn_why}
 use Rattle.zq_spread.proofs.lending.KeptBooks.make.Goals as goal
-
-on_ok : {T E : Type 0} {P Q : Type 0} (r : Result T E) → (P → Q) → OnOk r P → OnOk r Q
-on_ok (Ok x) f p = f p
-on_ok (Err e) f p = tt
-
-on_both : {T E : Type 0} {P Q R : Type 0} (r : Result T E) → (P → R) → (Q → R) → OnOk r P → OnErr r Q → R
-on_both (Ok x) f g p q = f p
-on_both (Err e) f g p q = g q
-
-both_ok : (P Q : Type 0) {T E : Type 0} (r : Result T E) → OnOk r P → OnOk r Q → OnOk r (P × Q)
-both_ok P Q (Ok x) p q = (p, q)
-both_ok P Q (Err e) p q = tt
 
 pub make_in-requires-clause-home : goal.make_in-requires-clause-home
 make_in-requires-clause-home c = c.requires.home c.args.self.now.book (only_place _ c.args.self.now.book c.requires.inside)
@@ -33,7 +22,7 @@ returns-clause-made c =
     let old : Book = c.args.self.now.book in
     let move : Move = record { key = c.args.key.now; member = c.args.member.now; act = act_of c.args.act } in
     let home = c.requires.home old (only_place _ old c.requires.inside) in
-    on_ok c.make_in.result (λ made. ap (λ (b : Book). lending_of (b ∷ [])) made ∙ lent_made c.args.site c.args.stamp move old home) c.make_in.ensures.made
+    on_ok_weaker c.make_in.result (λ made. ap (λ (b : Book). lending_of (b ∷ [])) made ∙ lent_made c.args.site c.args.stamp move old home) c.make_in.ensures.made
 
 pub returns-clause-worn : goal.returns-clause-worn
 returns-clause-worn c = λ fault.

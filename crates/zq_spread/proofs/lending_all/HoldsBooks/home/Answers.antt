@@ -1,12 +1,11 @@
 use Rattle.std.proofs.Common.{ap, sym, ◌∙◌, ◌≡◌}
 use Rattle.std.proofs.lemmas.Bool.{eq-eqb, eqb-true}
-use Rattle.zq_commands.proofs.SitePlaces.{place_in}
 use Rattle.zq_commands.specs.VecBooks.{heaps_in}
 use Rattle.zq_history.specs.Books.{Book}
 use Rattle.zq_model.specs.Heaps.{heap_of}
 use Rattle.zq_model.specs.Sets.{IsIn}
 use Rattle.zq_moves.proofs.Homes.{lent_each}
-use Rattle.zq_moves.proofs.Read.{in_place}
+use Rattle.zq_moves.proofs.Read.{in_place, placed_in}
 use Rattle.zq_shard.specs.Shard.{HeapImage}
 use Rattle.zq_spread.proofs.lending_all.HoldsBooks.home.Goals as goal
 use Rattle.zq_spread.proofs.lending_all.HoldsBooks.home.Goals.{After-heap_of}
@@ -25,7 +24,7 @@ pub place_of-requires : goal.place_of-requires
 place_of-requires c =
     let books = books_of (helds_of c.args.self.now) in
     let home = c.requires.home in
-    let at = place_in home.0 books home.1 in
+    let at = placed_in home.0 books home.1 in
     let heap : home.0.heap ≡ c.heap_of.result = sym (eqb-true _ _ home.2) ∙ sym (heap_is c home.0 home.1) in
     (at.0, home.0, at.1, heap)
 

@@ -1,8 +1,8 @@
-use Rattle.std.proofs.Common.{Err, List, Ok, Result, Some, [], ap, arith, length, refl, set, subst, suc, sym, zero, ℕ, ◌<◌, ◌∙◌, ◌∷◌, ◌≡◌}
+use Rattle.std.proofs.Common.{List, Some, ap, arith, length, set, subst, sym, ◌<◌, ◌∙◌, ◌≡◌}
+use Rattle.std.proofs.lemmas.Result.{on_err_weaker, on_ok_weaker}
 use Rattle.std.specs.Prelude.{slice_get}
-use Rattle.std.specs.Result.{OnErr, OnOk}
 use Rattle.zq_commands.proofs.BookMoves.{set_dated, set_lending, set_lent_after, why_worn, worn_why}
-use Rattle.zq_commands.proofs.OnOk.{on_both, on_ok}
+use Rattle.zq_commands.proofs.OnOk.{both_ok, on_both}
 use Rattle.zq_commands.specs.Lending.{IsDated, IsLending}
 use Rattle.zq_commands.specs.VecBooks.{lending_of}
 use Rattle.zq_dots.specs.Act.{act_of}
@@ -11,7 +11,7 @@ use Rattle.zq_model.specs.Bounded.{IsBounded}
 use Rattle.zq_moves.proofs.Read.{in_place}
 use Rattle.zq_moves.specs.Lent.{made_in}
 use Rattle.zq_moves.specs.Moves.{Move}
-use Rattle.zq_spread.proofs.Seats.{same_some}
+use Rattle.zq_posheap.proofs.Lists.{set_again}
 use Rattle.zq_spread.proofs.Turned.{as_many, book_stands, books_changed, held_changed}
 use Rattle.zq_spread.proofs.lending_all.HoldsBooks.make.Goals as goal
 use Rattle.zq_spread.proofs.lending_all.HoldsBooks.make.Goals.{After-index_mut}
@@ -38,20 +38,7 @@ stands c = book_stands c.args.self.now.helds.items c.args.place (length c.as_sli
 
 -- the same list, with its own book at the place
 same_set : (c : After-index_mut) → set (books_in c) c.args.place (old_in c) ≡ books_in c
-same_set c = set_back (books_in c) c.args.place (old_in c) (stands c)
-  where
-    set_back : (xs : List Book) (i : ℕ) (x : Book) → slice_get xs i ≡ Some x → set xs i x ≡ xs
-    set_back [] i x is = refl
-    set_back (y ∷ xs) zero x is = ap (λ z. z ∷ xs) (sym (same_some y x is))
-    set_back (y ∷ xs) (suc i) x is = ap (λ l. y ∷ l) (set_back xs i x is)
-
-both_ok : (P Q : Type 0) {T E : Type 0} (r : Result T E) → OnOk r P → OnOk r Q → OnOk r (P × Q)
-both_ok P Q (Ok x) p q = (p, q)
-both_ok P Q (Err e) p q = tt
-
-on_error : {T E P Q : Type 0} (r : Result T E) → (P → Q) → OnErr r P → OnErr r Q
-on_error (Ok x) f p = tt
-on_error (Err e) f p = f p
+same_set c = set_again (books_in c) c.args.place (old_in c) (stands c)
 
 pub make_held-requires-clause-home : goal.make_held-requires-clause-home
 make_held-requires-clause-home c = c.requires.home (old_in c) (stands c)
@@ -64,7 +51,7 @@ returns-clause-made c =
     let d = (goal.at.returns-clause-made c).After-index_mut in
     let y = c.make_held.new.held in
     let changed = books_changed c.args.self.now.helds.items c.args.place (length c.as_slice.result.now) c.index_mut.result.now (many d) (within d) c.index_mut.ensures.value y in
-    on_ok c.make_held.result (λ made. ap lending_of changed ∙ ap (λ (b : Book). lending_of (set (books_in d) c.args.place b)) made
+    on_ok_weaker c.make_held.result (λ made. ap lending_of changed ∙ ap (λ (b : Book). lending_of (set (books_in d) c.args.place b)) made
     ∙ set_lent_after c.args.site c.args.stamp (move_in d) (books_in d) c.args.place (old_in d) c.requires.lent (stands d) (c.requires.home (old_in d) (stands d))) c.make_held.ensures.made
 
 pub returns-clause-refused : goal.returns-clause-refused
@@ -72,7 +59,7 @@ returns-clause-refused c =
     let d = (goal.at.returns-clause-refused c).After-index_mut in
     let y = c.make_held.new.held in
     let changed = books_changed c.args.self.now.helds.items c.args.place (length c.as_slice.result.now) c.index_mut.result.now (many d) (within d) c.index_mut.ensures.value y in
-    on_error c.make_held.result (λ same. ap lending_of (changed ∙ ap (λ (b : Book). set (books_in d) c.args.place b) same ∙ same_set d)) c.make_held.ensures.refused
+    on_err_weaker c.make_held.result (λ same. ap lending_of (changed ∙ ap (λ (b : Book). set (books_in d) c.args.place b) same ∙ same_set d)) c.make_held.ensures.refused
 
 pub returns-clause-worn : goal.returns-clause-worn
 returns-clause-worn c = λ fault.

@@ -5,8 +5,9 @@ use Rattle.std.proofs.lemmas.List.Elements.{All-head, All-tail}
 use Rattle.std.proofs.lemmas.List.Sums.{sum_by-cons}
 use Rattle.std.proofs.lemmas.Option.{slice_get_within}
 use Rattle.std.specs.Prelude.{All, List, Option, Some, refl, slice_get, slice_set, sum, ℕ, ◌+◌, ◌<◌, ◌≡◌, ◌∷◌}
-use Rattle.zq_spread.proofs.Companies.{count_in, sum_first, sum_none}
-use Rattle.zq_spread.proofs.Seats.{set_other, set_same, taken_at}
+use Rattle.zq_posheap.proofs.Lists.{slice_get-set_other, slice_get-set_same}
+use Rattle.zq_spread.proofs.Companies.{count_in, sum_none}
+use Rattle.zq_spread.proofs.Seats.{taken_at}
 use Rattle.zq_spread.proofs.room.Room.+gather.Goals as goal
 use Rattle.zq_spread.proofs.room.Room.+gather.Goals.{in-None, in-Some-split_first_mut}
 use Rattle.zq_spread.specs.Companies.{steps_of_all}
@@ -42,7 +43,7 @@ returns-clause-sum t c =
     taken_at old.counts.items (length old.counts.items) heap c.index_mut.result.now c.take.result (Some c.in-Some.count) refl within c.index_mut.ensures.value c.take.ensures.value c.in-Some.is in
     let mine : steps_at old heap ≡ steps_of c.in-Some.count = ap steps_in there in
     let joined : sum (passes_of c.join.new.total) ≡ steps_of c.in-Some.count + sum (passes_of c.args.total.now) =
-    ap sum c.join.ensures.joined ∙ sum_first (steps_of c.in-Some.count) (passes_of c.args.total.now) in
+    ap sum c.join.ensures.joined ∙ sum_by-cons (λ x. x) (steps_of c.in-Some.count) (passes_of c.args.total.now) in
     let total : total_of c.join.new.total ≡ total_of c.args.total.now = c.join.ensures.stays.1 in
     elim c.match-split_first_mut.branch [
       | in-None w ↦ (
@@ -71,9 +72,9 @@ returns-clause-first t c =
     let out : List (Option Count) = slice_set old.counts.items heap c.take.new.self in
     let new : List (Option Count) = slice_set out heap (Some c.split.result) in
     let long : length out ≡ length old.counts.items = length-set old.counts.items heap c.take.new.self in
-    let now : slice_get new heap ≡ Some (Some c.split.result) = set_same out heap (Some c.split.result) (subst (λ n. heap < n) (sym long) within) in
+    let now : slice_get new heap ≡ Some (Some c.split.result) = slice_get-set_same out heap (Some c.split.result) (subst (λ n. heap < n) (sym long) within) in
     let other : (k : ℕ) → (k ≡ heap → ⊥) → slice_get new k ≡ slice_get old.counts.items k =
-    λ k apart. set_other out heap k (Some c.split.result) apart ∙ set_other old.counts.items heap k c.take.new.self apart in
+    λ k apart. slice_get-set_other out heap k (Some c.split.result) apart ∙ slice_get-set_other old.counts.items heap k c.take.new.self apart in
     record {
       seats = refl;
       stamp = refl;

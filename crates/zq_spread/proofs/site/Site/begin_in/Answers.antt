@@ -1,8 +1,9 @@
 use Rattle.std.proofs.Common.{ap, subst, sym, ◌∙◌}
-use Rattle.std.proofs.lemmas.Option.{slice_get_read}
+use Rattle.std.proofs.lemmas.Option.{same_Some, slice_get_read}
 use Rattle.std.specs.Vec as Vec
 use Rattle.std.specs.Prelude.{IfSome, None, Some, [], refl, length, slice_get, ℕ, ◌<◌, ◌∷◌, ◌≡◌}
-use Rattle.zq_spread.proofs.Seats.{found_at, same_some, seat_back, seat_out, set_other, set_same, stopped, taken_at}
+use Rattle.zq_posheap.proofs.Lists.{slice_get-set_other, slice_get-set_same, there_is}
+use Rattle.zq_spread.proofs.Seats.{seat_back, seat_out, stopped, taken_at}
 use Rattle.zq_spread.proofs.site.Site.begin_in.Goals as goal
 use Rattle.zq_spread.specs.Passes.{IsPassBut, IsSeatOf, IsSeenLater, seen_at, seen_in}
 use Rattle.zq_spread.specs.Rooms.{IsBegun}
@@ -12,7 +13,7 @@ use Rattle.zq_ticketlock.specs.Seats.{given, id_of, value_of}
 
 pub unreachable-requires : goal.unreachable-requires
 unreachable-requires g c =
-    let room = found_at c.args.self.now.rooms.items c.args.heap c.requires.heap in
+    let room = there_is c.args.self.now.rooms.items c.args.heap c.requires.heap in
     let there : slice_get c.args.pass.now.seats.items c.args.heap ≡ Some None =
     taken_at c.args.pass.now.seats.items (length c.args.self.now.rooms.items) c.args.heap c.index_mut.result.now c.take.result None c.requires.pass.seats c.requires.heap c.index_mut.ensures.value c.take.ensures.value c.in_default.is in
     subst (IsSeatOf room.0) there (c.requires.pass.seat c.args.heap room.0 room.1)
@@ -39,20 +40,20 @@ returns-in-Ok-clause-pass g c = seat_out c.args.self.now c.args.pass.now _ c.arg
 pub returns-in-Ok-clause-lock : goal.returns-in-Ok-clause-lock
 returns-in-Ok-clause-lock g c = λ room at.
     let here : slice_get c.args.self.now.rooms.items c.args.heap ≡ Some c.index.result.now = slice_get_read c.args.self.now.rooms.items (length c.args.self.now.rooms.items) c.args.heap c.index.result.now refl c.requires.heap c.index.ensures in
-    let one : c.index.result.now ≡ room = same_some c.index.result.now room (sym here ∙ at) in
+    let one : c.index.result.now ≡ room = same_Some c.index.result.now room (sym here ∙ at) in
     c.in-Ok.ensures.lock ∙ ap (λ r. id_of r.lock) one
 
 pub returns-in-Ok-clause-begun : goal.returns-in-Ok-clause-begun
 returns-in-Ok-clause-begun g c = λ room at.
     let here : slice_get c.args.self.now.rooms.items c.args.heap ≡ Some c.index.result.now = slice_get_read c.args.self.now.rooms.items (length c.args.self.now.rooms.items) c.args.heap c.index.result.now refl c.requires.heap c.index.ensures in
-    let one : c.index.result.now ≡ room = same_some c.index.result.now room (sym here ∙ at) in
+    let one : c.index.result.now ≡ room = same_Some c.index.result.now room (sym here ∙ at) in
     let there : slice_get c.args.pass.now.seats.items c.args.heap ≡ Some (Some c.in-Some.seat) =
     taken_at c.args.pass.now.seats.items (length c.args.self.now.rooms.items) c.args.heap c.index_mut.result.now c.take.result (Some c.in-Some.seat) c.requires.pass.seats c.requires.heap c.index_mut.ensures.value c.take.ensures.value c.in-Some.is in
     subst (λ r. IfSome (given c.in-Ok.begun.0) (IsBegun r (seen_at c.args.pass.now c.args.heap) c.args.pass.now.stamp c.in-Ok.begun.1 (value_of c.in-Ok.begun.0))) one
     (subst (λ o. IfSome (given c.in-Ok.begun.0) (IsBegun c.index.result.now o c.args.pass.now.stamp c.in-Ok.begun.1 (value_of c.in-Ok.begun.0))) (sym (ap seen_in there)) c.in-Ok.ensures.begun)
 
 pub returns-in-Ok-clause-others : goal.returns-in-Ok-clause-others
-returns-in-Ok-clause-others g c = λ k other. ap seen_in (set_other c.args.pass.now.seats.items c.args.heap k c.take.new.self other)
+returns-in-Ok-clause-others g c = λ k other. ap seen_in (slice_get-set_other c.args.pass.now.seats.items c.args.heap k c.take.new.self other)
 
 pub returns-in-Err-clause-refused : goal.returns-in-Err-clause-refused
 returns-in-Err-clause-refused g c =
@@ -66,9 +67,9 @@ returns-in-Err-clause-refused g c =
     taken_at old.seats.items (length site.rooms.items) heap c.index_mut.result.now c.take.result (Some c.in-Some.seat) c.requires.pass.seats c.requires.heap c.index_mut.ensures.value c.take.ensures.value c.in-Some.is in
     let but : IsPassBut site (heap ∷ []) mid = seat_out site old mid heap c.take.new.self refl refl refl c.requires.pass in
     let fits : IsSeatOf c.index.result.now (Some (Some c.in-Err.seat)) = (c.in-Err.ensures.refused.0, c.in-Err.ensures.refused.1) in
-    let now : slice_get new.seats.items heap ≡ Some (Some c.in-Err.seat) = set_same mid.seats.items heap (Some c.in-Err.seat) (subst (λ n. heap < n) (sym but.seats) c.requires.heap) in
+    let now : slice_get new.seats.items heap ≡ Some (Some c.in-Err.seat) = slice_get-set_same mid.seats.items heap (Some c.in-Err.seat) (subst (λ n. heap < n) (sym but.seats) c.requires.heap) in
     let later : IsSeenLater (seen_at new heap) (seen_at old heap) =
     subst (λ o. IsSeenLater o (seen_at old heap)) (sym (ap seen_in now)) (subst (λ o. IsSeenLater (seen_in (Some (Some c.in-Err.seat))) o) (sym (ap seen_in there)) c.in-Err.ensures.refused.2) in
     let others : (k : ℕ) → (k ≡ heap → ⊥) → seen_at new k ≡ seen_at old k =
-    λ k other. ap seen_in (set_other mid.seats.items heap k (Some c.in-Err.seat) other ∙ set_other old.seats.items heap k c.take.new.self other) in
+    λ k other. ap seen_in (slice_get-set_other mid.seats.items heap k (Some c.in-Err.seat) other ∙ slice_get-set_other old.seats.items heap k c.take.new.self other) in
     (seat_back site mid new heap c.index.result.now c.in-Err.seat c.requires.heap here refl refl refl fits but, stopped old new heap (λ k. refl) refl later others)

@@ -3,8 +3,9 @@ use Rattle.std.proofs.lemmas.List.{length-set}
 use Rattle.std.proofs.lemmas.Option.{slice_get_read}
 use Rattle.std.specs.Prelude.{IfSome, None, Some, length, refl, slice_get, slice_set, ℕ, ◌+◌, ◌<◌, ◌∷◌, ◌≡◌}
 use Rattle.std.specs.Vec as Vec
+use Rattle.zq_posheap.proofs.Lists.{slice_get-set_other, slice_get-set_same, there_is}
 use Rattle.zq_spread.proofs.Counted.{if_some}
-use Rattle.zq_spread.proofs.Seats.{count_back, found_at, seat_home, set_other, set_same, taken_at}
+use Rattle.zq_spread.proofs.Seats.{count_back, seat_home, taken_at}
 use Rattle.zq_spread.proofs.site.Site.finish.Goals as goal
 use Rattle.zq_spread.specs.Passes.{IsCountOf, IsPassBut, seen_in, steps_in}
 use Rattle.zq_spread.specs.Rooms.{IsOf}
@@ -15,7 +16,7 @@ use Rattle.zq_ticketlock.specs.Seats.{given, seen}
 
 pub unreachable-requires : goal.unreachable-requires
 unreachable-requires c =
-    let room = found_at c.args.self.now.rooms.items c.args.heap c.requires.heap in
+    let room = there_is c.args.self.now.rooms.items c.args.heap c.requires.heap in
     let there : slice_get c.args.pass.now.counts.items c.args.heap ≡ Some None =
     taken_at c.args.pass.now.counts.items (length c.args.self.now.rooms.items) c.args.heap c.index_mut.result.now c.take.result None c.requires.pass.1.counts c.requires.heap c.index_mut.ensures.value c.take.ensures.value c.in_default.is in
     subst (IsCountOf room.0) there (c.requires.pass.1.count c.args.heap room.0 room.1)
@@ -57,7 +58,7 @@ pub returns-clause-seen : goal.returns-clause-seen
 returns-clause-seen c =
     let within : c.args.heap < length c.args.pass.now.seats.items = subst (λ n. c.args.heap < n) (sym c.requires.pass.1.seats) c.requires.heap in
     let left = c.end-seat.ensures.seen in
-    (left.0, ap seen_in (set_same c.args.pass.now.seats.items c.args.heap (Some c.end-seat.result) within) ∙ left.1, left.2.0)
+    (left.0, ap seen_in (slice_get-set_same c.args.pass.now.seats.items c.args.heap (Some c.end-seat.result) within) ∙ left.1, left.2.0)
 
 pub returns-clause-steps : goal.returns-clause-steps
 returns-clause-steps c =
@@ -70,7 +71,7 @@ returns-clause-steps c =
     taken_at old.counts.items (length site.rooms.items) heap c.index_mut.result.now c.take.result (Some c.in-Some.count) c.requires.pass.1.counts c.requires.heap c.index_mut.ensures.value c.take.ensures.value c.in-Some.is in
     let long : length (slice_set old.counts.items heap c.take.new.self) ≡ length site.rooms.items = length-set old.counts.items heap c.take.new.self ∙ c.requires.pass.1.counts in
     let now : slice_get (slice_set (slice_set old.counts.items heap c.take.new.self) heap (Some c.end-seat.new.count)) heap ≡ Some (Some c.end-seat.new.count) =
-    set_same (slice_set old.counts.items heap c.take.new.self) heap (Some c.end-seat.new.count) (subst (λ n. heap < n) (sym long) c.requires.heap) in
+    slice_get-set_same (slice_set old.counts.items heap c.take.new.self) heap (Some c.end-seat.new.count) (subst (λ n. heap < n) (sym long) c.requires.heap) in
     let before : steps_in (slice_get old.counts.items heap) ≡ tally.steps_of c.in-Some.count = ap steps_in there in
     let after : steps_in (slice_get (slice_set (slice_set old.counts.items heap c.take.new.self) heap (Some c.end-seat.new.count)) heap) ≡ tally.steps_of c.end-seat.new.count = ap steps_in now in
     if_some (given c.args.held) (λ found is.
@@ -81,8 +82,8 @@ returns-clause-steps c =
 
 pub returns-clause-others : goal.returns-clause-others
 returns-clause-others c = λ k other. (
-  ap seen_in (set_other c.args.pass.now.seats.items c.args.heap k (Some c.end-seat.result) other),
+  ap seen_in (slice_get-set_other c.args.pass.now.seats.items c.args.heap k (Some c.end-seat.result) other),
   ap steps_in (
-      set_other (slice_set c.args.pass.now.counts.items c.args.heap c.take.new.self) c.args.heap k (Some c.end-seat.new.count) other
-      ∙ set_other c.args.pass.now.counts.items c.args.heap k c.take.new.self other),
+      slice_get-set_other (slice_set c.args.pass.now.counts.items c.args.heap c.take.new.self) c.args.heap k (Some c.end-seat.new.count) other
+      ∙ slice_get-set_other c.args.pass.now.counts.items c.args.heap k c.take.new.self other),
 )

@@ -1,7 +1,6 @@
 use Rattle.std.proofs.Common.{ap, subst, sym, ◌∙◌}
-use Rattle.std.proofs.lemmas.Option.{slice_get_read}
+use Rattle.std.proofs.lemmas.Option.{same_Some, slice_get_read}
 use Rattle.std.specs.Prelude.{IfSome, Some, length, refl, slice_get, ◌≡◌}
-use Rattle.zq_spread.proofs.Seats.{same_some}
 use Rattle.zq_spread.proofs.site.Site.let_go.Goals as goal
 use Rattle.zq_spread.specs.Kept.{Follows, follows_itself}
 use Rattle.zq_spread.specs.Rooms.{IsOf}
@@ -13,7 +12,7 @@ pub unlock-seat-requires-clause-own : goal.unlock-seat-requires-clause-own
 unlock-seat-requires-clause-own c =
     let at : slice_get c.args.self.now.rooms.items c.args.heap ≡ Some c.index.result.now =
     slice_get_read c.args.self.now.rooms.items (length c.args.self.now.rooms.items) c.args.heap c.index.result.now refl c.requires.heap c.index.ensures in
-    let one : c.requires.held.room ≡ c.index.result.now = same_some c.requires.held.room c.index.result.now (sym c.requires.held.at ∙ at) in
+    let one : c.requires.held.room ≡ c.index.result.now = same_Some c.requires.held.room c.index.result.now (sym c.requires.held.at ∙ at) in
     c.requires.held.lock ∙ ap (λ (r : Room). id_of r.lock) one
 
 pub unlock-seat-requires-clause-follows : goal.unlock-seat-requires-clause-follows
@@ -21,7 +20,7 @@ unlock-seat-requires-clause-follows c = subst (FollowsSeen Follows c.args.held.v
 
 pub seat_in-requires-clause-seat : goal.seat_in-requires-clause-seat
 seat_in-requires-clause-seat c = λ room here.
-    let one : c.requires.held.room ≡ room = same_some c.requires.held.room room (sym c.requires.held.at ∙ here) in (
+    let one : c.requires.held.room ≡ room = same_Some c.requires.held.room room (sym c.requires.held.at ∙ here) in (
       c.unlock-seat.ensures.lock ∙ c.requires.held.lock ∙ ap (λ (r : Room). id_of r.lock) one,
       subst (λ o. IfSome o (IsOf room)) (sym c.unlock-seat.ensures.seen) (subst (λ (r : Room). IsOf r c.args.held.value) one c.requires.held.of),
     )

@@ -1,7 +1,7 @@
 use Rattle.std.proofs.Common.{ap, inl, inr, subst, sym, ◌∙◌}
 use Rattle.std.proofs.lemmas.List.{length-set}
 use Rattle.std.specs.Prelude.{Some, refl, slice_get, slice_set, ◌<◌, ◌≡◌}
-use Rattle.zq_spread.proofs.Seats.{set_other, set_same}
+use Rattle.zq_posheap.proofs.Lists.{slice_get-set_other, slice_get-set_same}
 use Rattle.zq_spread.proofs.site.Site.seat_in.Goals as goal
 use Rattle.zq_spread.specs.Passes.{IsSeatOf, seen_in}
 
@@ -9,7 +9,7 @@ pub returns-clause-seats : goal.returns-clause-seats
 returns-clause-seats c =
     let seats = c.args.pass.now.seats.items in
     let heap = c.args.heap in
-    let here : slice_get (slice_set seats heap (Some c.args.seat)) heap ≡ Some (Some c.args.seat) = set_same seats heap (Some c.args.seat) (subst (λ n. heap < n) (sym c.requires.number) c.requires.heap) in
+    let here : slice_get (slice_set seats heap (Some c.args.seat)) heap ≡ Some (Some c.args.seat) = slice_get-set_same seats heap (Some c.args.seat) (subst (λ n. heap < n) (sym c.requires.number) c.requires.heap) in
     record {
       number = length-set seats heap (Some c.args.seat) ∙ c.requires.number;
       seat = λ k room is at. elim is [
@@ -21,12 +21,12 @@ returns-clause-seats c =
 
 pub returns-clause-seen : goal.returns-clause-seen
 returns-clause-seen c =
-    ap seen_in (set_same c.args.pass.now.seats.items c.args.heap (Some c.args.seat) (subst (λ n. c.args.heap < n) (sym c.requires.number) c.requires.heap))
+    ap seen_in (slice_get-set_same c.args.pass.now.seats.items c.args.heap (Some c.args.seat) (subst (λ n. c.args.heap < n) (sym c.requires.number) c.requires.heap))
 
 pub returns-clause-outside : goal.returns-clause-outside
 returns-clause-outside c = record {
   number = length-set c.args.pass.now.seats.items c.args.heap (Some c.args.seat);
-  seats = λ k other. set_other c.args.pass.now.seats.items c.args.heap k (Some c.args.seat) (λ same. other (inl (sym same)));
+  seats = λ k other. slice_get-set_other c.args.pass.now.seats.items c.args.heap k (Some c.args.seat) (λ same. other (inl (sym same)));
   counts = refl;
   stamp = refl;
 }

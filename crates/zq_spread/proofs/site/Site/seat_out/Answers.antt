@@ -1,13 +1,14 @@
 use Rattle.std.proofs.Common.{ap, inl, subst, sym}
 use Rattle.std.proofs.lemmas.List.{length-set}
 use Rattle.std.specs.Prelude.{None, Some, length, refl, slice_get, ◌≡◌}
-use Rattle.zq_spread.proofs.Seats.{found_at, set_other, taken_at}
+use Rattle.zq_posheap.proofs.Lists.{slice_get-set_other, there_is}
+use Rattle.zq_spread.proofs.Seats.{taken_at}
 use Rattle.zq_spread.proofs.site.Site.seat_out.Goals as goal
 use Rattle.zq_spread.specs.Passes.{IsSeatOf, seen_in}
 
 pub unreachable-requires : goal.unreachable-requires
 unreachable-requires c =
-    let room = found_at c.args.self.now.rooms.items c.args.heap c.requires.heap in
+    let room = there_is c.args.self.now.rooms.items c.args.heap c.requires.heap in
     let there : slice_get c.args.pass.now.seats.items c.args.heap ≡ Some None =
     taken_at c.args.pass.now.seats.items (length c.args.self.now.rooms.items) c.args.heap c.index_mut.result.now c.take.result None c.requires.seats.number c.requires.heap c.index_mut.ensures.value c.take.ensures.value c.in_default.is in
     subst (IsSeatOf room.0) there (c.requires.seats.seat c.args.heap room.0 (inl refl) room.1)
@@ -27,7 +28,7 @@ returns-clause-seen c =
 pub returns-clause-outside : goal.returns-clause-outside
 returns-clause-outside c = record {
   number = length-set c.args.pass.now.seats.items c.args.heap c.take.new.self;
-  seats = λ k other. set_other c.args.pass.now.seats.items c.args.heap k c.take.new.self (λ same. other (inl (sym same)));
+  seats = λ k other. slice_get-set_other c.args.pass.now.seats.items c.args.heap k c.take.new.self (λ same. other (inl (sym same)));
   counts = refl;
   stamp = refl;
 }

@@ -1,12 +1,13 @@
 use Rattle.std.proofs.Common.{ap, subst, sym}
 use Rattle.std.specs.Prelude.{None, Some, length, refl, slice_get, ◌≡◌}
-use Rattle.zq_spread.proofs.Seats.{found_at, seat_out, set_other, taken_at}
+use Rattle.zq_posheap.proofs.Lists.{slice_get-set_other, there_is}
+use Rattle.zq_spread.proofs.Seats.{seat_out, taken_at}
 use Rattle.zq_spread.proofs.site.Site.take_seat.Goals as goal
 use Rattle.zq_spread.specs.Passes.{IsSeatOf, seen_in}
 
 pub unreachable-requires : goal.unreachable-requires
 unreachable-requires c =
-    let room = found_at c.args.self.now.rooms.items c.args.heap c.requires.heap in
+    let room = there_is c.args.self.now.rooms.items c.args.heap c.requires.heap in
     let there : slice_get c.args.pass.now.seats.items c.args.heap ≡ Some None =
     taken_at c.args.pass.now.seats.items (length c.args.self.now.rooms.items) c.args.heap c.index_mut.result.now c.take.result None c.requires.pass.seats c.requires.heap c.index_mut.ensures.value c.take.ensures.value c.in_default.is in
     subst (IsSeatOf room.0) there (c.requires.pass.seat c.args.heap room.0 room.1)
@@ -30,5 +31,5 @@ pub returns-clause-stays : goal.returns-clause-stays
 returns-clause-stays c = record {
   stamp = refl;
   steps = λ k. refl;
-  others = λ k other. ap seen_in (set_other c.args.pass.now.seats.items c.args.heap k c.take.new.self other);
+  others = λ k other. ap seen_in (slice_get-set_other c.args.pass.now.seats.items c.args.heap k c.take.new.self other);
 }

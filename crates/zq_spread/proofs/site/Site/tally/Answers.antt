@@ -1,11 +1,11 @@
 use Rattle.std.proofs.Common.{ap, arith, length, subst, sym, ◌∙◌}
 use Rattle.std.proofs.lemmas.List.Elements.{All-cons, All-tail}
 use Rattle.std.proofs.lemmas.List.Sums.{sum_by-cons}
-use Rattle.std.proofs.lemmas.Option.{slice_get_read}
+use Rattle.std.proofs.lemmas.Option.{same_Some, slice_get_read}
 use Rattle.std.specs.Prelude.{All, IfSome, List, Some, refl, sum, ℕ, ◌+◌, ◌<◌, ◌≡◌, ◌≤◌, ◌∷◌}
 use Rattle.zq_spread.proofs.Companies.{all_back, all_same, back_but, back_but_same, follows_of, held_of, same_but_then, same_itself, same_sum, tallied_follows}
 use Rattle.zq_spread.proofs.Places.{zip_length}
-use Rattle.zq_spread.proofs.Seats.{same_some, seen_later}
+use Rattle.zq_spread.proofs.Seats.{seen_later}
 use Rattle.zq_spread.proofs.site.Site.tally.Goals as goal
 use Rattle.zq_spread.specs.Companies.{HasSeenAll, IsCountBack, IsSeenByFirst, opening_at, opening_of, steps_of_all}
 use Rattle.zq_spread.specs.Kept.{Follows, follows_further}
@@ -86,7 +86,7 @@ put_seat-requires-clause-seat g c = λ other at_other.
     let later : Follows now value = tallied_follows now value (ap (λ (v : Kept). v.book) c.value_mut.ensures.value) total in
     let fits : IsSeatOf room (Some (Some c.unlock-seat.result)) =
     (c.unlock-seat.ensures.lock ∙ c.in-Ok.ensures.lock ∙ seat.0, subst (λ o. IfSome o (IsOf room)) (sym c.unlock-seat.ensures.seen) (follows_of room now value later held.3)) in
-    subst (λ r. IsSeatOf r (Some (Some c.unlock-seat.result))) (same_some room other (sym at ∙ at_other)) fits
+    subst (λ r. IsSeatOf r (Some (Some c.unlock-seat.result))) (same_Some room other (sym at ∙ at_other)) fits
 
 pub returns-in-Ok-clause-all : goal.returns-in-Ok-clause-all
 returns-in-Ok-clause-all g c =

@@ -1,7 +1,7 @@
 use Rattle.std.proofs.Common.{ap, refl, subst, sym, ◌∙◌}
-use Rattle.std.proofs.lemmas.Option.{slice_get_read}
+use Rattle.std.proofs.lemmas.Option.{same_Some, slice_get_read}
 use Rattle.std.specs.Prelude.{IfSome, Some, length, slice_get, ℕ, ◌≡◌}
-use Rattle.zq_spread.proofs.Seats.{same_some, stopped}
+use Rattle.zq_spread.proofs.Seats.{stopped}
 use Rattle.zq_spread.proofs.site.Site.try_begin_in.Goals as goal
 use Rattle.zq_spread.specs.Passes.{IsSeenLater, seen_at}
 use Rattle.zq_spread.specs.Rooms.{IsBegun, IsOf}
@@ -20,13 +20,13 @@ try_begin-requires-clause-seen c =
 pub returns-in-Ok-clause-lock : goal.returns-in-Ok-clause-lock
 returns-in-Ok-clause-lock c = λ room at.
     let here : slice_get c.args.self.now.rooms.items c.args.heap ≡ Some c.index.result.now = slice_get_read c.args.self.now.rooms.items (length c.args.self.now.rooms.items) c.args.heap c.index.result.now refl c.requires.heap c.index.ensures in
-    let one : c.index.result.now ≡ room = same_some c.index.result.now room (sym here ∙ at) in
+    let one : c.index.result.now ≡ room = same_Some c.index.result.now room (sym here ∙ at) in
     c.in-Ok.ensures.lock ∙ ap (λ (r : Room). id_of r.lock) one
 
 pub returns-in-Ok-clause-begun : goal.returns-in-Ok-clause-begun
 returns-in-Ok-clause-begun c = λ room at.
     let here : slice_get c.args.self.now.rooms.items c.args.heap ≡ Some c.index.result.now = slice_get_read c.args.self.now.rooms.items (length c.args.self.now.rooms.items) c.args.heap c.index.result.now refl c.requires.heap c.index.ensures in
-    let one : c.index.result.now ≡ room = same_some c.index.result.now room (sym here ∙ at) in
+    let one : c.index.result.now ≡ room = same_Some c.index.result.now room (sym here ∙ at) in
     let old : Pass = c.args.pass.now in
     subst (λ r. IfSome (given c.in-Ok.begun.0) (IsBegun r (seen_at old c.args.heap) old.stamp c.in-Ok.begun.1 (value_of c.in-Ok.begun.0))) one
     (subst (λ o. IfSome (given c.in-Ok.begun.0) (IsBegun c.index.result.now o old.stamp c.in-Ok.begun.1 (value_of c.in-Ok.begun.0))) c.take_seat-seat.ensures.seen
@@ -35,7 +35,7 @@ returns-in-Ok-clause-begun c = λ room at.
 pub put_seat-requires-clause-seat : goal.put_seat-requires-clause-seat
 put_seat-requires-clause-seat c = λ room at.
     let here : slice_get c.args.self.now.rooms.items c.args.heap ≡ Some c.index.result.now = slice_get_read c.args.self.now.rooms.items (length c.args.self.now.rooms.items) c.args.heap c.index.result.now refl c.requires.heap c.index.ensures in
-    let one : c.index.result.now ≡ room = same_some c.index.result.now room (sym here ∙ at) in
+    let one : c.index.result.now ≡ room = same_Some c.index.result.now room (sym here ∙ at) in
     (c.in-Err.ensures.refused.0 ∙ ap (λ (r : Room). id_of r.lock) one, subst (λ (r : Room). IfSome (seen c.in-Err.seat) (IsOf r)) one c.in-Err.ensures.refused.1)
 
 pub returns-in-Err-clause-refused : goal.returns-in-Err-clause-refused

@@ -1,9 +1,8 @@
 use Rattle.std.proofs.Common.{ap, subst, sym, ◌∙◌}
-use Rattle.std.proofs.lemmas.Option.{slice_get_read}
+use Rattle.std.proofs.lemmas.Option.{same_Some, slice_get_read}
 use Rattle.std.specs.Prelude.{IfSome, Some, length, refl, slice_get, ◌≡◌}
 use Rattle.zq_spread.proofs.Counted.{of_seen}
 use Rattle.zq_spread.proofs.ManyHeaps.{back_one, changed_back}
-use Rattle.zq_spread.proofs.Seats.{same_some}
 use Rattle.zq_spread.proofs.site.Site.try_lock_in.Goals as goal
 use Rattle.zq_spread.specs.Kept.{Follows}
 use Rattle.zq_spread.specs.Rooms.{IsOf}
@@ -38,7 +37,7 @@ pub seat_in-requires-clause-seat : goal.seat_in-requires-clause-seat
 seat_in-requires-clause-seat c = λ room here.
     let at : slice_get c.args.self.now.rooms.items c.args.heap ≡ Some c.index.result.now =
     slice_get_read c.args.self.now.rooms.items (length c.args.self.now.rooms.items) c.args.heap c.index.result.now refl c.requires.heap c.index.ensures in
-    let one : c.index.result.now ≡ room = same_some c.index.result.now room (sym at ∙ here) in
+    let one : c.index.result.now ≡ room = same_Some c.index.result.now room (sym at ∙ here) in
     let fits = c.seat_out-seat.ensures.seat c.index.result.now at in
     let seen_is = subst (λ o. IfSome o (IsOf c.index.result.now)) (sym c.in-Err.ensures.refused.1) fits.1 in
     (c.in-Err.ensures.refused.0 ∙ fits.0 ∙ ap (λ (r : Room). id_of r.lock) one, subst (λ (r : Room). IfSome (seen c.in-Err.seat) (IsOf r)) one seen_is)

@@ -1,10 +1,11 @@
 use Rattle.std.proofs.Common.{Err, List, Ok, Result, Some, [], ap, inl, inr, length, refl, set, subst, sym, ℕ, ◌++◌, ◌∙◌, ◌∷◌, ◌≡◌}
 use Rattle.std.proofs.lemmas.List.{set-get_or}
 use Rattle.std.proofs.lemmas.Option.{slice_get_read}
+use Rattle.std.proofs.lemmas.Result.{on_err_weaker, on_ok_weaker}
 use Rattle.std.specs.Prelude.{slice_get}
-use Rattle.std.specs.Result.{OnErr, OnOk}
+use Rattle.std.specs.Result.{OnErr}
 use Rattle.zq_commands.proofs.BookMoves.{set_dated, set_lending, set_lent_after, why_worn, worn_why}
-use Rattle.zq_commands.proofs.OnOk.{on_both, on_ok}
+use Rattle.zq_commands.proofs.OnOk.{both_ok, on_both}
 use Rattle.zq_commands.specs.Lending.{IsDated, IsLending, Lending}
 use Rattle.zq_commands.specs.VecBooks.{heaps_in, lending_of}
 use Rattle.zq_dots.specs.Act.{act_of}
@@ -32,17 +33,9 @@ move_in c = record { key = c.args.key.now; member = c.args.member.now; act = act
 same_set : (c : After-index_mut) → set c.args.self.now.books.items c.args.place c.index_mut.result.now ≡ c.args.self.now.books.items
 same_set c = ap (set c.args.self.now.books.items c.args.place) c.index_mut.ensures.value ∙ set-get_or c.args.self.now.books.items c.args.place c.index_mut.result.now
 
-both_ok : (P Q : Type 0) {T E : Type 0} (r : Result T E) → OnOk r P → OnOk r Q → OnOk r (P × Q)
-both_ok P Q (Ok x) p q = (p, q)
-both_ok P Q (Err e) p q = tt
-
 both_err : (P Q : Type 0) {T E : Type 0} (r : Result T E) → OnErr r P → OnErr r Q → OnErr r (P × Q)
 both_err P Q (Ok x) p q = tt
 both_err P Q (Err e) p q = (p, q)
-
-on_err : {T E : Type 0} {P Q : Type 0} (r : Result T E) → (P → Q) → OnErr r P → OnErr r Q
-on_err (Ok x) f p = tt
-on_err (Err e) f p = f p
 
 -- one operation more of as many heaps
 among_next : (K : ℕ) (made : List Placed) (p : Placed) → AreAmong K made → p.heaps ≡ K → AreAmong K (made ++ p ∷ [])
@@ -66,7 +59,7 @@ returns-clause-made c =
     let is = stands d in
     let new = c.make_in.new.book in
     let later = c.make_in.new.made.items in
-    on_ok c.make_in.result
+    on_ok_weaker c.make_in.result
     (λ (both : (new ≡ made_in c.args.site c.args.stamp (move_in d) old) × (later ≡ made ++ told_in c.args.site (move_in d) old ∷ [])).
     (λ i. lending_told (set books place (both.0 i)) (both.1 i))
     ∙ told_after_move c.args.site c.args.stamp (move_in d) books made place old (bare_lending books made c.requires.lent) is (c.requires.home old is))
@@ -133,7 +126,7 @@ returns-clause-refused c =
     let place = c.args.place in
     let new = c.make_in.new.book in
     let later = c.make_in.new.made.items in
-    on_err c.make_in.result
+    on_err_weaker c.make_in.result
     (λ (both : (new ≡ c.index_mut.result.now) × (later ≡ made)).
     (λ i. lending_told (set books place (both.0 i)) (both.1 i)) ∙ ap (λ (xs : List Book). lending_told xs made) (same_set d))
     (both_err _ _ c.make_in.result c.make_in.ensures.refused c.make_in.ensures.unlisted)
