@@ -1,2 +1,2 @@
-mod Narrow
+pub mod Narrow
 mod Lifted

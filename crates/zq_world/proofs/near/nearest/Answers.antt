@@ -25,11 +25,11 @@ both_first c low high near at_low at_high at_near =
     let greatest = c.max.ensures ∙ ap (λ n. max (first_drawn n c.args.w1) (second_drawn n c.args.w1 c.args.w2)) long in
     c.lesser-near.ensures.first low high near (ap (slice_get books) least ∙ at_low) (ap (slice_get books) greatest ∙ at_high) at_near ∙ sym (c.heading.ensures.first (rule_in books) c.args.key.now low (high ∷ []))
 
--- there is one where the nearer book's top is there
-there_is : (c : After-top) (low high near : Book) → slice_get c.args.books.now.items (min (first_drawn (length c.args.books.now.items) c.args.w1) (second_drawn (length c.args.books.now.items) c.args.w1 c.args.w2)) ≡ Some low →
+-- both have a first pair where the nearer book's top is there
+has_first : (c : After-top) (low high near : Book) → slice_get c.args.books.now.items (min (first_drawn (length c.args.books.now.items) c.args.w1) (second_drawn (length c.args.books.now.items) c.args.w1 c.args.w2)) ≡ Some low →
     slice_get c.args.books.now.items (max (first_drawn (length c.args.books.now.items) c.args.w1) (second_drawn (length c.args.books.now.items) c.args.w1 c.args.w2)) ≡ Some high →
     slice_get c.args.books.now.items c.lesser-near.result ≡ Some near → is_there (queues_of (rule_in c.args.books.now.items) (low ∷ high ∷ []) c.args.key.now) ≡ is_some c.top.result
-there_is c low high near at_low at_high at_near =
+has_first c low high near at_low at_high at_near =
     let q = queues_of (rule_in c.args.books.now.items) (low ∷ high ∷ []) c.args.key.now in
     sym (first_there q) ∙ ap is_some (sym (both_first c low high near at_low at_high at_near) ∙ sym (c.top.ensures near at_near)) ∙ is_some-map lent_pair c.top.result
 
@@ -41,7 +41,7 @@ returns-then-is_some-clause-first c = λ low high near at_low at_high at_near.
     let both = queues_of (rule_in books) (low ∷ high ∷ []) key in
     let some : is_some c.top.result ≡ true = search rules in
     both_first d low high near at_low at_high at_near
-    ∙ ap (λ (q : Queue). slice_get q 0) (sym (cond-true (is_there both) both (queues_of (rule_in books) books key) (there_is d low high near at_low at_high at_near ∙ some)))
+    ∙ ap (λ (q : Queue). slice_get q 0) (sym (cond-true (is_there both) both (queues_of (rule_in books) books key) (has_first d low high near at_low at_high at_near ∙ some)))
 
 pub returns-else-is_some-clause-first : goal.returns-else-is_some-clause-first
 returns-else-is_some-clause-first c = λ low high near at_low at_high at_near.
@@ -52,4 +52,4 @@ returns-else-is_some-clause-first c = λ low high near at_low at_high at_near.
     let none : is_some c.top.result ≡ false = search rules in
     let its = there_is books c.lesser-near.result c.lesser-near.ensures.inside in
     c.least_of.ensures.first near at_near
-    ∙ ap (λ (q : Queue). slice_get q 0) (sym (cond-false (is_there both) both (queues_of (rule_in books) books key) (there_is d low high its.0 at_low at_high its.1 ∙ none)))
+    ∙ ap (λ (q : Queue). slice_get q 0) (sym (cond-false (is_there both) both (queues_of (rule_in books) books key) (has_first d low high its.0 at_low at_high its.1 ∙ none)))
