@@ -255,16 +255,16 @@ fn an_index_stays_until_a_merge(rt: HostRuntime) -> Result<(), Fail> {
     let alloc = rt.alloc();
     let mut side = with_cases(alloc, usize::MAX)?;
     side.queue.index(alloc, CASES.len());
-    assert!(rt; side.queue.members.index.is_none());
+    assert!(rt; !side.queue.has_index());
     side.queue.index(alloc, CASES.len() - 1);
-    assert!(rt; side.queue.members.index.is_some());
+    assert!(rt; side.queue.has_index());
     drop(side.take(alloc, b'b', Act::Drop)?);
     drop(side.take(alloc, b'e', Act::Put(score(7)?))?);
-    assert!(rt; side.queue.members.index.is_some());
+    assert!(rt; side.queue.has_index());
     let merged = side
         .queue
         .merge(alloc, &side.seen, &side.queue, &side.seen)?;
-    assert!(rt; merged.members.index.is_none());
+    assert!(rt; !merged.has_index());
     Ok(())
 }
 

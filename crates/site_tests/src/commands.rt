@@ -272,9 +272,9 @@ fn ask(alloc: Global, books: &mut SiteBooks, site: u8, line: &str) -> Result<Vec
 }
 
 /// Makes an index of the key q in each book that has more than so many of its members.
-fn index_all(alloc: Global, books: &mut [Book], most: usize) {
-    for book in books.iter_mut() {
-        book.index(alloc, b"q", most);
+fn index_all(alloc: Global, books: &mut SiteBooks, most: usize) {
+    for heap in 0..2 {
+        books.index(alloc, heap, b"q", most);
     }
 }
 
@@ -310,8 +310,8 @@ fn follow(rt: &impl Abort, alloc: Global, heaps: u8, most: usize) -> Result<(), 
 {
     let mut sites = Sites::new(alloc, heaps)?;
     for step in STEPS.iter() {
-        index_all(alloc, &mut sites.a.books, most);
-        index_all(alloc, &mut sites.b.books, most);
+        index_all(alloc, &mut sites.a, most);
+        index_all(alloc, &mut sites.b, most);
         take_step(rt, alloc, heaps, &mut sites, *step)?;
     }
     Ok(())

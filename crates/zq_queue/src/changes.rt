@@ -190,4 +190,9 @@ impl Queue {
     {
         self.members.index(alloc, most);
     }
+
+    /// Whether it has an ordered index.
+    pub fn has_index(&self) -> bool {
+        self.members.has_index()
+    }
 }

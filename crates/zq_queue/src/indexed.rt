@@ -56,6 +56,11 @@ impl Indexed {
         }
     }
 
+    /// Whether there is an index.
+    pub fn has_index(&self) -> bool {
+        self.index.is_some()
+    }
+
     /// How many members there are.
     pub fn len(&self) -> usize
         ensures number { result ≡ map_len self.now.held }
