@@ -7,3 +7,4 @@ pub mod Built
 pub mod Sames
 pub mod Rowed
 pub mod Unseen
+pub mod Indexes
