@@ -1,8 +1,7 @@
 //! Frames of an independent codec, and cut ones.
-ghost use Rattle.std.specs.Prelude.{◌≤◌};
-
 mod vectors;
 
+use crate::hex::bytes_of;
 use std::alloc::{AllocError, Global};
 use std::fmt::Write;
 use std::process::Abort;
@@ -22,26 +21,6 @@ const OPS: &str = "0200000001020200000000000000000000000300000001710000000161";
 // The state that has it.
 const STATE: &str =
     "030302000001000000000000000001000000000000000100000001710000000000000001000000016101000000000000000001000000000000000300";
-
-fn nibble(digit: u8) -> u8
-    ensures { result ≤ 15 }
-{
-    match digit {
-        b'0'..=b'9' => digit - b'0',
-        b'a'..=b'f' => digit - b'a' + 10,
-        _ => 0,
-    }
-}
-
-fn bytes_of(alloc: Global, hex: &str) -> Result<Vec<u8>, AllocError> {
-    let mut bytes = Vec::new(alloc);
-    for pair in hex.as_bytes().chunks(2) {
-        if let [high, low] = pair {
-            bytes.push(nibble(*high) * 16 + nibble(*low))?;
-        }
-    }
-    Ok(bytes)
-}
 
 fn hex_of(alloc: Global, bytes: &[u8]) -> Result<String, AllocError> {
     let mut hex = String::new(alloc);

@@ -6,6 +6,8 @@ mod delta;
 #[cfg(test)]
 mod frames;
 #[cfg(test)]
+mod hex;
+#[cfg(test)]
 mod links;
 #[cfg(test)]
 mod merge;
