@@ -8,3 +8,4 @@ pub mod Sames
 pub mod Rowed
 pub mod Unseen
 pub mod Indexes
+pub mod Crossing
