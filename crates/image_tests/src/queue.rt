@@ -250,6 +250,9 @@ fn two_sides_agree_when_they_have_met(rt: HostRuntime) -> Result<(), Fail> {
     Ok(())
 }
 
+/// What the cases are without b and with e.
+const AFTER: &[(i128, u8)] = &[(-4, b'c'), (0, b'd'), (1, b'a'), (7, b'e')];
+
 #[test]
 fn an_index_stays_until_a_merge(rt: HostRuntime) -> Result<(), Fail> {
     let alloc = rt.alloc();
@@ -261,10 +264,13 @@ fn an_index_stays_until_a_merge(rt: HostRuntime) -> Result<(), Fail> {
     drop(side.take(alloc, b'b', Act::Drop)?);
     drop(side.take(alloc, b'e', Act::Put(score(7)?))?);
     assert!(rt; side.queue.has_index());
-    let merged = side
+    let mut merged = side
         .queue
         .merge(alloc, &side.seen, &side.queue, &side.seen)?;
     assert!(rt; !merged.has_index());
+    merged.index(alloc, 2);
+    assert!(rt; merged.has_index());
+    assert!(rt; shows(&merged.in_order(alloc)?, AFTER));
     Ok(())
 }
 

@@ -4,6 +4,7 @@
 ghost use Rattle.zq_model.specs.Sets.{IsHeaps};
 
 mod deep;
+mod drawn;
 
 use std::alloc::Global;
 use std::process::Abort;
