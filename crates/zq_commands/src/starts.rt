@@ -63,6 +63,9 @@ fn lead_on<'a, B: Books>(
     requires start { IsStart is_turned section.now (queues_in (B.lent books.now) key.now) start }
     ensures { IfOk result (IsStart is_turned section.now (queues_in (B.lent books.now) key.now)) }
 {
+    if section.from - start.skipped <= NEAR {
+        return Ok(start);
+    }
     let mut low = first_place(books, place, key, is_turned, section, start.pair);
     let mut high = books.count(place, key);
     for look in 0..LOOKS {
