@@ -1,6 +1,7 @@
 #!/usr/bin/env python3
-"""Bytes a member of one key that `./zqueue pipe` takes, and redis-server, where it is there: members of 15 bytes, each
-added once. What counts is the resident memory of the process with the members less that of the process before them.
+"""Bytes a member of one key that `./zqueue pipe` takes, without an index of the key and with one, and redis-server, where
+it is there: members of 15 bytes, each added once. What counts is the resident memory of the process with the members less
+that of the process before them. The index is made by one reading of a member's place after the members were added.
 
 Usage: bench/memory.py [MEMBERS ..]. The default is 100000 and 1000000.
 """
@@ -34,7 +35,7 @@ def requests(count):
 
 
 def of_zqueue(count):
-    """Bytes that the members take in `./zqueue pipe`."""
+    """Bytes that the members take in `./zqueue pipe`, without an index and with one."""
     program = ROOT / "crates" / "zqueue" / "out" / "zqueue"
     with subprocess.Popen([program, "pipe"], stdin=subprocess.PIPE, stdout=subprocess.PIPE) as process:
         def call(data, size):
@@ -48,8 +49,11 @@ def of_zqueue(count):
         for data, size in requests(count):
             call(data, size)
         after = resident(process.pid)
+        # The first member that was added has the least score.
+        call(streams.request(b"ZRANK", b"board", b"member:%08d" % 0), len(b":0\r\n"))
+        indexed = resident(process.pid)
         process.stdin.close()
-    return after - before
+    return after - before, indexed - before
 
 
 def of_redis(count, folder):
@@ -68,7 +72,8 @@ def main():
     counts = [int(word) for word in sys.argv[1:]] or [100000, 1000000]
     pipe.run_program([ROOT / "zqueue", "pipe"], b"")
     for count in counts:
-        line = f"{count} members of 15 bytes: zqueue {of_zqueue(count) / count:.0f} bytes a member"
+        plain, indexed = (taken / count for taken in of_zqueue(count))
+        line = f"{count} members of 15 bytes: zqueue {plain:.0f} bytes a member, {indexed:.0f} with an index"
         if shutil.which("redis-server"):
             with tempfile.TemporaryDirectory() as folder:
                 line += f", redis-server {of_redis(count, folder) / count:.0f}"

@@ -4,8 +4,9 @@ there, and with the yardstick in C, and prints the medians and their ratios. One
 compiler.
 
 Usage: bench/pipe.py [--seed N] [--requests N] [--members N[,N..]] [--rounds N] [KIND ..]
-The kinds are those of streams.py, each over each number of members. Numbers are of one run on one machine: only the
-ratios are worth a comparison.
+The kinds are those of streams.py, each over each number of members. A stream of readings in order is timed after a first
+reading, which makes the key's index; `making` times that one alone. Numbers are of one run on one machine: only the ratios
+are worth a comparison.
 """
 import argparse
 import pathlib

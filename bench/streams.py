@@ -4,8 +4,8 @@ import itertools
 import random
 from typing import Callable
 
-# Of kinds that may read every member, a stream has no more requests than read this many members.
-MOST_READ = 100_000_000
+# How many members a range by place asks for.
+RANGE = 10
 
 
 def request(*words):
@@ -65,7 +65,18 @@ def pops(draw, members):
 
 def firsts(draw, members):
     """The first ten members."""
-    return request(b"ZRANGE", b"board", b"0", b"9")
+    return request(b"ZRANGE", b"board", b"0", b"%d" % (RANGE - 1))
+
+
+def lasts(draw, members):
+    """The last ten members with their scores, the last one first."""
+    return request(b"ZRANGE", b"board", b"0", b"%d" % (RANGE - 1), b"REV", b"WITHSCORES")
+
+
+def depths(draw, members):
+    """Ten members one behind the other, from a drawn place on: as a rule deep in the key."""
+    place = draw.randrange(max(1, members - RANGE + 1))
+    return request(b"ZRANGE", b"board", b"%d" % place, b"%d" % (place + RANGE - 1))
 
 
 def ranks(draw, members):
@@ -103,12 +114,16 @@ def load(draw, members):
 
 @dataclasses.dataclass(frozen=True)
 class Kind:
-    """What the requests are, whether each member is there before them, whether there are as many as members, and
-    whether one of them may read every member."""
+    """What the requests are, whether each member is there before them, whether one reading in order is too, and how many
+    requests there are: as many as are asked for, as many as members, or one.
+
+    Of a key with many members the first reading in order makes an index. Where it goes before, it is not timed with the
+    others: what it takes is the time of `making`."""
     made: Callable
     is_loaded: bool = False
+    is_indexed: bool = False
     is_emptying: bool = False
-    reads_all: bool = False
+    is_single: bool = False
 
 
 KINDS = {
@@ -121,24 +136,28 @@ KINDS = {
     "increments": Kind(each(increments), is_loaded=True),
     "turns": Kind(turns, is_loaded=True),
     "pops": Kind(each(pops), is_loaded=True, is_emptying=True),
-    "firsts": Kind(each(firsts), is_loaded=True, reads_all=True),
-    "ranks": Kind(each(ranks), is_loaded=True, reads_all=True),
-    "counts": Kind(each(counts), is_loaded=True, reads_all=True),
+    "making": Kind(each(ranks), is_loaded=True, is_single=True),
+    "firsts": Kind(each(firsts), is_loaded=True, is_indexed=True),
+    "lasts": Kind(each(lasts), is_loaded=True, is_indexed=True),
+    "depths": Kind(each(depths), is_loaded=True, is_indexed=True),
+    "ranks": Kind(each(ranks), is_loaded=True, is_indexed=True),
+    "counts": Kind(each(counts), is_loaded=True, is_indexed=True),
+    "changes": Kind(each(adds), is_loaded=True, is_indexed=True),
 }
 
 
 def length(kind, requests, members):
     """How many requests a stream of a kind has over that many members, where that many are asked for."""
-    if KINDS[kind].is_emptying:
-        return members
-    if KINDS[kind].reads_all:
-        return min(requests, max(1, MOST_READ // members))
-    return requests
+    if KINDS[kind].is_single:
+        return 1
+    return members if KINDS[kind].is_emptying else requests
 
 
 def stream(kind, seed, requests, members):
     """What goes before the requests of a kind over that many members, and the requests."""
     draw = random.Random(seed)
     first = load(draw, members) if KINDS[kind].is_loaded else b""
+    if KINDS[kind].is_indexed:
+        first += ranks(draw, members)
     made = KINDS[kind].made(draw, members)
     return first, b"".join(itertools.islice(made, length(kind, requests, members)))

@@ -215,31 +215,68 @@ const CUTS: [Cut; 5] = [
     },
 ];
 
+/// A queue of more members than so many has an index: none has one, and all but the least have.
+const MOST: [usize; 2] = [usize::MAX, 2];
+
 /// A side whose queue has the cases.
-fn with_cases(alloc: Global) -> Result<Side, Fail> {
+fn with_cases(alloc: Global, most: usize) -> Result<Side, Fail> {
     let mut side = Side::new(alloc, Rule::Low, site(63)?);
     for case in &CASES {
         drop(side.take(alloc, case.member, Act::Put(score(case.score)?))?);
+        side.queue.index(alloc, most);
     }
     Ok(side)
 }
 
-#[test]
-fn two_sides_agree_when_they_have_met(rt: HostRuntime) -> Result<(), Fail> {
-    let alloc = rt.alloc();
+/// Follows the steps at two sides.
+fn follow_all(rt: &impl Abort, alloc: Global, most: usize) -> Result<(), Fail> {
     let mut sides = Sides {
         a: Side::new(alloc, Rule::High, site(0)?),
         b: Side::new(alloc, Rule::High, site(7)?),
     };
     for (nth, step) in STEPS.iter().enumerate() {
-        sides.follow(&rt, alloc, nth, step)?;
+        sides.a.queue.index(alloc, most);
+        sides.b.queue.index(alloc, most);
+        sides.follow(rt, alloc, nth, step)?;
     }
     Ok(())
 }
 
 #[test]
-fn shows_each_member(rt: HostRuntime) -> Result<(), Fail> {
-    let side = with_cases(rt.alloc())?;
+fn two_sides_agree_when_they_have_met(rt: HostRuntime) -> Result<(), Fail> {
+    for most in MOST {
+        follow_all(&rt, rt.alloc(), most)?;
+    }
+    Ok(())
+}
+
+/// What the cases are without b and with e.
+const AFTER: &[(i128, u8)] = &[(-4, b'c'), (0, b'd'), (1, b'a'), (7, b'e')];
+
+#[test]
+fn an_index_stays_until_a_merge(rt: HostRuntime) -> Result<(), Fail> {
+    let alloc = rt.alloc();
+    let mut side = with_cases(alloc, usize::MAX)?;
+    side.queue.index(alloc, CASES.len());
+    assert!(rt; !side.queue.has_index());
+    side.queue.index(alloc, CASES.len() - 1);
+    assert!(rt; side.queue.has_index());
+    drop(side.take(alloc, b'b', Act::Drop)?);
+    drop(side.take(alloc, b'e', Act::Put(score(7)?))?);
+    assert!(rt; side.queue.has_index());
+    let mut merged = side
+        .queue
+        .merge(alloc, &side.seen, &side.queue, &side.seen)?;
+    assert!(rt; !merged.has_index());
+    merged.index(alloc, 2);
+    assert!(rt; merged.has_index());
+    assert!(rt; shows(&merged.in_order(alloc)?, AFTER));
+    Ok(())
+}
+
+/// Asserts what the cases show.
+fn shows_cases(rt: &impl Abort, alloc: Global, most: usize) -> Result<(), Fail> {
+    let side = with_cases(alloc, most)?;
     assert_eq!(rt; side.queue.len(), CASES.len());
     assert!(rt; !side.queue.is_empty());
     for case in &CASES {
@@ -258,24 +295,40 @@ fn shows_each_member(rt: HostRuntime) -> Result<(), Fail> {
 }
 
 #[test]
-fn cuts_by_places(rt: HostRuntime) -> Result<(), Fail> {
-    let side = with_cases(rt.alloc())?;
+fn shows_each_member(rt: HostRuntime) -> Result<(), Fail> {
+    for most in MOST {
+        shows_cases(&rt, rt.alloc(), most)?;
+    }
+    Ok(())
+}
+
+/// Asserts what the cuts show.
+fn shows_cuts(rt: &impl Abort, alloc: Global, most: usize) -> Result<(), Fail> {
+    let side = with_cases(alloc, most)?;
     for cut in &CUTS {
-        assert!(rt; shows(&side.queue.slice(rt.alloc(), cut.from, cut.to)?, cut.pairs));
+        assert!(rt; shows(&side.queue.slice(alloc, cut.from, cut.to)?, cut.pairs));
         assert!(rt;
             shows(
-                &side.queue.slice_turned(rt.alloc(), cut.from, cut.to)?,
+                &side.queue.slice_turned(alloc, cut.from, cut.to)?,
                 cut.turned
             )
         );
     }
-    assert!(rt; shows(&side.queue.first(rt.alloc(), 1)?, &[(-4, b'c')]));
+    assert!(rt; shows(&side.queue.first(alloc, 1)?, &[(-4, b'c')]));
+    Ok(())
+}
+
+#[test]
+fn cuts_by_places(rt: HostRuntime) -> Result<(), Fail> {
+    for most in MOST {
+        shows_cuts(&rt, rt.alloc(), most)?;
+    }
     Ok(())
 }
 
 #[test]
 fn is_built_of_its_rows(rt: HostRuntime) -> Result<(), Fail> {
-    let side = with_cases(rt.alloc())?;
+    let side = with_cases(rt.alloc(), 2)?;
     let rows = side.queue.rows(rt.alloc())?;
     let mut built = Side::new(rt.alloc(), Rule::Low, site(1)?);
     built.queue.reserve(rows.len())?;

@@ -3,6 +3,9 @@
 
 ghost use Rattle.zq_model.specs.Sets.{IsHeaps};
 
+mod deep;
+mod drawn;
+
 use std::alloc::Global;
 use std::process::Abort;
 use std::test::Fail;
@@ -269,6 +272,13 @@ fn ask(alloc: Global, books: &mut SiteBooks, site: u8, line: &str) -> Result<Vec
     Ok(bytes)
 }
 
+/// Makes an index of the key q in each book that has more than so many of its members.
+fn index_all(alloc: Global, books: &mut SiteBooks, most: usize) {
+    for heap in 0..2 {
+        books.index(alloc, heap, b"q", most);
+    }
+}
+
 /// Does a step.
 fn take_step(
     rt: &impl Abort,
@@ -295,11 +305,14 @@ fn take_step(
     Ok(())
 }
 
-fn follow(rt: &impl Abort, alloc: Global, heaps: u8) -> Result<(), Fail>
+/// Does all steps, with an index of the key q in each book that has more than so many of its members.
+fn follow(rt: &impl Abort, alloc: Global, heaps: u8, most: usize) -> Result<(), Fail>
     requires { IsHeaps heaps }
 {
     let mut sites = Sites::new(alloc, heaps)?;
     for step in STEPS.iter() {
+        index_all(alloc, &mut sites.a, most);
+        index_all(alloc, &mut sites.b, most);
         take_step(rt, alloc, heaps, &mut sites, *step)?;
     }
     Ok(())
@@ -307,10 +320,12 @@ fn follow(rt: &impl Abort, alloc: Global, heaps: u8) -> Result<(), Fail>
 
 #[test]
 fn over_one_heap(rt: HostRuntime) -> Result<(), Fail> {
-    follow(&rt, rt.alloc(), 1)
+    follow(&rt, rt.alloc(), 1, usize::MAX)?;
+    follow(&rt, rt.alloc(), 1, 2)
 }
 
 #[test]
 fn over_two_heaps(rt: HostRuntime) -> Result<(), Fail> {
-    follow(&rt, rt.alloc(), 2)
+    follow(&rt, rt.alloc(), 2, usize::MAX)?;
+    follow(&rt, rt.alloc(), 2, 2)
 }

@@ -18,4 +18,5 @@ pub mod SitePlaces
 pub mod SiteRuns
 pub mod BookMoves
 pub mod ScoreBounds
+pub mod ReadFrom
 pub mod Begun

@@ -16,7 +16,7 @@ abbrev one : (Scored → Bool) → Scored → ℕ
 one p z = cond (p z) 1 0
 
 -- what passes the first test and not the second
-abbrev but : (Scored → Bool) → (Scored → Bool) → Scored → Bool
+abbrev pub but : (Scored → Bool) → (Scored → Bool) → Scored → Bool
 but p u z = p z && not (u z)
 
 one_but : (p u : Bool) → (u ≡ true → p ≡ true) → ◌≡◌ {A = ℕ} (cond (p && not u) 1 0 + cond u 1 0) (cond p 1 0)
@@ -32,7 +32,7 @@ none_but false true within = (refl, omega arith)
 none_but false false within = (refl, omega arith)
 
 -- where each that passes the second passes the first
-count_but : (p u : Scored → Bool) (q : List Scored) → ((z : Scored) → u z ≡ true → p z ≡ true) → count_by (but p u) q + count_by u q ≡ count_by p q
+pub count_but : (p u : Scored → Bool) (q : List Scored) → ((z : Scored) → u z ≡ true → p z ≡ true) → count_by (but p u) q + count_by u q ≡ count_by p q
 count_but p u [] within = refl
 count_but p u (z ∷ q) within =
     let rest = count_but p u q within in
@@ -43,7 +43,7 @@ count_but p u (z ∷ q) within =
     omega (arith, rest, first, both, less, all)
 
 -- where each that passes the first passes the second
-count_none : (p u : Scored → Bool) (q : List Scored) → ((z : Scored) → p z ≡ true → u z ≡ true) → (count_by (but p u) q ≡ 0) × (count_by p q ≤ count_by u q)
+pub count_none : (p u : Scored → Bool) (q : List Scored) → ((z : Scored) → p z ≡ true → u z ≡ true) → (count_by (but p u) q ≡ 0) × (count_by p q ≤ count_by u q)
 count_none p u [] within = (refl, omega arith)
 count_none p u (z ∷ q) within =
     let rest = count_none p u q within in
@@ -123,7 +123,7 @@ swap false false = refl
 within_but : (min max : Bound) (pair : Scored) → is_within min max pair ≡ but (below_limit max.is_out max.limit) (below_limit (not min.is_out) min.limit) pair
 within_but min max pair = ap (λ a. a && is_below max pair.0) (above_is min.is_out min.limit pair.0) ∙ swap (not (is_below_limit (not min.is_out) min.limit pair.0)) (is_below max pair.0)
 
-count_same : (p u : Scored → Bool) (q : List Scored) → ((z : Scored) → p z ≡ u z) → count_by p q ≡ count_by u q
+pub count_same : (p u : Scored → Bool) (q : List Scored) → ((z : Scored) → p z ≡ u z) → count_by p q ≡ count_by u q
 count_same p u [] same = refl
 count_same p u (z ∷ q) same =
     let rest = count_same p u q same in

@@ -9,12 +9,12 @@ use Rattle.std.proofs.lemmas.List.{length-reverse}
 use Rattle.std.specs.Cmp.{int_ranks}
 use Rattle.std.specs.Cmp.Lexicographic.{slice_cmp}
 use Rattle.std.specs.Ordering.{MatchOrdering, int_cmp, is_lt, nat_cmp, ordering_then}
-use Rattle.std.specs.Prelude.{count_by, filter, slice_range}
-use Rattle.zq_commands.proofs.Woven.{AreInOrder, turned_order}
+use Rattle.std.specs.Prelude.{count_by, filter}
+use Rattle.zq_commands.proofs.Woven.{AreInOrder}
 use Rattle.zq_commands.specs.Sections.{is_entered}
 use Rattle.zq_commands.specs.Weaving.{goes_before}
 use Rattle.zq_model.proofs.Membership.{in_taken}
-use Rattle.zq_model.specs.Meaning.{IsRising, Scored}
+use Rattle.zq_model.specs.Meaning.{Scored}
 use Rattle.zq_model.specs.Sets.{IsIn}
 use Rattle.zq_moves.specs.Moves.{Queue}
 use Rattle.zq_moves.specs.Readings.{is_before}
@@ -59,13 +59,13 @@ none_pass : (p : Scored → Bool) (q : Queue) → ((y : Scored) → IsIn y q →
 none_pass p [] none = refl
 none_pass p (x ∷ q) none = cond-false (p x) (x ∷ filter p q) (filter p q) (none x (inl refl)) ∙ none_pass p q (λ y here. none y (inr here))
 
-abbrev number_of : Bool → ℕ
+abbrev pub number_of : Bool → ℕ
 number_of b = cond b 1 0
 
-abbrev ones : (Scored → Bool) → Scored → ℕ
+abbrev pub ones : (Scored → Bool) → Scored → ℕ
 ones p x = number_of (p x)
 
-count_none : (p : Scored → Bool) (q : Queue) → ((y : Scored) → IsIn y q → p y ≡ false) → count_by p q ≡ 0
+pub count_none : (p : Scored → Bool) (q : Queue) → ((y : Scored) → IsIn y q → p y ≡ false) → count_by p q ≡ 0
 count_none p [] none = refl
 count_none p (x ∷ q) none =
     let first = sum_by-cons (ones p) x q in
@@ -96,7 +96,7 @@ pub count_turned : (t : Bool) (p : Scored → Bool) (q : Queue) → count_by p (
 count_turned false p q = refl
 count_turned true p q = count_reverse p q
 
-filter_then : (f g : Scored → Bool) (q : Queue) → filter (λ x. f x && g x) q ≡ filter f (filter g q)
+pub filter_then : (f g : Scored → Bool) (q : Queue) → filter (λ x. f x && g x) q ≡ filter f (filter g q)
 filter_then f g [] = refl
 filter_then f g (x ∷ q) =
     let rest = filter_then f g q in
@@ -163,7 +163,7 @@ module _ (t : Bool) (p : Scored → Bool) where
       ] refl
 
 -- where both hold
-both_hold : (t : Bool) (near far : Scored → Bool) (q : Queue) → ((x y : Scored) → goes_before t x y ≡ true → near x ≡ true → near y ≡ true) →
+pub both_hold : (t : Bool) (near far : Scored → Bool) (q : Queue) → ((x y : Scored) → goes_before t x y ≡ true → near x ≡ true → near y ≡ true) →
     ((x y : Scored) → goes_before t x y ≡ true → far y ≡ true → far x ≡ true) → AreInOrder t q →
     filter near (filter far q) ≡ drop (count_by (λ x. not (near x)) q) (take (length q - count_by (λ x. not (far x)) q) q)
 both_hold t near far q up down order =
@@ -193,20 +193,20 @@ below_on is_out Highest a b low e = refl
 below_on true (At s) a b low e = grind (arith, ints)
 below_on false (At s) a b low e = grind (arith, ints)
 
-entered_on : (t : Bool) (min max : Bound) (x y : Scored) → goes_before t x y ≡ true → is_entered t min max x ≡ true → is_entered t min max y ≡ true
+pub entered_on : (t : Bool) (min max : Bound) (x y : Scored) → goes_before t x y ≡ true → is_entered t min max x ≡ true → is_entered t min max y ≡ true
 entered_on false min max x y before e = above_on min.is_out min.limit x.0 y.0 (score_low x y before) e
 entered_on true min max x y before e = below_on max.is_out max.limit x.0 y.0 (score_low y x before) e
 
-left_on : (t : Bool) (min max : Bound) (x y : Scored) → goes_before t x y ≡ true → is_entered (not t) min max y ≡ true → is_entered (not t) min max x ≡ true
+pub left_on : (t : Bool) (min max : Bound) (x y : Scored) → goes_before t x y ≡ true → is_entered (not t) min max y ≡ true → is_entered (not t) min max x ≡ true
 left_on false min max x y before e = entered_on true min max y x before e
 left_on true min max x y before e = entered_on false min max y x before e
 
 -- ---- the pairs within
 
-abbrev is_ahead : Bool → Bound → Bound → Scored → Bool
+abbrev pub is_ahead : Bool → Bound → Bound → Scored → Bool
 is_ahead t min max = λ pair. not (is_entered t min max pair)
 
-within_both : (t : Bool) (min max : Bound) (q : Queue) → filter (is_within min max) q ≡ filter (is_entered t min max) (filter (is_entered (not t) min max) q)
+pub within_both : (t : Bool) (min max : Bound) (q : Queue) → filter (is_within min max) q ≡ filter (is_entered t min max) (filter (is_entered (not t) min max) q)
 within_both false min max q = filter_then (λ pair. is_above min pair.0) (λ pair. is_below max pair.0) q
 within_both true min max q = filter_after (λ pair. is_above min pair.0) (λ pair. is_below max pair.0) q
 
@@ -215,27 +215,6 @@ length_turned false q = refl
 length_turned true q = length-reverse q
 
 module _ (t : Bool) (low high : Bound) (q : Queue) where
-  run_is : IsRising q → filter (is_within low high) (turned_if t q) ≡ drop (count_by (is_ahead t low high) q) (take (length q - count_by (is_ahead (not t) low high) q) (turned_if t q))
-  run_is rising =
-      let r = turned_if t q in
-      within_both t low high r
-      ∙ both_hold t (is_entered t low high) (is_entered (not t) low high) r (entered_on t low high) (left_on t low high) (turned_order t q rising)
-      ∙ ap (λ n. drop n (take (length r - count_by (is_ahead (not t) low high) r) r)) (count_turned t (is_ahead t low high) q)
-      ∙ ap (λ n. drop (count_by (is_ahead t low high) q) (take (length r - n) r)) (count_turned t (is_ahead (not t) low high) q)
-      ∙ ap (λ n. drop (count_by (is_ahead t low high) q) (take (n - count_by (is_ahead (not t) low high) q) r)) (length_turned t q)
-
-  -- the first so many of the pairs within, by the numbers of those ahead and behind
-  pub run_taken : (from behind size m to most : ℕ) → IsRising q → from ≡ count_by (is_ahead t low high) q → behind ≡ count_by (is_ahead (not t) low high) q → size ≡ length q →
-      to ≡ from + m → m ≡ min (size - behind - from) most →
-      slice_range (turned_if t q) from to ≡ take most (filter (is_within low high) (turned_if t q))
-  run_taken from behind size m to most rising ahead back all end least =
-      let r = turned_if t q in
-      let until : length q - count_by (is_ahead (not t) low high) q ≡ size - behind = omega (arith, all, back) in
-      let whole : filter (is_within low high) r ≡ take (size - behind - from) (drop from r) =
-      run_is rising ∙ ap (λ n. drop n (take (length q - count_by (is_ahead (not t) low high) q) r)) (sym ahead) ∙ ap (λ n. drop from (take n r)) until ∙ drop_taken from (size - behind) r in
-      let wide : to - from ≡ m = omega (arith, end) in
-      ap (λ n. take n (drop from r)) wide ∙ sym (take_taken most (size - behind - from) m (drop from r) least) ∙ ap (take most) (sym whole)
-
   -- no pair is ahead of a bound that is none
   pub none_ahead : ((pair : Scored) → is_entered t low high pair ≡ true) → 0 ≡ count_by (is_ahead t low high) q
   none_ahead all = sym (count_none (is_ahead t low high) q (λ y here. ap not (all y)))

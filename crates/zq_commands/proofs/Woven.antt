@@ -19,7 +19,7 @@ use Rattle.zq_plans.specs.Ranges.{turned_if}
 
 -- ---- the order
 
-before_trans : (t : Bool) (x y z : Scored) → goes_before t x y ≡ true → goes_before t y z ≡ true → goes_before t x z ≡ true
+pub before_trans : (t : Bool) (x y z : Scored) → goes_before t x y ≡ true → goes_before t y z ≡ true → goes_before t x z ≡ true
 before_trans false x y z a b = ap is_lt (scored_total.trans x y z (less_from (scored_cmp x y) a) (less_from (scored_cmp y z) b))
 before_trans true x y z a b = ap is_lt (scored_total.trans z y x (less_from (scored_cmp z y) b) (less_from (scored_cmp y x) a))
 
@@ -36,7 +36,7 @@ later_first x y unlike away =
       | Greater ↦ λ e f. ap is_lt (scored_total.antisymm y x ∙ ap ordering_reverse e)
     ] refl away
 
-other_first : (t : Bool) (x y : Scored) → (x ≡ y → ⊥) → goes_before t x y ≡ false → goes_before t y x ≡ true
+pub other_first : (t : Bool) (x y : Scored) → (x ≡ y → ⊥) → goes_before t x y ≡ false → goes_before t y x ≡ true
 other_first false x y unlike away = later_first x y unlike away
 other_first true x y unlike away = later_first y x (λ e. unlike (sym e)) away
 

@@ -8,6 +8,7 @@ pub mod Arrays
 pub mod Clearing
 pub mod Weaving
 pub mod Sections
+pub mod Starts
 pub mod Commands
 pub mod VecBooks
 pub mod RecordedBooks

@@ -96,6 +96,14 @@ pub trait Books {
         ensures { (book : Book) → slice_get (lent self.now).books place ≡ Some book → IfOk result (λ pairs.
             map lent_pair pairs.items ≡ slice_range (turned_if is_turned (queues_of (lent self.now).rule (book ∷ []) key.now)) from to) };
 
+    /// Makes an ordered index of a key's members in the book at a place, where it has none and readings in order would
+    /// look at many members. The books stay as they are. Where memory is refused there is none.
+    fn index(&mut self, alloc: Global, place: usize, key: &[u8])
+        requires lent { IsLending (lent self.old) }
+        requires inside { place < length (lent self.old).books }
+        ensures same { lent self.new ≡ lent self.old }
+        ensures keeps { keeps self.old self.new };
+
     /// Makes a site's next operation of an act in the book at a place, which is that of the member's heap.
     fn make(
         &mut self,

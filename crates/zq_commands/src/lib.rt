@@ -1,12 +1,14 @@
 //! What commands do to the books that are lent to them, and what they answer.
 #![tactic(auto)]
 
+mod ahead;
 mod beginning;
 mod books;
 mod cleared;
 mod clearing;
 mod cut;
 mod dropping;
+mod indexing;
 mod lets;
 mod made;
 mod making;
@@ -25,6 +27,7 @@ mod running;
 mod scores;
 mod section;
 mod site_books;
+mod starts;
 mod tops;
 mod totals;
 mod vec_books;
@@ -32,6 +35,7 @@ mod vec_books;
 pub use books::Books;
 pub use clearing::clear_keys;
 pub use cut::Cut;
+pub use indexing::MOST_SCANNED;
 pub use one_book::{count_between, make_in};
 pub use popping::pop;
 pub use putting::put_pairs;

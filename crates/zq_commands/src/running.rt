@@ -13,6 +13,7 @@ ghost use Rattle.zq_words.specs.Shown.{shown};
 
 use crate::books::Books;
 use crate::clearing::clear_keys;
+use crate::indexing::foresee;
 use crate::popping::pop;
 use crate::putting::put_pairs;
 use crate::raising::{raise, raise_if};
@@ -71,7 +72,9 @@ pub fn run_told<B: Books>(
     ensures keeps { B.keeps books.old books.new }
     ensures writable { IsTrue (is_writable result.reply) }
 {
-    run_kind(books, alloc, site, stamp, command.kind())
+    let kind = command.kind();
+    foresee(books, alloc, kind);
+    run_kind(books, alloc, site, stamp, kind)
 }
 
 /// The same of what a command asks for.

@@ -73,6 +73,16 @@ impl SiteBooks {
         &self.books
     }
 
+    /// Makes an ordered index of a key in the book of a heap, as the book does.
+    pub fn index(&mut self, alloc: Global, heap: u8, key: &[u8], most: usize)
+        ensures { self.new ≡ self.old }
+    {
+        let place = heap as usize;
+        if place < self.books.len() {
+            self.books[place].index(alloc, key, most);
+        }
+    }
+
     /// The greatest of the books' stamps.
     pub fn stamp(&self) -> u64
         ensures dated { IsDated result (lending_of self.now) }

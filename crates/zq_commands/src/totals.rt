@@ -1,11 +1,15 @@
 //! Counts over the books, each book's added to those before.
 
-ghost use Rattle.std.specs.Prelude.{IfSome, count_by, length, ◌+◌, ◌<◌, ◌^◌, ◌≡◌};
+ghost use Rattle.std.specs.Prelude.{IfSome, count_by, length, option_map, ◌+◌, ◌<◌, ◌^◌, ◌≡◌};
+ghost use Rattle.zq_commands.specs.FirstPairs.{lent_pair};
 ghost use Rattle.zq_commands.specs.Lending.{IsLending, queues_in};
+ghost use Rattle.zq_commands.specs.Starts.{is_left};
 ghost use Rattle.zq_moves.specs.Readings.{is_before};
 ghost use Rattle.zq_plans.specs.Ranges.{is_within};
 
+use crate::ahead::count_left;
 use crate::books::Books;
+use crate::section::Section;
 use zq_words::Bound;
 
 /// The number of members of a key, and `None` where an `i64` does not hold it.
@@ -43,6 +47,27 @@ pub fn total_after<B: Books>(books: &B, key: &[u8], score: &i128, member: &[u8])
     let mut total = 0;
     for place in 0..books.len() {
         total = add_count(total, books.count_after(place, key, score, member))?;
+    }
+    Some(total)
+}
+
+/// The number of pairs of a key that a section leaves out which starts at this pair, and `None` where an `i64` does not
+/// hold it.
+pub fn total_left<B: Books>(
+    books: &B,
+    key: &[u8],
+    is_turned: bool,
+    section: &Section,
+    first: Option<(i128, &[u8])>,
+) -> Option<u64>
+    requires { IsLending (B.lent books.now) }
+    ensures total { IfSome result (λ total. total ≡ count_by (is_left is_turned (option_map lent_pair first.entry) section.now.min section.now.max) (queues_in (B.lent books.now) key.now)) }
+    ensures small { IfSome result (λ total. total < 2 ^ 63) }
+{
+    let mut total = 0;
+    for place in 0..books.len() {
+        let left = count_left(books, place, key, is_turned, section, first);
+        total = add_count(total, left)?;
     }
     Some(total)
 }

@@ -9,6 +9,7 @@ ghost use Rattle.zq_model.specs.Sets.{IsIn};
 
 use crate::books::Books;
 use crate::cut::Cut;
+use crate::indexing::MOST_SCANNED;
 use crate::one_book::{count_between, make_in};
 use std::alloc::{AllocError, Global};
 use zq_dots::{Act, SiteNo, heap_of};
@@ -73,6 +74,10 @@ impl Books for Vec<Book> {
         } else {
             shard.slice(alloc, key, from, to)
         }
+    }
+
+    fn index(&mut self, alloc: Global, place: usize, key: &[u8]) {
+        self[place].index(alloc, key, MOST_SCANNED);
     }
 
     fn make(

@@ -6,3 +6,4 @@ pub mod SumWalks
 pub mod Callers
 pub mod EntryLemmas
 pub mod EntryWalks
+pub mod Crossing

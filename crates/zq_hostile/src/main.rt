@@ -16,6 +16,7 @@ mod devices;
 mod ended;
 mod feeding;
 mod hearing;
+mod indexes;
 mod links;
 mod making;
 mod merging;
@@ -115,6 +116,7 @@ fn case<R: Threads + Wait + Sync>(rt: &R, alloc: Global, name: &str) -> Option<E
         "cuts" => devices::devices(rt, alloc, Trial::Cuts),
         "reads" => devices::devices(rt, alloc, Trial::Reads),
         "writes" => devices::devices(rt, alloc, Trial::Writes),
+        "index" => indexes::index(rt, alloc),
         "worn" => worn::worn(rt, alloc),
         "careless" => careless::careless(alloc),
         _ => command_named(rt, alloc, name),

@@ -9,3 +9,4 @@ pub mod Replaying
 pub mod Lacking
 pub mod Undone
 pub mod MadeHere
+pub mod Crossing

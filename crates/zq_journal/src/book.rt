@@ -130,6 +130,13 @@ impl Book {
         Ok(Some(op))
     }
 
+    /// Makes an ordered index of a key's members, as its heap does.
+    pub fn index(&mut self, alloc: Global, key: &[u8], most: usize)
+        ensures { self.new ≡ self.old }
+    {
+        self.shard.index(alloc, key, most);
+    }
+
     /// Raises its stamp.
     pub fn touch(&mut self, stamp: u64)
         requires stamp { self.old.stamp ≤ stamp }

@@ -7,3 +7,4 @@ pub mod Told
 pub mod Haves
 pub mod Opened
 pub mod Workers
+pub mod Crossing

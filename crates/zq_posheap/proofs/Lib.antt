@@ -22,3 +22,4 @@ pub mod Listings
 pub mod Listed
 pub mod Firsts
 pub mod Slices
+pub mod Crossing

@@ -7,3 +7,5 @@ pub mod Built
 pub mod Sames
 pub mod Rowed
 pub mod Unseen
+pub mod Indexes
+pub mod Crossing

@@ -143,7 +143,7 @@ rising_from_sorted [] up = tt
 rising_from_sorted (x ∷ xs) up = (in_from_all _ xs up.0, rising_from_sorted xs up.1)
 
 -- two lists of one map's pairs in order are one
-order_one : (scores : Scores) (xs ys : List Scored) → ListsInOrder scores xs → ListsInOrder scores ys → xs ≡ ys
+pub order_one : (scores : Scores) (xs ys : List Scored) → ListsInOrder scores xs → ListsInOrder scores ys → xs ≡ ys
 order_one scores xs ys a b = rising_one xs ys (rising_from_sorted xs a.rises) (rising_from_sorted ys b.rises)
     (λ z i. contains_in z ys ((b.lists.has z).1 ((a.lists.has z).0 (in_contains z xs i))))
     (λ z i. contains_in z xs ((a.lists.has z).1 ((b.lists.has z).0 (in_contains z ys i))))

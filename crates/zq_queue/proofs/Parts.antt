@@ -1,7 +1,7 @@
 -- Parts of lists by places, and of turned lists.
-use Rattle.std.proofs.Common.{ap, arith, refl, sym, ◌∙◌}
+use Rattle.std.proofs.Common.{ap, append_assoc, arith, refl, sym, ◌∙◌}
 use Rattle.std.proofs.lemmas.List.{get_or-drop, get_or-reverse, get_or-take, length-drop, length-reverse, length-take, map-append, reverse-append, same_lists}
-use Rattle.std.specs.Prelude.{List, [], drop, get_or, length, map, min, reverse, ℕ, ◌++◌, ◌+◌, ◌-◌, ◌<◌, ◌≡◌, ◌∷◌}
+use Rattle.std.specs.Prelude.{List, [], drop, get_or, length, map, min, reverse, suc, take, ℕ, ◌++◌, ◌+◌, ◌-◌, ◌<◌, ◌≡◌, ◌∷◌}
 use Rattle.zq_queue.specs.Listed.{part}
 
 module _ {X : Type 0} (xs : List X) where
@@ -33,3 +33,20 @@ pub map_reversed : {X Y : Type 0} (f : X → Y) (xs : List X) → map f (reverse
 map_reversed f [] = refl
 map_reversed f (x ∷ xs) =
     ap (map f) (reverse-append (x ∷ []) xs) ∙ map-append f (reverse xs) (x ∷ []) ∙ ap (λ ys. ys ++ f x ∷ []) (map_reversed f xs) ∙ sym (reverse-append (f x ∷ []) (map f xs))
+
+-- one more of the first so many of a list
+pub one_taken : {X : Type 0} (done left rest all : List X) (n k : ℕ) (x : X) → left ≡ x ∷ rest → n ≡ k + 1 → done ++ take n left ≡ all → (done ++ x ∷ []) ++ take k rest ≡ all
+one_taken done left rest all n k x next more is =
+    let one : n ≡ suc k = omega (arith, more) in
+    append_assoc done (x ∷ []) (take k rest) ∙ sym (λ i. done ++ take (one i) (next i)) ∙ is
+
+-- a part is so many, up to its end or the list's
+pub part_count : {X : Type 0} (xs : List X) (from to : ℕ) → take (min to (length xs) - from) (drop from xs) ≡ part from to xs
+part_count xs from to =
+    let rest = length-drop from xs in
+    let long = length-take (min to (length xs) - from) (drop from xs) in
+    let wide = length-take (to - from) (drop from xs) in
+    same_lists (take (min to (length xs) - from) (drop from xs)) (part from to xs) (omega (arith, long, wide, rest)) (λ k d within.
+    let here : k < min to (length xs) - from = omega (arith, within, long) in
+    let there : k < to - from = omega (arith, here) in
+    get_or-take (min to (length xs) - from) (drop from xs) k d here ∙ sym (get_or-take (to - from) (drop from xs) k d there))

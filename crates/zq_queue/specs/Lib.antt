@@ -5,3 +5,4 @@ pub mod Listed
 pub mod Lent
 pub mod Built
 pub mod Effects
+pub mod Indexed

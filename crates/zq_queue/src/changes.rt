@@ -14,11 +14,12 @@ ghost use Rattle.zq_queue.specs.Entries.{entry_in, set_entry};
 ghost use Rattle.zq_queue.specs.Queued.{AreScored, entries_of};
 
 use crate::effect::Effect;
+use crate::indexed::Indexed;
 use crate::queue::Queue;
 use std::alloc::{AllocError, Global};
 use zq_dots::{Act, Rule, Vector};
 use zq_entry::Entry;
-use zq_posheap::{Place, PosHeap};
+use zq_posheap::Place;
 
 /// What an effect makes of an entry. Additions that it takes away are not copied.
 fn changed(alloc: Global, entry: &Entry, effect: &Effect<'_>) -> Result<Entry, AllocError>
@@ -65,19 +66,19 @@ fn has_all(seen: &Vector, entry: &Entry) -> bool
 }
 
 /// Gives the member at a place another entry, or takes it out where that is bare, and answers the entry that it had.
-fn exchange(members: &mut PosHeap<Entry>, rule: Rule, place: Place, entry: Entry) -> Entry
+fn exchange(members: &mut Indexed, rule: Rule, member: &[u8], place: Place, entry: Entry) -> Entry
     requires scored { AreScored (rule_of rule) members.old.held }
-    requires place { HasPlace members.old place }
+    requires has { HasPlace members.old place }
+    requires place { IsPlaceOf members.old member.now place }
     ensures scored { AreScored (rule_of rule) members.new.held }
-    ensures before { (member : List ℕ) → IsPlaceOf members.old member place → get (entries_of members.old.held) member ≡ Some result }
-    ensures set { (member : List ℕ) → IsPlaceOf members.old member place → entries_of members.new.held ≡ set_entry (entries_of members.old.held) member entry }
+    ensures before { get (entries_of members.old.held) member.now ≡ Some result }
+    ensures set { entries_of members.new.held ≡ set_entry (entries_of members.old.held) member.now entry }
 {
     match entry.score(rule) {
-        Some(score) => members.replace_at(place, score, entry),
+        Some(score) => members.replace_at(member, place, score, entry),
         None => {
             drop(entry);
-            let (_, before) = members.remove_at(place);
-            before
+            members.remove_at(member, place)
         }
     }
 }
@@ -103,7 +104,7 @@ impl Queue {
             Some(place) => {
                 let (_, entry) = self.members.at(place);
                 let entry = changed(alloc, entry, effect)?;
-                Ok(Some(exchange(&mut self.members, self.rule, place, entry)))
+                Ok(Some(exchange(&mut self.members, self.rule, member, place, entry)))
             }
             None => {
                 let entry = changed(alloc, &Entry::new(), effect)?;
@@ -179,5 +180,19 @@ impl Queue {
         ensures { self.new ≡ self.old }
     {
         self.members.reserve(additional)
+    }
+
+    /// Makes an ordered index of its members, unless it has one or has no more members than so many. Changes keep it, and
+    /// by it `in_order` and what is read of it cost a logarithm of the members and what they answer. Where memory is
+    /// refused there is no index, now or from a later change on, and such readings look at all members.
+    pub fn index(&mut self, alloc: Global, most: usize)
+        ensures { self.new ≡ self.old }
+    {
+        self.members.index(alloc, most);
+    }
+
+    /// Whether it has an ordered index.
+    pub fn has_index(&self) -> bool {
+        self.members.has_index()
     }
 }

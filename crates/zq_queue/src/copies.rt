@@ -5,13 +5,13 @@ ghost use Rattle.std.specs.FinMap.{empty, get};
 ghost use Rattle.zq_model.specs.Image.{Entry as ModelEntry};
 ghost use Rattle.zq_queue.specs.Queued.{NoneIsBareIn, entries_of};
 
+use crate::indexed::Indexed;
 use crate::queue::Queue;
 use std::alloc::{AllocError, Global};
 use zq_entry::Entry;
-use zq_posheap::PosHeap;
 
 /// Adds copies of these members to a queue without members.
-fn add_copies(alloc: Global, members: &PosHeap<Entry>, copied: &mut Queue) -> Result<(), AllocError>
+fn add_copies(alloc: Global, members: &Indexed, copied: &mut Queue) -> Result<(), AllocError>
     requires bare { NoneIsBareIn members.now.held }
     requires empty { copied.old.entries ≡ empty }
     ensures rule { copied.new.rule ≡ copied.old.rule }
@@ -34,7 +34,7 @@ fn stands(queue: &Queue, member: &[u8], entry: &Entry) -> bool
 }
 
 /// Whether each of these members stands in a queue with the same entry.
-fn is_within(members: &PosHeap<Entry>, queue: &Queue) -> bool
+fn is_within(members: &Indexed, queue: &Queue) -> bool
     ensures { IsTrue result ↔ ((member : List ℕ) (e : ℤ × ModelEntry) → get members.now.held member ≡ Some e → get queue.now.entries member ≡ Some e.1) }
 {
     for ((_, member), entry) in members.iter() {

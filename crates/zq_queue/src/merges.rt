@@ -6,11 +6,11 @@ ghost use Rattle.zq_model.specs.Image.{join_entry, no_additions};
 ghost use Rattle.zq_queue.specs.Entries.{entry_in, entry_joined, joined_entries};
 ghost use Rattle.zq_queue.specs.Queued.{entries_of};
 
+use crate::indexed::Indexed;
 use crate::queue::Queue;
 use std::alloc::{AllocError, Global};
 use zq_dots::Vector;
 use zq_entry::Entry;
-use zq_posheap::PosHeap;
 
 /// The join of what the first side has of a member and what the second has, which may be nothing.
 fn with_second(
@@ -45,7 +45,7 @@ fn of_second(
 fn join_first(
     alloc: Global,
     mine: &Vector,
-    members: &PosHeap<Entry>,
+    members: &Indexed,
     theirs: &Vector,
     other: &Queue,
     merged: &mut Queue,
@@ -68,7 +68,7 @@ fn join_second(
     mine: &Vector,
     first: &Queue,
     theirs: &Vector,
-    members: &PosHeap<Entry>,
+    members: &Indexed,
     merged: &mut Queue,
 ) -> Result<(), AllocError>
     requires joined { (member : List ℕ) → get merged.old.entries member

@@ -10,18 +10,19 @@ ghost use Rattle.zq_posheap.specs.Members.{AreInRange};
 ghost use Rattle.zq_queue.specs.Entries.{NoneIsBare, entry_in};
 ghost use Rattle.zq_queue.specs.Listed.{listed};
 
+use crate::indexed::Indexed;
 use std::alloc::Global;
 use std::marker::Model;
 use zq_dots::Rule;
 use zq_entry::Entry;
-use zq_posheap::{PosHeap, Seeded};
+use zq_posheap::Seeded;
 
 /// The members of one key with their entries, and their scores by one rule. A member without additions does not stand.
 #[derive(Drop)]
 pub struct Queue {
     pub(crate) rule: Rule,
     pub(crate) hasher: Seeded,
-    pub(crate) members: PosHeap<Entry>,
+    pub(crate) members: Indexed,
 }
 
 impl Model for Queue {
@@ -46,7 +47,7 @@ impl Queue {
         Queue {
             rule,
             hasher,
-            members: PosHeap::with_hasher(alloc, hasher),
+            members: Indexed::with_hasher(alloc, hasher),
         }
     }
 
@@ -103,7 +104,7 @@ impl Queue {
 }
 
 /// What the type of a heap keeps of its scores.
-fn in_range(members: &PosHeap<Entry>)
+fn in_range(members: &Indexed)
     ensures { AreInRange members.now.held }
 {
     let _pairs = members.iter();

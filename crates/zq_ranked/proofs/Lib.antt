@@ -10,3 +10,4 @@ pub mod Joined
 pub mod Children
 pub mod AtBranch
 pub mod Paths
+pub mod Crossing

@@ -1,6 +1,6 @@
 //! Replies and their bytes.
 
-ghost use Rattle.std.specs.Prelude.{◌≡◌, ◌+◌, ◌<◌, ◌≤◌, ◌∷◌, ◌++◌, length, take, IsTrue};
+ghost use Rattle.std.specs.Prelude.{◌≡◌, ◌+◌, ◌<◌, ◌≤◌, ◌∷◌, ◌++◌, decimal, length, take, IsTrue};
 ghost use Rattle.std.specs.Vec.{vec_len, vec_capacity};
 ghost use Rattle.std.specs.Result.{OnOk, OnErr};
 ghost use Rattle.zq_resp.specs.Reply.{reply_bytes, all_bytes, is_writable, line, bulk, after_text};
@@ -60,7 +60,7 @@ fn append_reply(out: &mut Vec<u8>, reply: &Reply) -> Result<(), AllocError>
         Reply::Number(number) => append_bulk(out, Buffer::new().format(*number).as_bytes()),
         Reply::NullBulk => append_line(out, b'$', b"-1"),
         Reply::Array(parts) => {
-            append_line(out, b'*', Buffer::new().format(parts.len()).as_bytes())?;
+            append_number(out, b'*', parts.len())?;
             append_all(out, parts)
         }
     }
@@ -86,8 +86,39 @@ fn append_line(out: &mut Vec<u8>, kind: u8, text: &[u8]) -> Result<(), AllocErro
     ensures capacity { vec_capacity out.old ≤ vec_capacity out.new }
 {
     out.push(kind)?;
+    append_ended(out, text)
+}
+
+/// A line with a number. One digit is written as it is.
+fn append_number(out: &mut Vec<u8>, kind: u8, number: usize) -> Result<(), AllocError>
+    ensures written { OnOk result (out.new.items ≡ out.old.items ++ kind ∷ line (decimal number)) }
+    ensures full { OnErr result (vec_capacity out.old < vec_len out.old + length (kind ∷ line (decimal number))) }
+    ensures kept { take (length out.old.items) out.new.items ≡ out.old.items }
+    ensures capacity { vec_capacity out.old ≤ vec_capacity out.new }
+{
+    if number >= 10 {
+        return append_line(out, kind, Buffer::new().format(number).as_bytes());
+    }
+    out.reserve(4)?;
+    out.push_reserved(kind);
+    out.push_reserved(b'0' + number as u8);
+    out.push_reserved(b'\r');
+    out.push_reserved(b'\n');
+    Ok(())
+}
+
+/// A text, CR LF.
+fn append_ended(out: &mut Vec<u8>, text: &[u8]) -> Result<(), AllocError>
+    ensures written { OnOk result (out.new.items ≡ out.old.items ++ line text.now) }
+    ensures full { OnErr result (vec_capacity out.old < vec_len out.old + length (line text.now)) }
+    ensures kept { take (length out.old.items) out.new.items ≡ out.old.items }
+    ensures capacity { vec_capacity out.old ≤ vec_capacity out.new }
+{
+    out.reserve(text.len() + 2)?;
     out.extend_from_slice(text)?;
-    out.extend_from_slice(LINE_END)
+    out.push_reserved(b'\r');
+    out.push_reserved(b'\n');
+    Ok(())
 }
 
 fn append_error(out: &mut Vec<u8>, text: &[u8], after: Option<u64>) -> Result<(), AllocError>
@@ -111,7 +142,6 @@ fn append_bulk(out: &mut Vec<u8>, bytes: &[u8]) -> Result<(), AllocError>
     ensures kept { take (length out.old.items) out.new.items ≡ out.old.items }
     ensures capacity { vec_capacity out.old ≤ vec_capacity out.new }
 {
-    append_line(out, b'$', Buffer::new().format(bytes.len()).as_bytes())?;
-    out.extend_from_slice(bytes)?;
-    out.extend_from_slice(LINE_END)
+    append_number(out, b'$', bytes.len())?;
+    append_ended(out, bytes)
 }

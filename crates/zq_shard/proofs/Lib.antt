@@ -17,3 +17,4 @@ pub mod KeysInOrder
 pub mod Rowed
 pub mod SameRules
 pub mod Nexts
+pub mod Crossing

@@ -101,6 +101,13 @@ impl Queues {
         }
     }
 
+    /// Makes an ordered index of a key's members, as the key's queue does.
+    pub fn index(&mut self, alloc: Global, key: &[u8], most: usize)
+        ensures { self.new ≡ self.old }
+    {
+        index(&mut self.queues, &self.guess, alloc, key, most);
+    }
+
     /// Takes the effect of a new operation on a member of a key, and answers what the member had.
     pub fn take(
         &mut self,
@@ -169,6 +176,22 @@ impl Queues {
         ensures { IsTrue result ↔ (self.now ≡ other.now) }
     {
         self.rule == other.rule && are_same(&self.queues, &other.queues)
+    }
+}
+
+/// Makes an ordered index of a key's members.
+fn index(
+    queues: &mut IndexMap<Name, Queue, Seeded>,
+    guess: &Guess,
+    alloc: Global,
+    key: &[u8],
+    most: usize,
+)
+    ensures { queues.new.entries ≡ queues.old.entries }
+{
+    if let Some(place) = guess.find(queues, key) {
+        let (_, queue) = queues.pair_mut(place);
+        queue.index(alloc, most);
     }
 }
 

@@ -1,4 +1,4 @@
-//! What is read of a shard.
+//! What is read of a shard, and what makes readings in order fast.
 ghost use Rattle.std.specs.Prelude.{◌≡◌, ◌<◌, ◌^◌, IfOk, List, count_by, if◌then◌else◌, length, map, option_map, reverse, slice_get, take};
 ghost use Rattle.std.specs.FinMap as finite;
 ghost use Rattle.std.specs.List.{position};
@@ -14,6 +14,16 @@ use crate::shard::Shard;
 use std::alloc::{AllocError, Global};
 
 impl Shard {
+    /// Makes an ordered index of a key's members, unless it has one or has no more members than so many. Until the key is
+    /// gone, or the shard is merged, changes keep it, and readings of the key in order cost a logarithm of its members and
+    /// what they answer. Where memory is refused there is no index, now or from a later change on, and such readings look
+    /// at all members.
+    pub fn index(&mut self, alloc: Global, key: &[u8], most: usize)
+        ensures { self.new ≡ self.old }
+    {
+        self.queues.index(alloc, key, most);
+    }
+
     /// The number of members of a key.
     pub fn count(&self, key: &[u8]) -> usize
         ensures number { result ≡ finite.len (entries_at self.now.image.members key.now) }

@@ -13,3 +13,4 @@ pub mod Turned
 pub mod Worked
 pub mod Called
 pub mod Named
+pub mod Crossing

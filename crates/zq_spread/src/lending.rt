@@ -6,7 +6,7 @@ ghost use Rattle.zq_journal.specs.Books.{state_of};
 
 use crate::kept::Kept;
 use std::alloc::{AllocError, Global};
-use zq_commands::{Books, Cut, count_between, make_in};
+use zq_commands::{Books, Cut, MOST_SCANNED, count_between, make_in};
 use zq_dots::{Act, SiteNo};
 use zq_shard::Shard;
 use zq_words::Bound;
@@ -65,6 +65,10 @@ impl Books for Kept {
         } else {
             shard.slice(alloc, key, from, to)
         }
+    }
+
+    fn index(&mut self, alloc: Global, _place: usize, key: &[u8]) {
+        self.book.index(alloc, key, MOST_SCANNED);
     }
 
     fn make(

@@ -14,7 +14,7 @@ ghost use Rattle.zq_ticketlock.specs.Seats.{value_of};
 use crate::holds::Holds;
 use crate::kept::Kept;
 use std::alloc::{AllocError, Global};
-use zq_commands::{Books, Cut, count_between, make_in};
+use zq_commands::{Books, Cut, MOST_SCANNED, count_between, make_in};
 use zq_dots::{Act, SiteNo, heap_of};
 use zq_journal::Book;
 use zq_shard::Shard;
@@ -77,6 +77,11 @@ impl Books for Holds {
         }
     }
 
+    fn index(&mut self, alloc: Global, place: usize, key: &[u8]) {
+        let index = self.helds.as_slice().len() - 1 - place;
+        index_held(&mut self.helds[index], alloc, key);
+    }
+
     fn make(
         &mut self,
         alloc: Global,
@@ -127,6 +132,15 @@ fn shard_at(holds: &Holds, place: usize) -> &Shard
         result.now ≡ record (state_of book) { rule = rule_in (books_of (helds_of holds.now)) } }
 {
     book_at(holds, place).shard()
+}
+
+/// Makes an ordered index of a key's members in a heap that is held.
+fn index_held(held: &mut Held<Kept>, alloc: Global, key: &[u8])
+    ensures same { (value_of held.new).book ≡ (value_of held.old).book }
+    ensures held { IsHeldOn held.old held.new }
+{
+    let kept = held.value_mut();
+    kept.book.index(alloc, key, MOST_SCANNED);
 }
 
 /// Makes a site's next operation of an act in a heap that is held, which is the member's. Nothing has changed after an

@@ -2,3 +2,4 @@ pub mod Sums
 pub mod Balance
 pub mod Seatings
 pub mod Lists
+pub mod Crossing

@@ -5,3 +5,4 @@ pub mod Looks
 pub mod Tickets
 pub mod Seatings
 pub mod Told
+pub mod Crossing

@@ -76,6 +76,10 @@ impl Books for Holder {
         self.books.slice(alloc, place, key, is_turned, from, to)
     }
 
+    fn index(&mut self, alloc: Global, place: usize, key: &[u8]) {
+        self.books.index(alloc, place, key);
+    }
+
     fn make(
         &mut self,
         alloc: Global,

@@ -132,6 +132,30 @@ fn is_as_expected(rule: Rule, shard: &Shard, records: &[Record], site: usize) ->
     shard.count(b"q") == count && shard.top(b"q").map(|top| top.0) == first.map(i128::from)
 }
 
+/// How many members go before one by the scores that the list gives them.
+fn expected_rank(rule: Rule, records: &[Record], site: usize, member: &[u8]) -> Option<usize> {
+    let score = expected_score(rule, records, site, member)?;
+    let mut rank: usize = 0;
+    for other in MEMBERS {
+        if let Some(its) = expected_score(rule, records, site, other)
+            && (its, other.as_slice()).cmp(&(score, member)).is_lt()
+        {
+            rank = rank.saturating_add(1);
+        }
+    }
+    Some(rank)
+}
+
+/// Whether each member has the rank that the list gives it.
+fn is_ranked(rule: Rule, shard: &Shard, records: &[Record], site: usize) -> bool {
+    for member in MEMBERS {
+        if shard.rank(b"q", member) != expected_rank(rule, records, site, member) {
+            return false;
+        }
+    }
+    true
+}
+
 /// An act, a Drop one time in four and a Bump one time in four.
 fn act(draws: &mut Pcg64) -> Result<Act, Fail> {
     let value = i64::try_from(draws.next_u64() % 9)
@@ -202,8 +226,15 @@ fn step(
     Ok(())
 }
 
-/// Plays a run of three sites, and compares a site with the list after each of its steps.
-fn play(rt: &impl Abort, alloc: Global, rule: Rule, draws: &mut Pcg64) -> Result<(), Fail> {
+/// Plays a run of three sites, whose heaps have an index past so many members, and compares a site with the list after
+/// each of its steps.
+fn play(
+    rt: &impl Abort,
+    alloc: Global,
+    rule: Rule,
+    most: usize,
+    draws: &mut Pcg64,
+) -> Result<(), Fail> {
     let mut shards = [
         Shard::new_ruled(alloc, 0, 1, rule, Seeded::new(1)),
         Shard::new_ruled(alloc, 0, 1, rule, Seeded::new(2)),
@@ -213,7 +244,9 @@ fn play(rt: &impl Abort, alloc: Global, rule: Rule, draws: &mut Pcg64) -> Result
     for _ in 0..60 {
         let site = (draws.next_u64() % 3) as usize;
         step(rt, alloc, &mut shards, &mut records, draws, site)?;
+        shards[site].index(alloc, b"q", most);
         assert!(rt; is_as_expected(rule, &shards[site], &records, site));
+        assert!(rt; is_ranked(rule, &shards[site], &records, site));
     }
     Ok(())
 }
@@ -221,9 +254,11 @@ fn play(rt: &impl Abort, alloc: Global, rule: Rule, draws: &mut Pcg64) -> Result
 #[test]
 fn sites_hold_what_they_have_taken(rt: HostRuntime) -> Result<(), Fail> {
     let mut draws = Pcg64::seed_from_u64(1);
-    for _ in 0..15 {
-        play(&rt, rt.alloc(), Rule::High, &mut draws)?;
-        play(&rt, rt.alloc(), Rule::Low, &mut draws)?;
+    for _ in 0..8 {
+        for most in [usize::MAX, 1] {
+            play(&rt, rt.alloc(), Rule::High, most, &mut draws)?;
+            play(&rt, rt.alloc(), Rule::Low, most, &mut draws)?;
+        }
     }
     Ok(())
 }

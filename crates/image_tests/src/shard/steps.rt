@@ -205,10 +205,8 @@ pub fn make(shard: &mut Shard, alloc: Global, site: u8, member: u8, act: Act) ->
     Ok(shard.make(alloc, site, b"q", &[member], act)?)
 }
 
-/// Follows the steps from two empty heaps of sites with these numbers.
-///
-/// A table of steps and one loop, since a proof of a test grows with its calls times the values that
-/// are alive at them.
+/// Follows the steps from two empty heaps of sites with these numbers: once with no index, and once with one wherever the
+/// key q has more than 2 members.
 pub fn follow(
     rt: &impl Abort,
     alloc: Global,
@@ -216,8 +214,27 @@ pub fn follow(
     rule: Rule,
     steps: &[Step],
 ) -> Result<(), Fail> {
-    let mut sites = Sites::new(alloc, numbers, rule);
+    for most in [usize::MAX, 2] {
+        let sites = Sites::new(alloc, numbers, rule);
+        follow_all(rt, alloc, sites, steps, most)?;
+    }
+    Ok(())
+}
+
+/// The same with an index past so many members.
+///
+/// A table of steps and one loop, since a proof of a test grows with its calls times the values that
+/// are alive at them.
+fn follow_all(
+    rt: &impl Abort,
+    alloc: Global,
+    mut sites: Sites,
+    steps: &[Step],
+    most: usize,
+) -> Result<(), Fail> {
     for (nth, step) in steps.iter().enumerate() {
+        sites.a.index(alloc, b"q", most);
+        sites.b.index(alloc, b"q", most);
         sites.follow(rt, alloc, nth, step)?;
     }
     Ok(())

@@ -10,7 +10,7 @@ ghost use Rattle.zq_resp.specs.Spelling.{number_line, word_text};
 
 use crate::fault::FeedFault;
 use crate::reader::spent::Spent;
-use std::alloc::Global;
+use std::alloc::{AllocError, Global};
 
 /// A request that stands whole at the front, with a count of one to nine and words of which each length has
 /// one or two digits, and how many bytes it takes. Its words take the memory of a spent request, where there
@@ -60,12 +60,23 @@ fn put_word(
     ensures memory { IfErr result (λ e. e ≡ NoMemory) }
 {
     if let Some(spent) = words.get_mut(place) {
-        spent.clear();
-        spent.extend_from_slice(word)?;
+        replace_word(spent, word)?;
         return Ok(());
     }
     words.push(Vec::from_slice(alloc, word)?)?;
     Ok(())
+}
+
+/// Puts a word over another one, in its memory. Words of one place often have the same length.
+fn replace_word(spent: &mut Vec<u8>, word: &[u8]) -> Result<(), AllocError>
+    ensures { OnOk result (spent.new.items ≡ word.now) }
+{
+    if spent.len() == word.len() {
+        spent.as_mut_slice().copy_from_slice(word);
+        return Ok(());
+    }
+    spent.clear();
+    spent.extend_from_slice(word)
 }
 
 /// The count of a request that begins at the front, where it has one digit and its line is all there.

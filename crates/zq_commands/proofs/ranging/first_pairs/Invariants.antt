@@ -1,15 +1,17 @@
-use Rattle.std.proofs.Common.{drop, length, map, take, ◌≡◌, ◌≤◌}
+use Rattle.std.proofs.Common.{drop, length, map, option_map, take, ◌≡◌, ◌≤◌}
 use Rattle.std.specs.Prelude.{filter}
 use Rattle.zq_commands.specs.FirstPairs.{lent_pair}
+use Rattle.zq_commands.specs.Starts.{is_read}
 use Rattle.zq_moves.specs.Lent.{queues_of}
-use Rattle.zq_plans.specs.Ranges.{is_within, turned_if}
+use Rattle.zq_plans.specs.Ranges.{turned_if}
 use Rattle.zq_commands.proofs.ranging.first_pairs.Given as goal
 
 abbrev pub invariant-loop-place : goal.invariant-loop-place
 invariant-loop-place g l = record {
   within : l.place ≤ length (g.B.Books.lent l.books).books;
   pairs : map lent_pair l.pairs.items ≡
-      take l.section.to (filter (is_within l.section.min l.section.max) (turned_if l.is_turned (queues_of (g.B.Books.lent l.books).rule (drop l.place (g.B.Books.lent l.books).books) l.key)));
+      take l.most (filter (is_read l.is_turned (option_map lent_pair l.first) l.section.min l.section.max)
+      (turned_if l.is_turned (queues_of (g.B.Books.lent l.books).rule (drop l.place (g.B.Books.lent l.books).books) l.key)));
 }
 
 abbrev pub decreases-loop-place : goal.decreases-loop-place

@@ -1,7 +1,8 @@
-use Rattle.std.proofs.Common.{[], Result, arith, min, not, ◌+◌, ◌-◌, ◌∙◌, ◌∷◌, ◌≡◌, Err, Ok}
+use Rattle.std.proofs.Common.{[], Err, Ok, Result, arith, min, not, option_map, ◌+◌, ◌-◌, ◌∙◌, ◌∷◌, ◌≡◌}
 use Rattle.std.proofs.lemmas.List.Sums.{count_by-le-length}
 use Rattle.std.specs.Prelude.{IfOk}
-use Rattle.zq_commands.proofs.Sections.{run_taken}
+use Rattle.zq_commands.proofs.ReadFrom.{read_taken}
+use Rattle.zq_commands.specs.FirstPairs.{lent_pair}
 use Rattle.zq_commands.specs.Sections.{is_entered}
 use Rattle.zq_model.proofs.Rising.{rising_keys}
 use Rattle.zq_moves.specs.Lent.{queues_of}
@@ -27,11 +28,13 @@ pub returns : goal.returns
 returns g c =
     let lent = g.B.Books.lent c.args.books.now in
     let section = c.args.section.now in
-    let from = c.count_ahead-from.result in
+    let from = c.first_place-from.result in
     let behind = c.count_ahead-behind.result in
     let size = c.count-size.result in
-    let least : c.min.result ≡ min (size - behind - from) section.to = omega (arith, c.min.ensures, c.saturating_sub-within.ensures) in
+    let taken = c.min-taken.result in
+    let least : taken ≡ min (size - behind - from) c.args.most = omega (arith, c.min-taken.ensures, c.saturating_sub.ensures) in
+    let start : from + c.min.result ≡ from + min c.args.skipped taken = omega (arith, c.min.ensures) in
     if_ok_same _ c.slice.result _ _ _
-    (λ book at. run_taken c.args.is_turned section.min section.max (queues_of lent.rule (book ∷ []) c.args.key.now) from behind size c.min.result (from + c.min.result) section.to
-    (rising_keys _) (c.count_ahead-from.ensures book at) (c.count_ahead-behind.ensures book at) (c.count-size.ensures book at) (omega arith) least)
+    (λ book at. read_taken c.args.is_turned (option_map lent_pair c.args.first) section.min section.max (queues_of lent.rule (book ∷ []) c.args.key.now) from behind size taken (from + c.min.result) (from + taken)
+    c.args.skipped c.args.most (rising_keys _) (c.first_place-from.ensures book at) (c.count_ahead-behind.ensures book at) (c.count-size.ensures book at) least start (omega arith))
     c.slice.ensures

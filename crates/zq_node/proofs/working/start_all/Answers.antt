@@ -3,9 +3,19 @@ use Rattle.std.proofs.lemmas.List.Elements.{All-head, All-tail}
 use Rattle.std.specs.Prelude.{All}
 use Rattle.std.specs.Vec.Iter.{into_iter_items}
 use Rattle.zq_node.proofs.Workers.{IsToBeStarted, all_started, one_started}
+use Rattle.zq_node.proofs.working.start_all.Given.{Over}
 use Rattle.zq_node.proofs.working.start_all.Goals as goal
+use Rattle.zq_node.proofs.working.start_all.Lts.{arg-13-2}
+use Rattle.zq_node.specs.contracts.working.start_all.{G-row, R-row}
 use Rattle.zq_node.specs.Duties.{AreDuties, duties_of}
 use Rattle.zq_spread.proofs.Places.{nothing_left}
+use contract.Lifetimes.{Lfts}
+use denote.Param.{param}
+use denote.Param.Send.{IsSend, IsSync, sendable}
+use Rattle.std.proofs.Crossing.{crosses}
+use Rattle.zq_node.proofs.Crossing.{job_send}
+use Rattle.zq_resp.proofs.reply.Reply.TheLaws.TheKnot as reply
+use Rattle.zq_spread.proofs.Crossing.{pass_send, site_sync}
 use Rattle.zq_spread.specs.Passes.{IsPassOf}
 
 pub spawn_with-requires-clause-runs : goal.spawn_with-requires-clause-runs
@@ -58,3 +68,13 @@ returns g c =
       duties = subst (λ p. AreDuties site c.args.jobs.items p duties) c.into_iter-passes.ensures.rest
           (subst (λ l. AreDuties site l (into_iter_items every) duties) c.into_iter-list-iterator.ensures.into_iter_gives.0 whole);
     }
+
+-- what a worker runs may go to another thread
+crosses_over : (g : Over) (κs : Lfts 10) → IsSync (G-row g.row.G g.row.R) → IsSync (R-row g.row.G g.row.R) → IsSend (param 2 (arg-13-2 g.row.G g.row.R g.G.laws g.R.laws g.G.Gate-dict g.R.Threads-dict g.R.Wait-dict κs))
+crosses_over g κs gate rt = search (site_sync, pass_send, job_send, sendable, crosses) depth 30 fits 50000
+
+pub spawn_with-requires-send-F : goal.spawn_with-requires-send-F
+spawn_with-requires-send-F g c κs within = crosses_over g κs c.type_bounds.sync-G c.type_bounds.sync-R
+
+pub spawn_with-requires-send-T : goal.spawn_with-requires-send-T
+spawn_with-requires-send-T g c κs within = search (pass_send, reply.crosses, sendable, crosses) depth 30

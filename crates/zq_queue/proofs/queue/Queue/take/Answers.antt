@@ -35,7 +35,7 @@ returns-in_ok-entry-in-Some-clause-taken c =
     let at = c.in-Some.ensures.place in
     let got : get held m ≡ Some (c.at.result.0, c.at.result.1.now) = c.at.ensures m at in
     let its : entry_in (entries_of held) m ≡ c.at.result.1.now = ap (λ r. unwrap_or r no_additions) (get-entries_of held m ∙ ap (λ r. option_map (λ p. p.1) r) got) in
-    c.exchange.ensures.set m at
+    c.exchange.ensures.set
     ∙ ap (set_entry (entries_of held) m) (c.in_ok-entry-in-Some.ensures ∙ ap (affected c.args.effect.now) (sym its))
     ∙ ap (λ q. set_entry q.entries m (affected c.args.effect.now (entry_in q.entries m))) c.self.view_is
 

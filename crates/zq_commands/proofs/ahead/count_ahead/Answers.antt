@@ -3,7 +3,7 @@ use Rattle.zq_commands.proofs.Sections.{none_ahead}
 use Rattle.zq_commands.specs.Sections.{is_entered}
 use Rattle.zq_moves.specs.Lent.{queues_of}
 use Rattle.zq_plans.specs.Ranges.{is_above_limit, is_below_limit}
-use Rattle.zq_commands.proofs.ranging.count_ahead.Goals as goal
+use Rattle.zq_commands.proofs.ahead.count_ahead.Goals as goal
 
 pub returns-in-Highest : goal.returns-in-Highest
 returns-in-Highest g c = λ book at.
