@@ -5,3 +5,4 @@ pub mod CommandLimits
 pub mod OptionsMeant
 pub mod Passing
 pub mod ZaddWords
+pub mod Digits

@@ -1,6 +1,6 @@
 //! The texts of numbers.
 
-ghost use Rattle.std.specs.Prelude.{◌-◌, ◌^◌, ◌&&◌, min, neg_ℤ, not, pos, None, Some, IfSome, ◌<◌, ◌≡◌, position, length, if◌then◌else◌};
+ghost use Rattle.std.specs.Prelude.{◌-◌, ◌^◌, ◌&&◌, min, neg_ℤ, not, pos, None, Some, IfSome, IsTrue, ◌<◌, ◌≡◌, position, length, if◌then◌else◌};
 ghost use Rattle.std.specs.List.{list_all, list_any, before_first, after_first};
 ghost use Rattle.std.specs.Char.{is_ascii_digit};
 ghost use Rattle.std.specs.Option.{option_map};
@@ -17,7 +17,30 @@ const LEAST: u64 = 9_223_372_036_854_775_808;
 pub fn parse_score(text: &[u8]) -> Option<i64>
     ensures { result ≡ written_score text.now }
 {
-    in_range(parse_whole(whole_part(text)?))
+    match plain_amount(text) {
+        Some(amount) => within(amount),
+        None => in_range(parse_whole(whole_part(text)?)),
+    }
+}
+
+/// What a text of digits alone writes, or 2^64 - 1 where that is greater, and `None` for any other text. Most scores are
+/// such texts, and one pass reads them.
+fn plain_amount(text: &[u8]) -> Option<u64>
+    ensures digits { IfSome result (λ amount. IsTrue (are_all is_ascii_digit text.now)) }
+    ensures amount { IfSome result (λ amount. amount ≡ min (number_of text.now) (2 ^ 64 - 1)) }
+{
+    if text.is_empty() {
+        return None;
+    }
+    let mut amount = 0u64;
+    for digit in text {
+        if !digit.is_ascii_digit() {
+            return None;
+        }
+        let value = u64::from(digit.saturating_sub(b'0'));
+        amount = amount.saturating_mul(10).saturating_add(value);
+    }
+    Some(amount)
 }
 
 /// The whole number that a text writes: a sign or none, and one or more digits. `None` for another text,
@@ -34,6 +57,15 @@ pub fn parse_whole(text: &[u8]) -> Option<i64>
         negated(amount)
     } else {
         i64::try_from(amount).ok()
+    }
+}
+
+fn within(amount: u64) -> Option<i64>
+    ensures { result ≡ if_passes is_in_range (Some (pos amount)) }
+{
+    match i64::try_from(amount) {
+        Ok(number) => in_range(Some(number)),
+        Err(_) => None,
     }
 }
 
