@@ -6,11 +6,10 @@ use Rattle.zq_serve.proofs.Crossing.{worker_send}
 use Rattle.zq_serve.proofs.running.fn.run_workers.scope.Given.{Over}
 use Rattle.zq_serve.proofs.running.fn.run_workers.scope.Goals as goal
 use Rattle.zq_serve.proofs.running.fn.run_workers.scope.Lts.{arg-3-1}
-use Rattle.zq_serve.specs.contracts.running.fn.run_workers.scope.{L-row}
 
 -- what a worker runs may go to another thread
-crosses_over : (g : Over) (κs : Lfts 8) → IsSync (L-row g.row.L) → IsSend (param 1 (arg-3-1 g.row.L g.L.laws g.L.Log-dict g.L.Threads-dict g.L.Wait-dict κs))
+crosses_over : (g : Over) (κs : Lfts 8) → IsSync g.row.L → IsSend (param 1 (arg-3-1 g.row.L g.L.laws g.L.Log-dict g.L.Threads-dict g.L.Wait-dict κs))
 crosses_over g κs log = search (worker_send, sendable, crosses) depth 30 fits 50000
 
 pub spawn-requires-send-F : goal.spawn-requires-send-F
-spawn-requires-send-F g c κs within = crosses_over g κs ?
+spawn-requires-send-F g c κs within = crosses_over g κs c.requires.1

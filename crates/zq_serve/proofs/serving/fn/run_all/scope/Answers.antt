@@ -6,11 +6,10 @@ use Rattle.zq_serve.proofs.Crossing.{linker_send}
 use Rattle.zq_serve.proofs.serving.fn.run_all.scope.Given.{Over}
 use Rattle.zq_serve.proofs.serving.fn.run_all.scope.Goals as goal
 use Rattle.zq_serve.proofs.serving.fn.run_all.scope.Lts.{arg-3-1}
-use Rattle.zq_serve.specs.contracts.serving.fn.run_all.scope.{L-row}
 
 -- what a link thread runs may go to another thread
-crosses_over : (g : Over) (κs : Lfts 8) → IsSync (L-row g.row.L) → IsSend (param 1 (arg-3-1 g.row.L g.L.laws g.L.Log-dict g.L.Threads-dict g.L.Wait-dict κs))
+crosses_over : (g : Over) (κs : Lfts 8) → IsSync g.row.L → IsSend (param 1 (arg-3-1 g.row.L g.L.laws g.L.Log-dict g.L.Threads-dict g.L.Wait-dict κs))
 crosses_over g κs log = search (linker_send, sendable, crosses) depth 30 fits 50000
 
 pub spawn-requires-send-F : goal.spawn-requires-send-F
-spawn-requires-send-F g c κs within = crosses_over g κs ?
+spawn-requires-send-F g c κs within = crosses_over g κs c.requires.1
