@@ -11,5 +11,5 @@ station_send = search (site_field_send, sendable, crosses) depth 30
 station_sync : IsSync Station.the_row
 station_sync = search (site_field_sync, sendable, crosses) depth 30
 
-pub post_send : IsSend Post.the_field.row
+pub post_send : IsSend Post.the_row
 post_send = search (station_send, station_sync, pass_field_send, sendable, crosses) depth 30

@@ -1,3 +1,4 @@
+pub mod Crossing
 mod AllListed
 mod Nexts
 mod Pushed

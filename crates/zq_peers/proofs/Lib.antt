@@ -1,3 +1,4 @@
 pub mod Made
+pub mod Crossing
 mod Carried
 mod Sent
