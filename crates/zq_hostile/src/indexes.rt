@@ -47,7 +47,8 @@ fn with(alloc: Global, mut book: Book, number: u16) -> Option<Book>
     ensures rule { IfSome result (λ after. after.rule ≡ book.rule) }
 {
     let site = SiteNo::new(0)?;
-    let score = Score::new(book.count() as i64 + 1)?;
+    let place = i64::try_from(book.count()).ok()?;
+    let score = Score::new(place.checked_add(1)?)?;
     let (stamp, member) = (book.stamp(), number.to_be_bytes());
     match book.make(alloc, site, stamp, b"q", &member, Act::Put(score)) {
         Ok(()) | Err(MakeFault::WrongHeap) => Some(book),
