@@ -1,6 +1,6 @@
 //! The texts of numbers.
 
-ghost use Rattle.std.specs.Prelude.{◌-◌, ◌^◌, ◌&&◌, min, neg_ℤ, not, pos, None, Some, IfSome, IsTrue, ◌<◌, ◌≡◌, position, length, if◌then◌else◌};
+ghost use Rattle.std.specs.Prelude.{◌+◌, ◌-◌, ◌*◌, ◌^◌, ◌&&◌, min, neg_ℤ, not, pos, None, Some, IfSome, IsTrue, ◌<◌, ◌≡◌, position, length, if◌then◌else◌};
 ghost use Rattle.std.specs.List.{list_all, list_any, before_first, after_first};
 ghost use Rattle.std.specs.Char.{is_ascii_digit};
 ghost use Rattle.std.specs.Option.{option_map};
@@ -37,8 +37,7 @@ fn plain_amount(text: &[u8]) -> Option<u64>
         if !digit.is_ascii_digit() {
             return None;
         }
-        let value = u64::from(digit.saturating_sub(b'0'));
-        amount = amount.saturating_mul(10).saturating_add(value);
+        amount = with_digit(amount, *digit);
     }
     Some(amount)
 }
@@ -60,6 +59,7 @@ pub fn parse_whole(text: &[u8]) -> Option<i64>
     }
 }
 
+/// The number of this amount, if it is a score.
 fn within(amount: u64) -> Option<i64>
     ensures { result ≡ if_passes is_in_range (Some (pos amount)) }
 {
@@ -69,6 +69,7 @@ fn within(amount: u64) -> Option<i64>
     }
 }
 
+/// The number, if it is a score.
 fn in_range(number: Option<i64>) -> Option<i64>
     ensures { result ≡ if_passes is_in_range number }
 {
@@ -149,8 +150,16 @@ fn amount_of(digits: &[u8]) -> u64
 {
     let mut amount = 0u64;
     for digit in digits {
-        let value = u64::from(digit.saturating_sub(b'0'));
-        amount = amount.saturating_mul(10).saturating_add(value);
+        amount = with_digit(amount, *digit);
     }
     amount
+}
+
+/// The amount with a digit behind it, or 2^64 - 1 where that is greater.
+fn with_digit(amount: u64, digit: u8) -> u64
+    ensures { result ≡ min (10 * amount + (digit - 48)) (2 ^ 64 - 1) }
+{
+    amount
+        .saturating_mul(10)
+        .saturating_add(u64::from(digit.saturating_sub(b'0')))
 }

@@ -1,12 +1,31 @@
 //! Words without regard to ASCII case.
 
-ghost use Rattle.std.specs.Prelude.{◌≡◌};
+ghost use Rattle.std.specs.Prelude.{IsTrue, ◌≡◌};
 ghost use Rattle.zq_words.specs.Words.{has, is, views};
 
+/// Whether a word is this one, without regard to ASCII case. Most clients write names as they are written here, which a
+/// comparison of bytes sees first.
+#[inline(always)]
 pub fn is_word(word: &[u8], name: &[u8]) -> bool
     ensures { result ≡ is word.now name.now }
 {
-    word.eq_ignore_ascii_case(name)
+    is_spelled(word, name) || word.eq_ignore_ascii_case(name)
+}
+
+/// Whether a word is this one, byte by byte.
+#[inline(always)]
+fn is_spelled(word: &[u8], name: &[u8]) -> bool
+    ensures { IsTrue result → word.now ≡ name.now }
+{
+    if word.len() != name.len() {
+        return false;
+    }
+    for place in 0..name.len() {
+        if word[place] != name[place] {
+            return false;
+        }
+    }
+    true
 }
 
 /// Whether one of the words is this one.
