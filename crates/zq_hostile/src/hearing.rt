@@ -5,9 +5,6 @@ ghost use Rattle.zq_node.specs.Node.{IsNode};
 ghost use Rattle.zq_spread.specs.Calls.{heaps_of};
 ghost use Rattle.zq_spread.specs.Passes.{IsPassOf};
 
-use crate::ended::{Ended, Tried};
-use crate::shards::{THEIRS, is_written, operations, taken};
-use crate::sites::{last_pass, opened_with};
 use std::alloc::Global;
 use std::sync::Wait;
 use zq_dots::{Op, Rule, SiteNo};
@@ -15,6 +12,7 @@ use zq_frames::Frame;
 use zq_merge::write_state;
 use zq_node::{Node, NodeFault};
 use zq_spread::{Pass, Site};
+use zq_trials::{Ended, THEIRS, Tried, is_written, last_pass, opened_with, operations, taken};
 
 /// The site of this number, a pass for its node, and one that looks at it.
 pub fn opened(alloc: Global, number: SiteNo) -> Option<(Site, Pass, Pass)>

@@ -2,9 +2,7 @@
 ghost use Rattle.zq_node.specs.Node.{IsNode};
 ghost use Rattle.std.specs.Prelude.{IfSome, ◌≡◌, length};
 
-use crate::ended::{Ended, Tried};
 use crate::hearing::{heard, opened};
-use crate::shards::{is_written, operations, taken};
 use std::alloc::Global;
 use std::sync::Wait;
 use zq_dots::{Op, Rule, SiteNo};
@@ -14,6 +12,7 @@ use zq_merge::write_state;
 use zq_node::Node;
 use zq_posheap::Seeded;
 use zq_shard::Shard;
+use zq_trials::{Ended, Tried, is_written, operations, taken};
 
 /// How many frames there are.
 const FRAMES: usize = 100;

@@ -5,32 +5,17 @@
 //! before or after the call, 4 where a line cannot be read or written, and 1 where something was
 //! lost, or came otherwise than it is owed.
 //! tools/refused-growths runs each case with each growth refused in turn.
+//! The cases of nodes, links and worlds stand here, all others in the library `zq_trials`.
 //!
 //! `zq_hostile texts` reads texts of settings from standard input, and says what each is read as; bench/fuzz.py draws them.
 #![tactic(auto)]
 
-mod books;
-mod careless;
-mod commands;
-mod devices;
-mod ended;
-mod feeding;
 mod hearing;
-mod indexes;
 mod links;
-mod making;
-mod merging;
 mod playing;
-mod shards;
-mod sites;
-mod streams;
 mod texts;
 mod working;
-mod worn;
 
-use commands::{ROWS, command};
-use devices::Trial;
-use ended::{Ended, status};
 use std::alloc::{AllocError, Global};
 use std::env::Env;
 use std::process::ExitCode;
@@ -38,6 +23,7 @@ use std::sync::Wait;
 use std::thread::Threads;
 use std::{env, io};
 use texts::read_texts;
+use zq_trials::Ended;
 
 /// The status where a line cannot be read or written.
 const DEVICE: u8 = 4;
@@ -84,6 +70,16 @@ fn run_all<R: Print + Threads + Wait + Sync>(rt: &R, alloc: Global, names: &[Str
     0
 }
 
+/// The program's status for a case. Where memory was refused before or after the call, there is nothing to say of it.
+fn status(ended: Option<Ended>) -> u8 {
+    match ended {
+        Some(Ended::Owed(_)) => 0,
+        Some(Ended::Wrong) => 1,
+        None => 10,
+        Some(Ended::Refused(_)) => 11,
+    }
+}
+
 /// Writes how a case ended.
 fn tell<R: Print>(rt: &R, name: &str, ended: Option<Ended>) -> io::Result<()> {
     match ended {
@@ -94,41 +90,15 @@ fn tell<R: Print>(rt: &R, name: &str, ended: Option<Ended>) -> io::Result<()> {
     }
 }
 
-/// How the case of this name ends. There is nothing right of one that is not there.
+/// How the case of this name ends: one that needs a node, a link or a world, or else one that needs none.
 fn case<R: Threads + Wait + Sync>(rt: &R, alloc: Global, name: &str) -> Option<Ended> {
     match name {
-        "merge-shard" => merging::shard(alloc),
-        "merge-book" => merging::book(alloc),
-        "merge-site" => merging::site(rt, alloc),
-        "read-state" => merging::state(alloc),
         "play" => playing::world(alloc),
-        "feed" => feeding::feed(alloc),
-        "declared" => feeding::declared(alloc),
-        "session" => feeding::hold(alloc),
-        "lock" => making::lock(alloc),
-        "site" => making::site(alloc),
-        "books" => books::books(alloc),
         "work" => working::workers(rt, alloc),
         "hear" => hearing::hear(rt, alloc, false),
         "hear-turned" => hearing::hear(rt, alloc, true),
         "link-loses" => links::losing(rt, alloc),
         "link-doubles" => links::doubling(rt, alloc),
-        "cuts" => devices::devices(rt, alloc, Trial::Cuts),
-        "reads" => devices::devices(rt, alloc, Trial::Reads),
-        "writes" => devices::devices(rt, alloc, Trial::Writes),
-        "index" => indexes::index(rt, alloc),
-        "worn" => worn::worn(rt, alloc),
-        "careless" => careless::careless(alloc),
-        _ => command_named(rt, alloc, name),
+        _ => zq_trials::case(rt, alloc, name),
     }
-}
-
-/// How the command of this name ends.
-fn command_named<R: Wait>(rt: &R, alloc: Global, name: &str) -> Option<Ended> {
-    for row in &ROWS {
-        if row.name == name {
-            return command(rt, alloc, row);
-        }
-    }
-    Some(Ended::Wrong)
 }

@@ -1,8 +1,7 @@
 //! A world of which a growth is refused while it is played.
 
-use crate::ended::{Ended, Tried, judge};
-use crate::sites::request;
 use std::alloc::Global;
+use zq_trials::{Ended, Tried, judge, request};
 use zq_world::{Event, PlayFault, World, play};
 
 /// Site 0 adds three members; site 1 merges its heap 0 as it was then, and takes the operation of heap 1; then it pops.

@@ -3,9 +3,6 @@ ghost use Rattle.std.specs.Prelude.{◌≡◌, All, IfSome, length};
 ghost use Rattle.zq_spread.specs.Calls.{heaps_of};
 ghost use Rattle.zq_spread.specs.Passes.{IsPassOf};
 
-use crate::commands::REFUSED;
-use crate::ended::Ended;
-use crate::sites::{answer, last_pass, made, opened_with, request};
 use std::alloc::Global;
 use std::sync::Wait;
 use std::thread::Threads;
@@ -13,6 +10,7 @@ use zq_dots::SiteNo;
 use zq_node::{Gate, Job, WorkFault, work};
 use zq_resp::{Reply, Request};
 use zq_spread::{Pass, Site};
+use zq_trials::{Ended, REFUSED, answer, last_pass, made, opened_with, request};
 use zq_words::Command;
 
 /// A gate that holds no call.

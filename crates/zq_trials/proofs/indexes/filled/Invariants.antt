@@ -1,5 +1,5 @@
 use Rattle.std.proofs.Common.{◌≡◌}
-use Rattle.zq_hostile.proofs.indexes.filled.Given as goal
+use Rattle.zq_trials.proofs.indexes.filled.Given as goal
 use Rattle.zq_model.specs.Rule.{Greatest}
 
 abbrev pub invariant-loop-number : goal.invariant-loop-number

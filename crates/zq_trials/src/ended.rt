@@ -32,13 +32,3 @@ pub fn judge(tried: Tried, kept: bool, owed: bool) -> Ended {
         _ => Ended::Wrong,
     }
 }
-
-/// The program's status for a case. Where memory was refused before or after the call, there is nothing to say of it.
-pub fn status(ended: Option<Ended>) -> u8 {
-    match ended {
-        Some(Ended::Owed(_)) => 0,
-        Some(Ended::Wrong) => 1,
-        None => 10,
-        Some(Ended::Refused(_)) => 11,
-    }
-}
