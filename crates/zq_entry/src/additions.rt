@@ -15,6 +15,7 @@ ghost use Rattle.zq_entry.specs.Sums.{AreSums};
 use crate::addition::Addition;
 use crate::addition_ref::AdditionRef;
 use crate::held::Held;
+use crate::lent_sums::LentSums;
 use std::alloc::{AllocError, Global};
 use std::marker::Model;
 use zq_dots::{Dot, Score, SiteNo, Vector};
@@ -61,7 +62,7 @@ impl Additions {
     {
         match &self.held {
             Held::Nothing => 0,
-            Held::One(..) => 1,
+            Held::One(..) | Held::Summed { .. } => 1,
             Held::Many(list) => list.len(),
         }
     }
@@ -70,14 +71,25 @@ impl Additions {
     pub fn at(&self, place: usize) -> AdditionRef<'_>
         requires { place < length self.now }
         ensures addition { (d : OfSite) → lent result ≡ slice_index_or self.now place d }
-        ensures sums { AreSums result.sums.now }
+        ensures sums { AreSums result.sums }
     {
         match &self.held {
             Held::Nothing => unreachable!(),
             Held::One(dot, score) => AdditionRef {
                 dot: *dot,
                 score: *score,
-                sums: &[],
+                sums: LentSums::of(&[]),
+            },
+            Held::Summed {
+                site,
+                by,
+                n,
+                score,
+                sum,
+            } => AdditionRef {
+                dot: Dot { site: *site, n: *n },
+                score: *score,
+                sums: LentSums::one(*by, *sum),
             },
             Held::Many(list) => list[place].lend(),
         }
@@ -98,7 +110,7 @@ impl Additions {
     pub fn get(&self, place: usize, site: SiteNo) -> Option<AdditionRef<'_>>
         ensures first { option_map (λ a. (lent a).1) result ≡ first_at site (drop place self.now) }
         ensures site { IfSome result (λ a. a.dot.site ≡ site) }
-        ensures sums { IfSome result (λ a. AreSums a.sums.now) }
+        ensures sums { IfSome result (λ a. AreSums a.sums) }
         ensures inside { OnSome result ((place < length self.now) × (length self.now < 2 ^ 64)) }
     {
         if place < self.len() {
@@ -110,13 +122,14 @@ impl Additions {
         None
     }
 
-    /// Puts one at the end. The first, where it has no sums, takes no memory.
+    /// Puts one at the end. The first, where it has no sum, or one that an `i64` holds, takes no
+    /// memory.
     pub fn push(&mut self, alloc: Global, addition: Addition) -> Result<(), AllocError>
         ensures pushed { OnOk result (self.new ≡ self.old ++ addition ∷ []) }
         ensures refused { OnErr result (self.new ≡ self.old) }
     {
-        if let (Held::Nothing, Some((dot, score))) = (&self.held, addition.bare()) {
-            self.held = Held::One(dot, score);
+        if let (Held::Nothing, Some(held)) = (&self.held, Held::alone(&addition)) {
+            self.held = held;
             return Ok(());
         }
         self.held.widen(alloc)?;
