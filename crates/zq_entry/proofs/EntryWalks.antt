@@ -4,13 +4,14 @@ use Rattle.std.proofs.Common.{Bor, inl, inr, ap, arith, drop, get_or, length, sy
 use Rattle.std.proofs.lemmas.List.{at_drop_more, drop-drop, drop_all, drop_more, take_more}
 use Rattle.std.specs.Int.{from_bool}
 use Rattle.std.specs.Option.{option_copied}
-use Rattle.std.specs.Prelude.{List, None, Option, Some, [], is_some, map, option_map, option_to_list, ℕ, ℤ, ◌+◌, ◌++◌, ◌<◌, ◌≤◌, ◌∷◌}
+use Rattle.std.specs.Prelude.{List, None, Option, Some, [], is_some, map, option_map, option_to_list, pos, ℕ, ℤ, ◌+◌, ◌++◌, ◌<◌, ◌≤◌, ◌∷◌}
 use Rattle.std.proofs.lemmas.Bool.{cases_eq}
 use Rattle.zq_model.specs.Entry.{Addition, join_site}
 use Rattle.zq_model.specs.Rule.{Rule}
 use Rattle.zq_model.specs.Sets.{SITES}
 use Rattle.zq_model.specs.Score.{preferred_if, value_of}
 use Rattle.zq_model.specs.Rows.{OfSite}
+use Rattle.zq_entry.specs.Placed.{addition_of_put}
 use Rattle.zq_entry.specs.Sparse.{first_at, head_of, lower, rest_at}
 use Rattle.zq_model.specs.Sparse.{AreBySite}
 use Rattle.zq_entry.proofs.EntryLemmas.{best, combined, combined-more}
@@ -30,9 +31,10 @@ mapped-more f changed items i p e l h =
     mapped-end f (x ∷ xs) q = ap (λ ys. f x ∷ ys) (mapped-end f xs q)
 
 -- one more value is compared
-pub best-more : (rule : Rule) (so_far : Option ℤ) (items : List OfSite) (i : ℕ) (x : ℤ) (d : OfSite) → i < length items → ((d : OfSite) → x ≡ value_of (get_or items i d).1)
+pub best-more : (rule : Rule) (so_far : Option ℤ) (items : List OfSite) (i : ℕ) (x : ℤ) → i < length items → ((d : OfSite) → x ≡ value_of (get_or items i d).1)
     → combined rule (Some (preferred_if rule x so_far)) (best rule (map (λ p. value_of p.1) (drop (i + 1) items))) ≡ combined rule so_far (best rule (map (λ p. value_of p.1) (drop i items)))
-best-more rule so_far items i x d l h =
+best-more rule so_far items i x l h =
+    let d : OfSite = (0, addition_of_put 0 (pos 0)) in
     combined-more rule so_far x (best rule (map (λ p. value_of p.1) (drop (i + 1) items)))
     ∙ (ap (λ y. combined rule so_far (Some (preferred_if rule y (best rule (map (λ p. value_of p.1) (drop (i + 1) items)))))) (h d)
     ∙ sym (at_drop_more (λ xs. combined rule so_far (best rule (map (λ p. value_of p.1) xs))) items i d l))

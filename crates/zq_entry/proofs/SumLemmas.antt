@@ -2,7 +2,7 @@
 
 use Rattle.std.proofs.Common.{inl, inr, refl, ap, arith, cond, get_or, length, sym, take, lit≤, zero, suc, ◌∙◌, ◌≡◌, ◌≢◌, false, true}
 use Rattle.std.proofs.Math.Nat.{mul-le-mul_right}
-use Rattle.std.proofs.Math.IntN.{+ℤ_assoc}
+use Rattle.std.proofs.Math.IntN.{+ℤ_assoc, +ℤ_idr}
 use Rattle.std.proofs.lemmas.Int.{ints}
 use Rattle.std.proofs.lemmas.Bool.{and_parts, cases_Bool, cases_eq}
 use Rattle.std.proofs.lemmas.Bool.Decides.{Decides-eqb, Decides-int_eq, nat_tests}
@@ -15,11 +15,12 @@ use Rattle.std.specs.Prelude.{Bool, List, None, Option, [], ◌&&◌, ◌-◌, �
 use Rattle.zq_model.proofs.Bounds.{within_more}
 use Rattle.zq_model.specs.Entry.{sums_joined}
 use Rattle.zq_model.specs.Operation.{IsWithin, MOST}
-use Rattle.zq_model.specs.Score.{total}
-use Rattle.zq_model.specs.Sets.{LAST, SITES}
+use Rattle.zq_model.specs.Score.{total, value_of}
+use Rattle.zq_model.specs.Sets.{LAST, SITES, by_site}
 use Rattle.zq_model.specs.Sparse.{AreBySite, found}
 use Rattle.zq_entry.specs.KeptSums.{kept_sums}
 use Rattle.zq_entry.specs.declared.sums.Kept.{Kept}
+use Rattle.zq_entry.specs.Placed.{addition_of_put}
 use Rattle.zq_entry.specs.Sums.{AreSums, IsSum, MOST_SUM, dense_sums, nonzero_from, nonzero_sums, sum_found, sum_joined, sums_bumped}
 use Rattle.zq_entry.proofs.MergeLemmas.{found-merged, merged}
 use Rattle.zq_entry.proofs.ReplaceLemmas.{found-replaced_other, found-replaced_same, replaced}
@@ -53,6 +54,13 @@ total-spread (suc n) a high items e r =
 
 pub total-dense : (items : List (ℕ × ℤ)) → AreSums items → total (dense_sums items) ≡ total_of items
 total-dense items h = total-spread SITES 0 SITES items (omega arith) h.rising
+
+total-none : total (by_site (λ _. pos 0)) ≡ pos 0
+total-none = total-dense [] (record { rising = tt; each = tt })
+
+-- what a Put has made is worth its score
+pub value-put : (n : ℕ) (score : ℤ) → value_of (addition_of_put n score) ≡ score
+value-put n score = ap (λ x. score +ℤ x) total-none ∙ +ℤ_idr score
 
 nonzero-spread : (n a high : ℕ) (items : List (ℕ × ℤ)) → a + n ≡ high → AreBySite a high items → AllByRecursion IsSum items → nonzero_from a (spread or_zero a n items) ≡ items
 nonzero-spread zero a high items e r h = sym (rising-none a high items (omega arith) r)

@@ -5,4 +5,4 @@ use Rattle.zq_model.specs.Rows.{OfSite}
 use Rattle.zq_entry.specs.declared.addition_ref.AdditionRef.{AdditionRef}
 
 abbrev pub lent : AdditionRef → OfSite
-lent a = placed_from a.dot.site a.dot.n a.score a.sums.now
+lent a = placed_from a.dot.site a.dot.n a.score a.sums

@@ -2,6 +2,7 @@ pub mod Sparse
 pub mod Sums
 pub mod Placed
 pub mod Held
+pub mod LentSums
 pub mod Lent
 pub mod Within
 pub mod Changes

@@ -1,6 +1,6 @@
 //! Lists of additions by rising site, and the changes that an entry makes to them.
 
-ghost use Rattle.std.specs.Prelude.{◌≡◌, ◌≤◌, ◌<◌, ◌*◌, ◌-◌, ◌^◌, ◌++◌, ◌∷◌, [], IfSome, OnErr, OnOk, OnSome, drop, length, map, option_map, slice_index_or};
+ghost use Rattle.std.specs.Prelude.{◌≡◌, ◌≤◌, ◌<◌, ◌+◌, ◌*◌, ◌-◌, ◌^◌, ◌++◌, ◌∷◌, [], IfSome, OnErr, OnOk, OnSome, drop, length, map, option_map, slice_index_or};
 ghost use Rattle.std.specs.List.{filter, list_all};
 ghost use Rattle.zq_entry.specs.Changes.{bumped_placed, goes, is_unseen, stays};
 ghost use Rattle.zq_entry.specs.Lent.{lent};
@@ -8,13 +8,15 @@ ghost use Rattle.zq_entry.specs.Placed.{addition_of_put};
 ghost use Rattle.zq_model.specs.Entry.{sum_at};
 ghost use Rattle.zq_model.specs.Operation.{IsWithin, MOST};
 ghost use Rattle.zq_model.specs.Rows.{OfSite};
+ghost use Rattle.zq_model.specs.Score.{value_of};
 ghost use Rattle.zq_model.specs.Sets as sets;
 ghost use Rattle.zq_entry.specs.Sparse.{first_at, head_of, placed};
-ghost use Rattle.zq_entry.specs.Sums.{AreSums};
+ghost use Rattle.zq_entry.specs.Sums.{AreSums, MOST_SUM};
 
 use crate::addition::Addition;
 use crate::addition_ref::AdditionRef;
 use crate::held::Held;
+use crate::lent_sums::LentSums;
 use std::alloc::{AllocError, Global};
 use std::marker::Model;
 use zq_dots::{Dot, Score, SiteNo, Vector};
@@ -61,7 +63,7 @@ impl Additions {
     {
         match &self.held {
             Held::Nothing => 0,
-            Held::One(..) => 1,
+            Held::One(..) | Held::Summed { .. } => 1,
             Held::Many(list) => list.len(),
         }
     }
@@ -70,16 +72,39 @@ impl Additions {
     pub fn at(&self, place: usize) -> AdditionRef<'_>
         requires { place < length self.now }
         ensures addition { (d : OfSite) → lent result ≡ slice_index_or self.now place d }
-        ensures sums { AreSums result.sums.now }
+        ensures sums { AreSums result.sums }
     {
         match &self.held {
             Held::Nothing => unreachable!(),
             Held::One(dot, score) => AdditionRef {
                 dot: *dot,
                 score: *score,
-                sums: &[],
+                sums: LentSums::of(&[]),
+            },
+            Held::Summed {
+                site,
+                by,
+                n,
+                score,
+                sum,
+            } => AdditionRef {
+                dot: Dot { site: *site, n: *n },
+                score: *score,
+                sums: LentSums::one(*by, *sum),
             },
             Held::Many(list) => list[place].lend(),
+        }
+    }
+
+    /// What the one at this place is worth: its score and all its sums.
+    pub fn value_at(&self, place: usize) -> i128
+        requires { place < length self.now }
+        ensures value { (d : OfSite) → result ≡ value_of (slice_index_or self.now place d).1 }
+        ensures within { IsWithin (MOST + sets.SITES * MOST_SUM) result }
+    {
+        match &self.held {
+            Held::One(_, score) => i128::from(score.value()),
+            _ => self.at(place).value(),
         }
     }
 
@@ -98,7 +123,7 @@ impl Additions {
     pub fn get(&self, place: usize, site: SiteNo) -> Option<AdditionRef<'_>>
         ensures first { option_map (λ a. (lent a).1) result ≡ first_at site (drop place self.now) }
         ensures site { IfSome result (λ a. a.dot.site ≡ site) }
-        ensures sums { IfSome result (λ a. AreSums a.sums.now) }
+        ensures sums { IfSome result (λ a. AreSums a.sums) }
         ensures inside { OnSome result ((place < length self.now) × (length self.now < 2 ^ 64)) }
     {
         if place < self.len() {
@@ -110,13 +135,14 @@ impl Additions {
         None
     }
 
-    /// Puts one at the end. The first, where it has no sums, takes no memory.
+    /// Puts one at the end. The first, where it has no sum, or one that an `i64` holds, takes no
+    /// memory.
     pub fn push(&mut self, alloc: Global, addition: Addition) -> Result<(), AllocError>
         ensures pushed { OnOk result (self.new ≡ self.old ++ addition ∷ []) }
         ensures refused { OnErr result (self.new ≡ self.old) }
     {
-        if let (Held::Nothing, Some((dot, score))) = (&self.held, addition.bare()) {
-            self.held = Held::One(dot, score);
+        if let (Held::Nothing, Some(held)) = (&self.held, Held::alone(&addition)) {
+            self.held = held;
             return Ok(());
         }
         self.held.widen(alloc)?;

@@ -1,6 +1,6 @@
 //! The live additions of a member, and what a Put, a Bump, a Drop and a merge make of them.
 
-ghost use Rattle.std.specs.Prelude.{◌≡◌, ◌≢◌, ◌+◌, ◌-◌, ◌*◌, ◌<◌, ◌≤◌, ◌++◌, ◌∷◌, ◌↔◌, [], ℕ, false, length, map, pos, slice_index_or, IfOk, IfSome, IsTrue, OnErr, OnOk, is_none};
+ghost use Rattle.std.specs.Prelude.{◌≡◌, ◌+◌, ◌-◌, ◌*◌, ◌<◌, ◌≤◌, ◌++◌, ◌∷◌, ◌↔◌, [], ℕ, false, length, slice_index_or, IfOk, IfSome, IsTrue, OnErr, OnOk, is_none};
 ghost use Rattle.zq_dots.specs.Rule.{rule_of};
 ghost use Rattle.zq_model.specs.Image as model;
 ghost use Rattle.zq_model.specs.Operation.{Bump, Drop as ActDrop, IsWithin, MOST, Put};
@@ -21,8 +21,9 @@ use std::alloc::{AllocError, Global};
 use std::marker::Model;
 use zq_dots::{Dot, Rule, Score, Vector};
 
-/// The live additions of a member, at most one for each site. No addition, and one without sums,
-/// take no memory of their own.
+/// The live additions of a member, at most one for each site. An entry without additions takes no
+/// memory of its own, and neither does one of a single addition that has no sum, or one sum that an
+/// `i64` holds.
 #[derive(Debug, Drop)]
 pub struct Entry {
     additions: Additions,
@@ -145,7 +146,7 @@ impl Entry {
     {
         let mut best = None;
         for place in 0..self.additions.len() {
-            best = Some(preferred(rule, best, self.additions.at(place).value()));
+            best = Some(preferred(rule, best, self.additions.value_at(place)));
         }
         best
     }
@@ -187,7 +188,7 @@ impl Entry {
     pub fn at(&self, place: usize) -> AdditionRef<'_>
         requires { place < length (placed_of self.now) }
         ensures addition { (d : OfSite) → lent result ≡ slice_index_or (placed_of self.now) place d }
-        ensures sums { AreSums result.sums.now }
+        ensures sums { AreSums result.sums }
     {
         self.additions.at(place)
     }
@@ -204,7 +205,8 @@ impl Entry {
     }
 
     /// Moves an addition in, of a site above those of all that stand. The first, where it has no
-    /// sums, takes no memory. Where there is no memory for it, nothing changes.
+    /// sum, or one that an `i64` holds, takes no memory. Where there is no memory for it, nothing
+    /// changes.
     pub fn append(&mut self, alloc: Global, addition: Addition) -> Result<(), AllocError>
         requires { AreBySite 0 sets.SITES (placed_of self.old ++ addition ∷ []) }
         ensures appended { OnOk result (placed_of self.new ≡ placed_of self.old ++ addition ∷ []) }

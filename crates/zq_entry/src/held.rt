@@ -1,6 +1,6 @@
 //! Where the additions of an entry lie in memory.
 
-ghost use Rattle.std.specs.Prelude.{◌≡◌, ◌++◌, ◌∷◌, [], OnErr, OnOk, length};
+ghost use Rattle.std.specs.Prelude.{◌≡◌, ◌++◌, ◌∷◌, [], IfOk, IfSome, OnErr, OnOk, length};
 ghost use Rattle.std.specs.List.{filter, list_all};
 ghost use Rattle.zq_entry.specs.Changes.{goes, is_unseen, stays};
 ghost use Rattle.zq_entry.specs.Held.{IsMany, listed};
@@ -9,35 +9,83 @@ ghost use Rattle.zq_entry.specs.Sparse.{placed};
 use crate::addition::Addition;
 use crate::places;
 use std::alloc::{AllocError, Global};
-use zq_dots::{Dot, Score, Vector};
+use std::num::NonZeroI64;
+use zq_dots::{Dot, Score, SiteNo, Vector};
 
-/// Additions. One without sums, which is what nearly all members have, takes no memory of its own.
+/// Additions. A single one that has no sum, or one sum that an `i64` holds, takes no memory of its
+/// own. Nearly all members have such a one.
 #[derive(Debug, Drop)]
 pub enum Held {
     /// No addition.
     Nothing,
     /// One addition, whose sums are all 0.
     One(Dot, Score),
+    /// One addition, of the dot of `site` and `n`, whose sums are all 0 but that of the site `by`.
+    /// The parts of the dot stand apart, so that the sites take the room beside the variant's tag.
+    Summed {
+        site: SiteNo,
+        by: SiteNo,
+        n: u64,
+        score: Score,
+        sum: NonZeroI64,
+    },
     /// Any additions.
     Many(Vec<Addition>),
 }
 
+// Each member's entry is one of these: a variant for a single addition is not to make it larger.
+const _: () = prove!(size_of::<Held>() == 32);
+
 impl Held {
+    /// This addition by itself, where it takes no memory of its own.
+    pub fn alone(addition: &Addition) -> Option<Held>
+        ensures { IfSome result (λ held. listed held ≡ addition.now ∷ []) }
+    {
+        if let Some((dot, score)) = addition.bare() {
+            return Some(Held::One(dot, score));
+        }
+        let (Dot { site, n }, score, by, sum) = addition.summed()?;
+        Some(Held::Summed {
+            site,
+            by,
+            n,
+            score,
+            sum,
+        })
+    }
+
+    /// This addition in memory of its own, with room for one beside it.
+    fn wide(alloc: Global, addition: Addition) -> Result<Held, AllocError>
+        ensures many { IfOk result IsMany }
+        ensures listed { IfOk result (λ held. listed held ≡ addition ∷ []) }
+    {
+        let mut list = Vec::with_capacity(alloc, 2)?;
+        list.push(addition)?;
+        Ok(Held::Many(list))
+    }
+
     /// Moves the additions to memory of their own, where another one may go beside them.
     pub fn widen(&mut self, alloc: Global) -> Result<(), AllocError>
         ensures many { OnOk result (IsMany self.new) }
         ensures listed { listed self.new ≡ listed self.old }
     {
-        let list = match self {
-            Held::Nothing => Vec::with_capacity(alloc, 1)?,
+        match self {
+            Held::Nothing => *self = Held::Many(Vec::with_capacity(alloc, 1)?),
             Held::One(dot, score) => {
-                let mut list = Vec::with_capacity(alloc, 2)?;
-                list.push(Addition::of(*dot, *score, Vec::new(alloc)))?;
-                list
+                *self = Held::wide(alloc, Addition::of(*dot, *score, Vec::new(alloc)))?;
             }
-            Held::Many(_) => return Ok(()),
-        };
-        *self = Held::Many(list);
+            Held::Summed {
+                site,
+                by,
+                n,
+                score,
+                sum,
+            } => {
+                let dot = Dot { site: *site, n: *n };
+                *self = Held::wide(alloc, Addition::with_sum(dot, *score, *by, *sum))?;
+            }
+            Held::Many(_) => {}
+        }
         Ok(())
     }
 
@@ -53,14 +101,15 @@ impl Held {
         }
     }
 
-    /// Puts this in the place of the only one. It takes memory where that took none and this has sums.
+    /// Puts this in the place of the only one. It takes memory where that took none and this has
+    /// more than one sum, or one that an `i64` does not hold.
     pub fn set_only(&mut self, alloc: Global, addition: Addition) -> Result<(), AllocError>
         requires { length (listed self.old) ≡ 1 }
         ensures set { OnOk result (listed self.new ≡ addition ∷ []) }
         ensures refused { OnErr result (listed self.new ≡ listed self.old) }
     {
-        if let Some((dot, score)) = addition.bare() {
-            *self = Held::One(dot, score);
+        if let Some(held) = Held::alone(&addition) {
+            *self = held;
             return Ok(());
         }
         match self {
@@ -94,6 +143,9 @@ impl Held {
         match self {
             Held::Nothing => true,
             Held::One(live, _) => live.site == dot.site || seen.has(*live),
+            Held::Summed { site, n, .. } => {
+                *site == dot.site || seen.has(Dot { site: *site, n: *n })
+            }
             Held::Many(list) => list
                 .iter()
                 .all(|live| live.dot().site == dot.site || seen.has(live.dot())),
@@ -108,6 +160,11 @@ impl Held {
             Held::Nothing => {}
             Held::One(dot, _) => {
                 if seen.has(*dot) {
+                    *self = Held::Nothing;
+                }
+            }
+            Held::Summed { site, n, .. } => {
+                if seen.has(Dot { site: *site, n: *n }) {
                     *self = Held::Nothing;
                 }
             }

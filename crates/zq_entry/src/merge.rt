@@ -60,8 +60,8 @@ fn join(
     theirs: &Vector,
     their_addition: Option<&AdditionRef<'_>>,
 ) -> Result<Option<Addition>, AllocError>
-    requires mine { IfSome my_addition (λ a. (a.now.dot.site ≡ site) × AreSums a.now.sums.now) }
-    requires theirs { IfSome their_addition (λ a. (a.now.dot.site ≡ site) × AreSums a.now.sums.now) }
+    requires mine { IfSome my_addition (λ a. (a.now.dot.site ≡ site) × AreSums a.now.sums) }
+    requires theirs { IfSome their_addition (λ a. (a.now.dot.site ≡ site) × AreSums a.now.sums) }
     ensures { IfOk result (λ new. new ≡ option_map (λ a. (site, a)) (join_site mine.now theirs.now site (option_map (λ a. (lent a.now).1) my_addition.entry) (option_map (λ a. (lent a.now).1) their_addition.entry))) }
 {
     if let (Some(first), Some(second)) = (my_addition, their_addition) {

@@ -1,6 +1,7 @@
 //! Sums of increments by site.
 
-ghost use Rattle.std.specs.Prelude.{◌≡◌, ◌++◌, ◌*◌, ◌-◌, ◌≤◌, ◌+ℤ◌, IfOk, pos, slice_index_or, unwrap_or};
+ghost use Rattle.std.specs.Int.NonZero.{non_zero_i64_get};
+ghost use Rattle.std.specs.Prelude.{◌≡◌, ◌++◌, ◌∷◌, [], ◌*◌, ◌-◌, ◌≤◌, ◌+ℤ◌, IfOk, IfSome, pos, slice_index_or, unwrap_or};
 ghost use Rattle.zq_model.specs.Entry.{sums_joined};
 ghost use Rattle.zq_model.specs.Operation.{IsWithin, MOST};
 ghost use Rattle.zq_model.specs.Score.{total};
@@ -11,6 +12,7 @@ ghost use Rattle.zq_entry.specs.Sums.{AreSums, MOST_SUM, dense_sums, nonzero_sum
 use crate::lower::lower_site;
 use std::alloc::{AllocError, Global};
 use std::marker::Model;
+use std::num::NonZeroI64;
 use zq_dots::{Dot, Score, SiteNo, Vector};
 
 /// Where sums lie: one alone, which is what nearly all have that have any, takes no memory of its own.
@@ -65,6 +67,25 @@ impl Sums {
             _ => Kept::Many(Vec::from_slice(alloc, items)?),
         };
         Ok(Sums { kept })
+    }
+
+    /// This sum of a site alone.
+    pub fn one(site: SiteNo, sum: NonZeroI64) -> Sums
+        ensures { result ≡ dense_sums ((site, non_zero_i64_get sum) ∷ []) }
+    {
+        Sums {
+            kept: Kept::One([(site, i128::from(sum.get()))]),
+        }
+    }
+
+    /// The only sum with its site, where there is one alone and an `i64` holds it.
+    pub fn only(&self) -> Option<(SiteNo, NonZeroI64)>
+        ensures { IfSome result (λ only. self.now ≡ dense_sums ((only.0, non_zero_i64_get only.1) ∷ [])) }
+    {
+        match self.as_slice() {
+            [(site, sum)] => Some((*site, NonZeroI64::new(i64::try_from(*sum).ok()?)?)),
+            _ => None,
+        }
     }
 
     /// One site's sum alone, and none where it is 0.

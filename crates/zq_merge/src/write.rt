@@ -56,13 +56,13 @@ fn write_additions(out: &mut Vec<u8>, entry: &Entry) -> Result<(), AllocError>
 /// Appends the site, the counter, the score and the sums that are not 0.
 #[tactic(auto, unfolding(crate::specs::Spelling::addition_bytes))]
 fn write_addition(out: &mut Vec<u8>, addition: &AdditionRef<'_>) -> Result<(), AllocError>
-    requires { AreSums addition.now.sums.now }
+    requires { AreSums addition.now.sums }
     ensures { OnOk result (out.new.items ≡ out.old.items ++ spell.addition_bytes version.Three (lent addition.now)) }
 {
     write_byte(out, addition.dot.site.value())?;
     write_u64(out, addition.dot.n)?;
     write_score(out, addition.score)?;
-    write_sums(out, addition.sums)?;
+    write_sums(out, addition.sums.as_slice())?;
     Ok(())
 }
 

@@ -12,22 +12,22 @@ use Rattle.std.proofs.lemmas.Map.Entries.{length-values_of}
 use Rattle.zq_posheap.proofs.Dropped.{IsCut, dropped, dropped_queue, end_cut, moved_within, told_cut}
 use Rattle.zq_posheap.proofs.Linked.{index_within, slot, slot_there}
 use Rattle.zq_posheap.proofs.Lists.{slice_get-set_same, slice_get-take, there_is}
-use Rattle.zq_posheap.proofs.Removal.{other_seen, other_texts, seen_here, seen_left, text_here}
+use Rattle.zq_posheap.proofs.Removal.{entry_here, other_entries, other_seen, seen_here, seen_left}
 use Rattle.zq_posheap.specs.Links.{IsLinked}
-use Rattle.zq_posheap.specs.Moves.{shown}
-use Rattle.zq_posheap.specs.Order.{Scored, same_key, scored_slots}
+use Rattle.zq_posheap.specs.Moves.{pairs_of, shown}
+use Rattle.zq_posheap.specs.Order.{Scored, near, nobody, same_key, scored_slots}
 use Rattle.zq_posheap.specs.declared.heap.Held.{Held}
 use Rattle.zq_posheap.specs.declared.heap.Slot.{Slot}
 
--- the score of each member
-abbrev pub scores : {V : Type 0} → List (List ℕ × Held V) → List ℤ
-scores es = map (λ w. w.score) (values_of es)
+-- what is near the score of each member
+abbrev pub nears : {V : Type 0} → List (List ℕ × Held V) → List ℤ
+nears es = map (λ w. near w.score) (values_of es)
 
--- a score for each entry
-pub many : {V : Type 0} (es : List (List ℕ × Held V)) → length (scores es) ≡ length es
-many es = length-map (values_of es) (λ w. w.score) ∙ length-values_of es
+-- one for each entry
+pub many : {V : Type 0} (es : List (List ℕ × Held V)) → length (nears es) ≡ length es
+many es = length-map (values_of es) (λ w. near w.score) ∙ length-values_of es
 
-module _ {V : Type 0} (slots slots' : List Slot) (positions positions' : List ℕ) (es es' : List (List ℕ × Held V)) (linked : IsLinked slots positions (scores es)) (f : Slot)
+module _ {V : Type 0} (slots slots' : List Slot) (positions positions' : List ℕ) (es es' : List (List ℕ × Held V)) (linked : IsLinked slots positions (nears es)) (f : Slot)
     (last : slice_get slots (length slots - 1) ≡ Some f) (rest : slots' ≡ take (length slots - 1) slots)
     (r : Option (List ℕ × Held V)) (entry : r ≡ slice_get es f.index) (entries : IfSome r (λ p. es' ≡ swap_remove es f.index p)) where
   long : (length slots - 1) + 1 ≡ length slots
@@ -41,10 +41,10 @@ module _ {V : Type 0} (slots slots' : List Slot) (positions positions' : List �
 
   -- the index of the last place is that of an entry
   pub within : f.index < (length slots - 1) + 1
-  within = omega (arith, index_within slots positions (scores es) linked (length slots - 1) f last, positions_long)
+  within = omega (arith, index_within slots positions (nears es) linked (length slots - 1) f last, positions_long)
 
-  left : length (scores es') ≡ length slots - 1
-  left = seen_left es es' f.index (length slots - 1) r es_long within entry entries (λ w. w.score)
+  left : length (nears es') ≡ length slots - 1
+  left = seen_left es es' f.index (length slots - 1) r es_long within entry entries (λ w. near w.score)
 
   -- the entry that goes is there
   gone_there : (e : List ℕ × Held V) × (slice_get es f.index ≡ Some e)
@@ -65,26 +65,26 @@ module _ {V : Type 0} (slots slots' : List Slot) (positions positions' : List �
         told ∙ (λ k. take (end k) (slice_set positions f.index (at_end k)))
 
     -- heap and map still know each other
-    pub still_linked : (slots'' : List Slot) → IsCut slots slots'' (length slots - 1) f.index moved.0 → IsLinked slots'' positions' (scores es')
+    pub still_linked : (slots'' : List Slot) → IsCut slots slots'' (length slots - 1) f.index moved.0 → IsLinked slots'' positions' (nears es')
     still_linked slots'' cut =
-        dropped slots positions (scores es) linked (length slots - 1) f.index moved.0 f.score long last moved.1 slots'' cut positions' (scores es') told_is left
-        (other_seen es es' f.index (length slots - 1) r es_long within entry entries (λ w. w.score))
-        (seen_here es es' f.index (length slots - 1) r es_long within entry entries (λ w. w.score))
+        dropped slots positions (nears es) linked (length slots - 1) f.index moved.0 f.near long last moved.1 slots'' cut positions' (nears es') told_is left
+        (other_seen es es' f.index (length slots - 1) r es_long within entry entries (λ w. near w.score))
+        (seen_here es es' f.index (length slots - 1) r es_long within entry entries (λ w. near w.score))
 
     -- and at each place that stays stands what stood there
     pub still_queued : (slots'' : List Slot) → IsCut slots slots'' (length slots - 1) f.index moved.0 → (m : ℕ) (d : Scored) → m < length slots'' →
-        get_or (scored_slots (keys_of es') slots'') m d ≡ get_or (scored_slots (keys_of es) slots) m d
+        get_or (scored_slots (pairs_of es') slots'') m d ≡ get_or (scored_slots (pairs_of es) slots) m d
     still_queued slots'' cut m d inside =
-        dropped_queue slots positions (scores es) linked (length slots - 1) f.index moved.0 f.score long last moved.1 slots'' cut (keys_of es) (keys_of es')
-        (other_texts es es' f.index (length slots - 1) r es_long within entry entries)
-        (text_here es es' f.index (length slots - 1) r es_long within entry entries) m d (omega (arith, inside, cut.one_less))
+        dropped_queue slots positions (nears es) linked (length slots - 1) f.index moved.0 f.near long last moved.1 slots'' cut (pairs_of es) (pairs_of es')
+        (other_entries es es' f.index (length slots - 1) r es_long within entry entries (λ e. (e.1.score, e.0)) nobody)
+        (entry_here es es' f.index (length slots - 1) r es_long within entry entries (λ e. (e.1.score, e.0)) nobody) m d (omega (arith, inside, cut.one_less))
 
     -- where the last place had the last entry
     pub at_the_end : length slots - 1 ≤ f.index → IsCut slots slots' (length slots - 1) f.index moved.0
     at_the_end past =
         let same : length slots - 1 ≡ f.index = omega (arith, past, within) in
         subst (λ xs. IsCut slots xs (length slots - 1) f.index moved.0) (sym rest)
-        (end_cut slots positions (scores es) linked (length slots - 1) f.index moved.0 f.score long last moved.1 same)
+        (end_cut slots positions (nears es) linked (length slots - 1) f.index moved.0 f.near long last moved.1 same)
 
     -- and where the last entry came to another index, at which its position stands
     module _ (inside : f.index < length slots - 1) (p : ℕ) (at_index : slice_get positions' f.index ≡ Some p) where
@@ -93,21 +93,21 @@ module _ {V : Type 0} (slots slots' : List Slot) (positions positions' : List �
           ∙ slice_get-take (length slots - 1) (slice_set positions f.index moved.0) f.index inside
           ∙ slice_get-set_same positions f.index moved.0 (omega (arith, within, positions_long)))
 
-      pub score_there : (t : ℤ) × (slice_get (scores es) (length slots - 1) ≡ Some t)
-      score_there = there_is (scores es) (length slots - 1) (omega (arith, es_long, many es))
+      pub near_there : (t : ℤ) × (slice_get (nears es) (length slots - 1) ≡ Some t)
+      near_there = there_is (nears es) (length slots - 1) (omega (arith, es_long, many es))
 
       place_within : moved.0 < length slots - 1
-      place_within = moved_within slots positions (scores es) linked (length slots - 1) f.index moved.0 f.score long last moved.1 inside score_there.0 score_there.1
+      place_within = moved_within slots positions (nears es) linked (length slots - 1) f.index moved.0 f.near long last moved.1 inside near_there.0 near_there.1
 
-      pub moved_there : slice_get slots' p ≡ Some (slot score_there.0 (length slots - 1))
+      pub moved_there : slice_get slots' p ≡ Some (slot near_there.0 (length slots - 1))
       moved_there = ap (slice_get slots') same_place ∙ ap (λ xs. slice_get xs moved.0) rest ∙ slice_get-take (length slots - 1) slots moved.0 place_within
-          ∙ slot_there slots positions (scores es) linked (length slots - 1) moved.0 score_there.0 moved.1 score_there.1
+          ∙ slot_there slots positions (nears es) linked (length slots - 1) moved.0 near_there.0 moved.1 near_there.1
 
-      pub at_its_place : (x : Slot) → slice_get slots' p ≡ Some x → IsCut slots (slice_set slots' p (slot x.score f.index)) (length slots - 1) f.index moved.0
+      pub at_its_place : (x : Slot) → slice_get slots' p ≡ Some x → IsCut slots (slice_set slots' p (slot x.near f.index)) (length slots - 1) f.index moved.0
       at_its_place x here =
-          let same_score : x.score ≡ score_there.0 = ap (λ s. s.score) (same_Some _ _ (sym here ∙ moved_there)) in
-          subst (λ xs. IsCut slots xs (length slots - 1) f.index moved.0) (λ k. slice_set (sym rest k) (sym same_place k) (slot (sym same_score k) f.index))
-          (told_cut slots positions (scores es) linked (length slots - 1) f.index moved.0 f.score long last moved.1 inside score_there.0 score_there.1)
+          let same_near : x.near ≡ near_there.0 = ap (λ s. s.near) (same_Some _ _ (sym here ∙ moved_there)) in
+          subst (λ xs. IsCut slots xs (length slots - 1) f.index moved.0) (λ k. slice_set (sym rest k) (sym same_place k) (slot (sym same_near k) f.index))
+          (told_cut slots positions (nears es) linked (length slots - 1) f.index moved.0 f.near long last moved.1 inside near_there.0 near_there.1)
 
 -- the member of the last place is no more among what is seen
 pub removed_last : {V S : Type 0} (m m' : IndexMap (List ℕ) (Held V) S) (f : Slot) → f.index < length m.entries →

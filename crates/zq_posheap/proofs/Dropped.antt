@@ -1,5 +1,5 @@
 -- What stands once the last place is gone, and its member's entry, in whose place the map's last entry came.
-use Rattle.std.specs.Prelude.{List, Some, [], length, get_or, slice_get, slice_set, take, ℕ, ℤ, ◌+◌, ◌<◌, ◌≡◌, ◌≢◌, ◌⊎◌}
+use Rattle.std.specs.Prelude.{List, Some, length, get_or, slice_get, slice_set, take, ℕ, ℤ, ◌+◌, ◌<◌, ◌≡◌, ◌≢◌, ◌⊎◌}
 use Rattle.std.proofs.Common.{ap, arith, inl, inr, subst, sym, ◌∙◌}
 use Rattle.std.proofs.Math.Seq.{take-set-lt}
 use Rattle.std.proofs.lemmas.Bool.{cases_eq}
@@ -10,12 +10,12 @@ use Rattle.zq_posheap.proofs.Linked.{index_there, index_within, indices-set, one
 use Rattle.zq_posheap.proofs.Lists.{slice_get-set_other, slice_get-set_same, slice_get-take, there_is}
 use Rattle.zq_posheap.proofs.Scored.{scored_there}
 use Rattle.zq_posheap.specs.Links.{IsLinked, indices}
-use Rattle.zq_posheap.specs.Order.{Scored, scored_slots}
+use Rattle.zq_posheap.specs.Order.{Scored, nobody, scored_slots}
 use Rattle.zq_posheap.specs.declared.heap.Slot.{Slot}
 
 -- with the entry at i gone, and that at n come there: x' is the slot x, and of the member at n told of the index i
 pub record Carries (n i : ℕ) (x x' : Slot) : Type 0 where
-  pub score : x'.score ≡ x.score
+  pub near : x'.near ≡ x.near
   pub index : ((x'.index ≡ x.index) × ((x.index ≢ i) × (x.index < n))) ⊎ ((x'.index ≡ i) × ((x.index ≡ n) × (i < n)))
 
 -- what is seen of a member at its slot's index stays
@@ -31,7 +31,7 @@ pub record IsCut (slots slots' : List Slot) (n i q : ℕ) : Type 0 where
   pub indices_are : indices slots' ≡ take n (slice_set (indices slots) q i)
   pub carries : (p : ℕ) → p < n → (x : Slot) → slice_get slots p ≡ Some x → (x' : Slot) × ((slice_get slots' p ≡ Some x') × Carries n i x x')
 
-module _ (slots : List Slot) (positions : List ℕ) (scores : List ℤ) (linked : IsLinked slots positions scores) (n i q : ℕ) (s : ℤ) (long : n + 1 ≡ length slots)
+module _ (slots : List Slot) (positions : List ℕ) (nears : List ℤ) (linked : IsLinked slots positions nears) (n i q : ℕ) (s : ℤ) (long : n + 1 ≡ length slots)
     (last : slice_get slots n ≡ Some (slot s i)) (moved : slice_get positions n ≡ Some q) where
   many : length slots ≡ length positions
   many = sym (length-map slots (λ x. x.index)) ∙ linked.placed.one_length
@@ -40,14 +40,14 @@ module _ (slots : List Slot) (positions : List ℕ) (scores : List ℤ) (linked 
   cut_long = length-take-le n slots (omega arith)
 
   at_i : slice_get positions i ≡ Some n
-  at_i = position_there slots positions scores linked n (slot s i) last
+  at_i = position_there slots positions nears linked n (slot s i) last
 
   -- the member of a place that stays is not the one that goes
   stays_apart : (p : ℕ) (x : Slot) → p < n → slice_get slots p ≡ Some x → x.index ≢ i
-  stays_apart p x within here e = let gone : p ≡ n = one_slot slots positions scores linked p n x (slot s i) here last e in omega (arith, gone, within)
+  stays_apart p x within here e = let gone : p ≡ n = one_slot slots positions nears linked p n x (slot s i) here last e in omega (arith, gone, within)
 
   known_within : (p : ℕ) (x : Slot) → slice_get slots p ≡ Some x → x.index < n + 1
-  known_within p x here = omega (arith, index_within slots positions scores linked p x here, many, long)
+  known_within p x here = omega (arith, index_within slots positions nears linked p x here, many, long)
 
   -- where the last place had the last entry
   pub end_cut : n ≡ i → IsCut slots (take n slots) n i q
@@ -61,14 +61,14 @@ module _ (slots : List Slot) (positions : List ℕ) (scores : List ℤ) (linked 
               x,
               (
                 slice_get-take n slots p within ∙ here,
-                record { score = λ k. x.score; index = inl ((λ k. x.index), (apart, omega (arith, known_within p x here, apart, same))) },
+                record { near = λ k. x.near; index = inl ((λ k. x.index), (apart, omega (arith, known_within p x here, apart, same))) },
               ),
             );
       }
 
-  module _ (inside : i < n) (t : ℤ) (score : slice_get scores n ≡ Some t) where
+  module _ (inside : i < n) (t : ℤ) (near : slice_get nears n ≡ Some t) where
     there : slice_get slots q ≡ Some (slot t n)
-    there = slot_there slots positions scores linked n q t moved score
+    there = slot_there slots positions nears linked n q t moved near
 
     pub moved_within : q < n
     moved_within =
@@ -88,16 +88,16 @@ module _ (slots : List Slot) (positions : List ℕ) (scores : List ℤ) (linked 
                   slot t i,
                   (
                     ap (slice_get (slice_set (take n slots) q (slot t i))) e ∙ slice_get-set_same (take n slots) q (slot t i) (omega (arith, moved_within, cut_long)),
-                    record { score = sym (ap (λ y. y.score) same); index = inr ((λ k. i), (ap (λ y. y.index) same, inside)) },
+                    record { near = sym (ap (λ y. y.near) same); index = inr ((λ k. i), (ap (λ y. y.index) same, inside)) },
                   ),
                 )
             | inr apart ↦
                 let other = stays_apart p x within here in
-                let not_last : x.index ≢ n = λ e. apart (one_slot slots positions scores linked p q x (slot t n) here there e) in (
+                let not_last : x.index ≢ n = λ e. apart (one_slot slots positions nears linked p q x (slot t n) here there e) in (
                   x,
                   (
                     slice_get-set_other (take n slots) q p _ apart ∙ slice_get-take n slots p within ∙ here,
-                    record { score = λ k. x.score; index = inl ((λ k. x.index), (other, omega (arith, known_within p x here, not_last))) },
+                    record { near = λ k. x.near; index = inl ((λ k. x.index), (other, omega (arith, known_within p x here, not_last))) },
                   ),
                 )
           ];
@@ -105,26 +105,27 @@ module _ (slots : List Slot) (positions : List ℕ) (scores : List ℤ) (linked 
 
   module _ (slots' : List Slot) (cut : IsCut slots slots' n i q) where
     -- heap and map still know each other
-    pub dropped : (positions' : List ℕ) (scores' : List ℤ) → positions' ≡ take n (slice_set positions i q) → length scores' ≡ n →
-        ((j : ℕ) → j ≢ i → j < n → slice_get scores' j ≡ slice_get scores j) → (i < n → slice_get scores' i ≡ slice_get scores n) → IsLinked slots' positions' scores'
-    dropped positions' scores' told left others here = record {
+    pub dropped : (positions' : List ℕ) (nears' : List ℤ) → positions' ≡ take n (slice_set positions i q) → length nears' ≡ n →
+        ((j : ℕ) → j ≢ i → j < n → slice_get nears' j ≡ slice_get nears j) → (i < n → slice_get nears' i ≡ slice_get nears n) → IsLinked slots' positions' nears'
+    dropped positions' nears' told left others here = record {
       placed = rw (cut.indices_are, told)
           (inverses.dropped (indices slots) positions linked.placed n i q (long ∙ sym (length-map slots (λ x. x.index))) (index_there slots n (slot s i) last) moved);
       as_many = ap length told ∙ length-take-le n _ (omega (arith, length-set positions i q, many, long)) ∙ sym left;
-      scored = λ p x' is.
+      near = λ p x' is.
           let within : p < n = omega (arith, slice_get_within slots' p x' is, cut.one_less) in
           let x = there_is slots p (omega (arith, within, long)) in
           let kept = cut.carries p within x.0 x.1 in
           let same : kept.0 ≡ x' = same_Some _ _ (sym kept.1.0 ∙ is) in
           let carries = subst (Carries n i x.0) same kept.1.1 in
-          seen_alike (slice_get scores) (slice_get scores') n i others here x.0 x' carries ∙ linked.scored p x.0 x.1 ∙ ap (λ y. Some y) (sym carries.score);
+          seen_alike (slice_get nears) (slice_get nears') n i others here x.0 x' carries ∙ linked.near p x.0 x.1 ∙ ap (λ y. Some y) (sym carries.near);
     }
 
     -- and at each place that stays stands what stood there
-    pub dropped_queue : (members members' : List (List ℕ)) → ((j : ℕ) → j ≢ i → j < n → get_or members' j [] ≡ get_or members j []) →
-        (i < n → get_or members' i [] ≡ get_or members n []) → (m : ℕ) (d : Scored) → m < n → get_or (scored_slots members' slots') m d ≡ get_or (scored_slots members slots) m d
-    dropped_queue members members' others here m d within =
+    pub dropped_queue : (pairs pairs' : List Scored) → ((j : ℕ) → j ≢ i → j < n → get_or pairs' j nobody ≡ get_or pairs j nobody) →
+        (i < n → get_or pairs' i nobody ≡ get_or pairs n nobody) → (m : ℕ) (d : Scored) → m < n → get_or (scored_slots pairs' slots') m d ≡ get_or (scored_slots pairs slots) m d
+    dropped_queue pairs pairs' others here m d within =
         let x = there_is slots m (omega (arith, within, long)) in
         let kept = cut.carries m within x.0 x.1 in
-        let member = seen_alike (λ j. get_or members j []) (λ j. get_or members' j []) n i others here x.0 kept.0 kept.1.1 in
-        scored_there members' slots' m kept.0 d kept.1.0 ∙ (λ k. (kept.1.1.score k, member k)) ∙ sym (scored_there members slots m x.0 d x.1)
+        scored_there pairs' slots' m kept.0 d kept.1.0
+        ∙ seen_alike (λ j. get_or pairs j nobody) (λ j. get_or pairs' j nobody) n i others here x.0 kept.0 kept.1.1
+        ∙ sym (scored_there pairs slots m x.0 d x.1)

@@ -10,6 +10,7 @@ pub mod Entries
 pub mod Dropped
 pub mod Removal
 pub mod Told
+pub mod Nearest
 pub mod Holes
 pub mod DropLast
 pub mod Results

@@ -67,6 +67,12 @@ pub map_agree : {X Y : Type 0} (f g : X → Y) (xs : List X) → ((i : ℕ) (x :
 map_agree f g [] agree = refl
 map_agree f g (x ∷ xs) agree = λ k. agree zero x refl k ∷ map_agree f g xs (λ i y at. agree (suc i) y at) k
 
+-- and where they agree on each other element, once one is written
+pub set_agree : {X Y : Type 0} (f g : X → Y) (xs : List X) (i : ℕ) (z : Y) → ((j : ℕ) (x : X) → slice_get xs j ≡ Some x → j ≢ i → f x ≡ g x) → slice_set (map f xs) i z ≡ slice_set (map g xs) i z
+set_agree f g [] i z agree = refl
+set_agree f g (x ∷ xs) zero z agree = ap (λ ys. z ∷ ys) (map_agree f g xs (λ j y at. agree (suc j) y at (λ e. omega (arith, e))))
+set_agree f g (x ∷ xs) (suc i) z agree = λ k. agree zero x refl (λ e. omega (arith, e)) k ∷ set_agree f g xs i z (λ j y at apart. agree (suc j) y at (λ e. apart (omega (arith, e)))) k
+
 -- what stands at an index
 pub there_is : {X : Type 0} (xs : List X) (i : ℕ) → i < length xs → (x : X) × (slice_get xs i ≡ Some x)
 there_is [] i within = absurd (omega arith)

@@ -5,13 +5,13 @@ use Rattle.zq_posheap.specs.Whole.{entries_map}
 use Rattle.std.proofs.Common.{refl, ◌∙◌}
 use Rattle.std.proofs.lemmas.List.{length-map}
 use Rattle.indexmap.specs.IndexMap.{keys, values}
-use Rattle.zq_posheap.specs.Moves.{KeepsMembers, queue_of, shown}
+use Rattle.zq_posheap.specs.Moves.{KeepsMembers, pairs_in, queue_of, shown}
 use Rattle.zq_posheap.specs.Order.{scored_at}
 use Rattle.zq_posheap.specs.declared.heap.Heap.{Heap}
 
 module _ {V : Type 0} where
   pub long : (heap : Heap V) → length (queue_of heap) ≡ length heap.slots.items
-  long heap = length-map heap.slots.items (scored_at (keys heap.members))
+  long heap = length-map heap.slots.items (scored_at (pairs_in heap))
 
   pub stays : (heap : Heap V) → KeepsMembers heap heap
   stays heap = record { members = refl; len = refl; room = refl }

@@ -1,9 +1,9 @@
 -- The map's entries without one, in whose place the last came.
-use Rattle.std.specs.Prelude.{IfSome, List, Option, Some, [], get_or, length, map, option_map, slice_get, swap_remove, ℕ, ◌+◌, ◌-◌, ◌<◌, ◌≡◌, ◌≢◌}
+use Rattle.std.specs.Prelude.{IfSome, List, Option, Some, get_or, length, map, option_map, slice_get, swap_remove, ℕ, ◌+◌, ◌-◌, ◌<◌, ◌≡◌, ◌≢◌}
 use Rattle.std.proofs.Common.{ap, arith, subst, sym, ◌∙◌}
 use Rattle.std.proofs.lemmas.List.{length-map, length-set, length-take-le}
 use Rattle.std.proofs.lemmas.Option.{slice_get-map}
-use Rattle.std.specs.Map.{keys_of, values_of}
+use Rattle.std.specs.Map.{values_of}
 use Rattle.zq_posheap.proofs.Lists.{get_or_same, swap_remove_here, swap_remove_other, there_is}
 
 module _ {W : Type 0} (es es' : List (List ℕ × W)) (i n : ℕ) (r : Option (List ℕ × W)) (long : length es ≡ n + 1) (within : i < n + 1)
@@ -44,13 +44,13 @@ module _ {W : Type 0} (es es' : List (List ℕ × W)) (i n : ℕ) (r : Option (L
     pub seen_here : i < n → slice_get (map f (values_of es')) i ≡ slice_get (map f (values_of es)) n
     seen_here inside = same_seen i n (here inside)
 
-  text_map : (fs : List (List ℕ × W)) (j : ℕ) → slice_get (keys_of fs) j ≡ option_map (λ e. e.0) (slice_get fs j)
-  text_map fs j = slice_get-map (λ e. e.0) fs j
+  -- what is seen of the entries that stay
+  module _ {Y : Type 0} (f : List ℕ × W → Y) (d : Y) where
+    same_entry : (j k : ℕ) → slice_get es' j ≡ slice_get es k → get_or (map f es') j d ≡ get_or (map f es) k d
+    same_entry j k same = get_or_same _ _ j k d (slice_get-map f es' j ∙ ap (option_map f) same ∙ sym (slice_get-map f es k))
 
-  pub other_texts : (j : ℕ) → j ≢ i → j < n → get_or (keys_of es') j [] ≡ get_or (keys_of es) j []
-  other_texts j apart inside = get_or_same _ _ j j []
-      (text_map es' j ∙ ap (option_map (λ e. e.0)) (others j apart inside) ∙ sym (text_map es j))
+    pub other_entries : (j : ℕ) → j ≢ i → j < n → get_or (map f es') j d ≡ get_or (map f es) j d
+    other_entries j apart inside = same_entry j j (others j apart inside)
 
-  pub text_here : i < n → get_or (keys_of es') i [] ≡ get_or (keys_of es) n []
-  text_here inside = get_or_same _ _ i n []
-      (text_map es' i ∙ ap (option_map (λ e. e.0)) (here inside) ∙ sym (text_map es n))
+    pub entry_here : i < n → get_or (map f es') i d ≡ get_or (map f es) n d
+    entry_here inside = same_entry i n (here inside)

@@ -4,29 +4,30 @@ use Rattle.std.specs.Prelude.{List, [], ◌++◌, ◌∷◌, length, map, slice_
 use Rattle.std.proofs.Common.{ap, arith, ◌∙◌}
 use Rattle.std.proofs.lemmas.List.{length-map, map-append, map-set}
 use Rattle.std.proofs.lemmas.Map.Entries.{length-values_of}
+use Rattle.std.proofs.lemmas.Option.{slice_get_within}
 use Rattle.indexmap.specs.IndexMap.{IndexMap, index_map_len, values, with_value_at}
-use Rattle.zq_posheap.proofs.Linked.{index_within}
 use Rattle.zq_posheap.proofs.Lists.{set_value_at-values}
-use Rattle.zq_posheap.specs.Moves.{AreKnown, IsLinkedHeap, scores_in}
+use Rattle.zq_posheap.specs.Moves.{IsKnown, IsLinkedHeap, nears_in}
+use Rattle.zq_posheap.specs.Order.{near}
 use Rattle.zq_posheap.specs.declared.heap.Heap.{Heap}
 use Rattle.zq_posheap.specs.declared.heap.Held.{Held}
+use Rattle.zq_posheap.specs.declared.heap.Slot.{Slot}
 
--- as many scores as members
-pub scores_long : {V : Type 0} (heap : Heap V) → length (scores_in heap) ≡ index_map_len heap.members
-scores_long heap = length-map (values heap.members) (λ w. w.score) ∙ length-values_of heap.members.entries
+-- as many nears as members
+pub nears_long : {V : Type 0} (heap : Heap V) → length (nears_in heap) ≡ index_map_len heap.members
+nears_long heap = length-map (values heap.members) (λ w. near w.score) ∙ length-values_of heap.members.entries
 
 -- and as many places, where heap and map know each other
 pub places_long : {V : Type 0} (heap : Heap V) → IsLinkedHeap heap → length heap.slots.items ≡ index_map_len heap.members
-places_long heap linked = omega (arith, scores_long heap, linked.as_many, linked.placed.one_length, length-map heap.slots.items (λ s. s.index))
+places_long heap linked = omega (arith, nears_long heap, linked.as_many, linked.placed.one_length, length-map heap.slots.items (λ s. s.index))
 
--- then each slot's index is in the map
-pub known : {V : Type 0} (heap : Heap V) → IsLinkedHeap heap → AreKnown heap
-known heap linked p s here =
-    omega (arith, index_within heap.slots.items heap.positions.items (scores_in heap) linked p s here, linked.as_many, scores_long heap)
+-- the index of a slot that is known is in the map
+pub known_within : {V : Type 0} (heap : Heap V) (s : Slot) → IsKnown heap s → s.index < index_map_len heap.members
+known_within heap s known = omega (arith, slice_get_within (nears_in heap) s.index s.near known, nears_long heap)
 
--- and each index of the map has a position
+-- where heap and map know each other, each index of the map has a position
 pub index_placed : {V : Type 0} (heap : Heap V) → IsLinkedHeap heap → (i : ℕ) → i < index_map_len heap.members → i < length heap.positions.items
-index_placed heap linked i within = omega (arith, within, linked.as_many, scores_long heap)
+index_placed heap linked i within = omega (arith, within, linked.as_many, nears_long heap)
 
 -- what is seen of the members after a write at an index
 pub written_seen : {W Y S : Type 0} (f : W → Y) (m n : IndexMap (List ℕ) W S) (i : ℕ) (w : W) → n ≡ with_value_at m i w → map f (values n) ≡ slice_set (map f (values m)) i (f w)

@@ -5,23 +5,24 @@ use Rattle.std.proofs.ByRecursion.{All-get_or}
 use Rattle.std.proofs.HeapSift.{greatest}
 use Rattle.std.proofs.lemmas.List.{length-map}
 use Rattle.std.proofs.lemmas.Map.Entries.{place_from_lookup}
-use Rattle.std.proofs.lemmas.Option.{same_Some, slice_get_within}
+use Rattle.std.proofs.lemmas.Option.{slice_get_within}
 use Rattle.std.specs.BinaryHeap.{IsHeap, lt_by_cmp}
 use Rattle.std.specs.FinMap.{IsAntisymmetric, get, int_cmp-IsAntisymmetric}
-use Rattle.std.specs.Map.{keys_of, lookup, values_of}
+use Rattle.std.specs.Map.{lookup}
 use Rattle.std.specs.Ordering.{int_cmp, is_lt, nat_cmp, ordering_reverse, ordering_then}
 use Rattle.std.specs.Cmp.Lexicographic.{same_text, slice_cmp}
 use Rattle.std.specs.declared.cmp.Ordering.TheVariants.{Equal, Greater, Less}
-use Rattle.zq_posheap.proofs.DropLast.{scores}
+use Rattle.zq_posheap.proofs.DropLast.{many, nears}
 use Rattle.zq_posheap.proofs.Entries.{bytes_antisymmetric, get-seen, has_text, seen_in, seen_is}
-use Rattle.zq_posheap.proofs.Linked.{slot_there}
-use Rattle.zq_posheap.proofs.Lists.{mapped_at, option_map_some, there_is}
+use Rattle.zq_posheap.proofs.Linked.{slot_at}
+use Rattle.zq_posheap.proofs.Lists.{option_map_some, there_is}
 use Rattle.zq_posheap.proofs.Ordered.{scored_total, turned_total}
-use Rattle.zq_posheap.proofs.Scored.{scored_there, text_there}
+use Rattle.zq_posheap.proofs.Scored.{pair_there, scored_there}
 use Rattle.zq_posheap.specs.First.{IsFirst}
-use Rattle.zq_posheap.specs.Order.{Scored, scored_at, scored_cmp, scored_slots, turned_cmp}
+use Rattle.zq_posheap.specs.Order.{Scored, nobody, scored_at, scored_cmp, scored_slots, turned_cmp}
 use Rattle.zq_posheap.specs.Links.{IsLinked}
 use Rattle.zq_posheap.specs.Members.{Scores}
+use Rattle.zq_posheap.specs.Moves.{pairs_of}
 use Rattle.zq_posheap.specs.declared.heap.Held.{Held}
 use Rattle.zq_posheap.specs.declared.heap.Slot.{Slot}
 
@@ -47,33 +48,31 @@ before x y after apart =
 pub same_first : (m : Scores) (x y : ℤ) (a b : List ℕ) → x ≡ y → a ≡ b → IsFirst m (x, a) → IsFirst m (y, b)
 same_first m x y a b q r first = subst (λ (t : ℤ × List ℕ). IsFirst m (t.0, t.1)) (λ k. (q k, r k)) first
 
-module _ {V : Type 0} (es : List (List ℕ × Held V)) (slots : List Slot) (positions : List ℕ) (linked : IsLinked slots positions (scores es))
-    (ordered : IsHeap turned_cmp (scored_slots (keys_of es) slots)) where
+module _ {V : Type 0} (es : List (List ℕ × Held V)) (slots : List Slot) (positions : List ℕ) (linked : IsLinked slots positions (nears es))
+    (ordered : IsHeap turned_cmp (scored_slots (pairs_of es) slots)) where
   -- a pair that the scores have stands at a place
-  pub stands : (pair : Scored) → get (seen_in (λ v. v.score) es) pair.1 ≡ Some pair.0 → (p : ℕ) × (x : Slot) × (slice_get slots p ≡ Some x) × (scored_at (keys_of es) x ≡ pair)
+  pub stands : (pair : Scored) → get (seen_in (λ v. v.score) es) pair.1 ≡ Some pair.0 → (p : ℕ) × (x : Slot) × (slice_get slots p ≡ Some x) × (scored_at (pairs_of es) x ≡ pair)
   stands pair has =
       let w = option_map_some (λ v. v.score) (lookup (has_text pair.1) es) pair.0 (sym (get-seen (λ v. v.score) es pair.1) ∙ has) in
       let e = place_from_lookup (has_text pair.1) es w.0 w.1 in
-      let score = mapped_at (λ v. v.score) (values_of es) e.0 w.0 (mapped_at (λ x. x.1) es e.0 (e.1, w.0) e.2) in
-      let p = there_is positions e.0 (omega (arith, slice_get_within (scores es) e.0 w.0.score score, linked.as_many)) in
-      let here = slot_there slots positions (scores es) linked e.0 p.0 w.0.score p.1 score in
-      (p.0, _, here, λ k. (w.2 k, (sym (text_there es e.0 e.1 w.0 e.2) ∙ sym (same_text pair.1 e.1 (sym e.3))) k))
+      let p = there_is positions e.0 (omega (arith, slice_get_within es e.0 (e.1, w.0) e.2, many es, linked.as_many)) in
+      let x = slot_at slots positions (nears es) linked e.0 p.0 p.1 in
+      let is = ap (λ i. get_or (pairs_of es) i nobody) x.2 ∙ pair_there es e.0 (e.1, w.0) e.2 in
+      (p.0, x.0, x.1, is ∙ (λ k. (w.2 k, sym (same_text pair.1 e.1 (sym e.3)) k)))
 
   pub first_is : (first : Slot) (key : List ℕ) (w : Held V) → slice_get slots 0 ≡ Some first → slice_get es first.index ≡ Some (key, w) →
-      lookup (has_text key) es ≡ Some w → IsFirst (seen_in (λ v. v.score) es) (first.score, key)
+      lookup (has_text key) es ≡ Some w → IsFirst (seen_in (λ v. v.score) es) (w.score, key)
   first_is first key w at_top entry found =
-      let queue = scored_slots (keys_of es) slots in
-      let score : w.score ≡ first.score =
-      same_Some _ _ (sym (mapped_at (λ v. v.score) (values_of es) first.index w (mapped_at (λ x. x.1) es first.index (key, w) entry)) ∙ linked.scored 0 first at_top) in
-      let top : Scored = scored_at (keys_of es) first in
-      let is : top ≡ (first.score, key) = λ k. (first.score, sym (text_there es first.index key w entry) k) in
-      let bound = greatest turned_total queue top (sym (scored_there (keys_of es) slots 0 first top at_top)) ordered in
+      let queue = scored_slots (pairs_of es) slots in
+      let top : Scored = scored_at (pairs_of es) first in
+      let is : top ≡ (w.score, key) = pair_there es first.index (key, w) entry in
+      let bound = greatest turned_total queue top (sym (scored_there (pairs_of es) slots 0 first top at_top)) ordered in
       record {
-        there = seen_is (λ v. v.score) es key w (sym found) ∙ ap (λ s. Some s) score;
+        there = seen_is (λ v. v.score) es key w (sym found);
         before = λ pair has apart.
             let at = stands pair has in
             let within = slice_get_within slots at.0 at.1 at.2 in
-            let after = All-get_or (λ y. lt_by_cmp turned_cmp top y ≡ false) queue at.0 top (omega (arith, within, length-map slots (scored_at (keys_of es)))) bound in
-            let there : get_or queue at.0 top ≡ pair = scored_there (keys_of es) slots at.0 at.1 top at.2 ∙ at.3 in
-            before (first.score, key) pair ((λ k. is_lt (scored_cmp (sym there k) (sym is k))) ∙ after) apart;
+            let after = All-get_or (λ y. lt_by_cmp turned_cmp top y ≡ false) queue at.0 top (omega (arith, within, length-map slots (scored_at (pairs_of es)))) bound in
+            let there : get_or queue at.0 top ≡ pair = scored_there (pairs_of es) slots at.0 at.1 top at.2 ∙ at.3 in
+            before (w.score, key) pair ((λ k. is_lt (scored_cmp (sym there k) (sym is k))) ∙ after) apart;
       }

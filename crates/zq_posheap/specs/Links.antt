@@ -12,8 +12,8 @@ pub record AreInverse (xs ys : List ℕ) : Type 0 where
 abbrev pub indices : List Slot → List ℕ
 indices slots = map (λ s. s.index) slots
 
--- slots, positions and scores are as many, each position tells the place of its member's slot, and each slot has its member's score
-pub record IsLinked (slots : List Slot) (positions : List ℕ) (scores : List ℤ) : Type 0 where
+-- slots, positions and nears are as many, each position tells the place of its member's slot, and each slot has what is near its member's score
+pub record IsLinked (slots : List Slot) (positions : List ℕ) (nears : List ℤ) : Type 0 where
   pub placed : AreInverse (indices slots) positions
-  pub as_many : length positions ≡ length scores
-  pub scored : (p : ℕ) (s : Slot) → slice_get slots p ≡ Some s → slice_get scores s.index ≡ Some s.score
+  pub as_many : length positions ≡ length nears
+  pub near : (p : ℕ) (s : Slot) → slice_get slots p ≡ Some s → slice_get nears s.index ≡ Some s.near

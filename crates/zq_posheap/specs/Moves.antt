@@ -1,15 +1,27 @@
 -- What a heap holds, and what moving its places keeps.
 use Rattle.std.specs.Prelude.{List, [], Some, ℕ, ℤ, min, ◌-◌, ◌<◌, ◌≡◌, length, map, slice_get, slice_index_or, slice_set, vec_capacity}
-use Rattle.indexmap.specs.IndexMap.{index_map_len, keys, spare, values}
+use Rattle.indexmap.specs.IndexMap.{keys, spare, values}
 use Rattle.zq_posheap.specs.Links.{IsLinked}
-use Rattle.zq_posheap.specs.Order.{Scored, scored_slots}
+use Rattle.zq_posheap.specs.Order.{Scored, near, nobody, scored_slots}
 use Rattle.zq_posheap.specs.declared.heap.Heap.{Heap}
 use Rattle.zq_posheap.specs.declared.heap.Held.{Held}
 use Rattle.zq_posheap.specs.declared.heap.Slot.{Slot}
 
+-- the scores of a map's entries with their members
+abbrev pub pairs_of : {V : Type 0} → List (List ℕ × Held V) → List Scored
+pairs_of entries = map (λ e. (e.1.score, e.0)) entries
+
+-- the members with their scores, in the map's order
+abbrev pub pairs_in : {V : Type 0} → Heap V → List Scored
+pairs_in heap = pairs_of heap.members.entries
+
+-- the score of the member at an index of the map, and the member
+abbrev pub pair_at : {V : Type 0} → Heap V → ℕ → Scored
+pair_at heap index = slice_index_or (pairs_in heap) index nobody
+
 -- the members with their scores, in the order of the heap
 abbrev pub queue_of : {V : Type 0} → Heap V → List Scored
-queue_of heap = scored_slots (keys heap.members) heap.slots.items
+queue_of heap = scored_slots (pairs_in heap) heap.slots.items
 
 -- a member's score and value
 abbrev pub shown : {V : Type 0} → Held V → ℤ × V
@@ -19,9 +31,9 @@ shown held = (held.score, held.value)
 abbrev pub shown_of : {V : Type 0} → Heap V → List (ℤ × V)
 shown_of heap = map shown (values heap.members)
 
--- the score of each member, in the map's order
-abbrev pub scores_in : {V : Type 0} → Heap V → List ℤ
-scores_in heap = map (λ w. w.score) (values heap.members)
+-- what is near the score of each member, in the map's order
+abbrev pub nears_in : {V : Type 0} → Heap V → List ℤ
+nears_in heap = map (λ w. near w.score) (values heap.members)
 
 -- the member at an index of the map
 abbrev pub member_of : {V : Type 0} → Heap V → ℕ → List ℕ
@@ -29,11 +41,15 @@ member_of heap index = slice_index_or (keys heap.members) index []
 
 -- heap and map know each other
 abbrev pub IsLinkedHeap : {V : Type 0} → Heap V → Type 0
-IsLinkedHeap heap = IsLinked heap.slots.items heap.positions.items (scores_in heap)
+IsLinkedHeap heap = IsLinked heap.slots.items heap.positions.items (nears_in heap)
 
--- each slot's index is in the map
+-- a slot's index is in the map, and what it has of the score is what is near the member's
+abbrev pub IsKnown : {V : Type 0} → Heap V → Slot → Type 0
+IsKnown heap s = slice_get (nears_in heap) s.index ≡ Some s.near
+
+-- each slot is known
 abbrev pub AreKnown : {V : Type 0} → Heap V → Type 0
-AreKnown heap = (p : ℕ) (s : Slot) → slice_get heap.slots.items p ≡ Some s → s.index < index_map_len heap.members
+AreKnown heap = (p : ℕ) (s : Slot) → slice_get heap.slots.items p ≡ Some s → IsKnown heap s
 
 -- how many members more find room in all three
 abbrev pub room_of : {V : Type 0} → Heap V → ℕ
@@ -52,10 +68,10 @@ pub record OnlyMoves {V : Type 0} (old new : Heap V) : Type 0 where
 
 -- the heap's order with a slot put at a place
 abbrev pub queue_with : {V : Type 0} → Heap V → ℕ → Slot → List Scored
-queue_with heap place slot = scored_slots (keys heap.members) (slice_set heap.slots.items place slot)
+queue_with heap place slot = scored_slots (pairs_in heap) (slice_set heap.slots.items place slot)
 
 -- a slot was taken out of the place, and heap and map know each other once it is put there
 pub record HasHole {V : Type 0} (heap : Heap V) (place : ℕ) (slot : Slot) : Type 0 where
   pub within : place < length heap.slots.items
   pub known : AreKnown heap
-  pub linked : IsLinked (slice_set heap.slots.items place slot) (slice_set heap.positions.items slot.index place) (scores_in heap)
+  pub linked : IsLinked (slice_set heap.slots.items place slot) (slice_set heap.positions.items slot.index place) (nears_in heap)

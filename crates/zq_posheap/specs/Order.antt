@@ -1,5 +1,6 @@
 -- The order of members with scores, and what the heap keeps of it.
-use Rattle.std.specs.Prelude.{Bool, List, nat_eq, ℕ, ℤ, [], map, slice_index_or}
+use Rattle.std.specs.Int.{int_max, int_min}
+use Rattle.std.specs.Prelude.{Bool, List, nat_eq, neg_ℤ, pos, ℕ, ℤ, [], map, slice_index_or}
 use Rattle.std.specs.Cmp.Lexicographic.{pointwise, slice_cmp}
 use Rattle.std.specs.Ordering.{int_cmp, nat_cmp, on, then_cmp}
 use Rattle.std.specs.declared.cmp.Ordering.{Ordering}
@@ -21,10 +22,18 @@ turned_cmp x y = scored_cmp y x
 abbrev pub same_key : List ℕ → List ℕ → Bool
 same_key = pointwise nat_eq
 
--- the member at a place of the heap, with its score
-abbrev pub scored_at : List (List ℕ) → Slot → Scored
-scored_at members s = (s.score, slice_index_or members s.index [])
+-- the number of 64 bits that is nearest to a score
+abbrev pub near : ℤ → ℤ
+near score = int_max (neg_ℤ (pos 9223372036854775808)) (int_min score (pos 9223372036854775807))
+
+-- what stands where there is no member
+abbrev pub nobody : Scored
+nobody = (pos 0, [])
+
+-- the member of a slot with its score, among those of the map
+abbrev pub scored_at : List Scored → Slot → Scored
+scored_at pairs s = slice_index_or pairs s.index nobody
 
 -- the members with their scores, in the order of the heap
-abbrev pub scored_slots : List (List ℕ) → List Slot → List Scored
-scored_slots members slots = map (scored_at members) slots
+abbrev pub scored_slots : List Scored → List Slot → List Scored
+scored_slots pairs slots = map (scored_at pairs) slots

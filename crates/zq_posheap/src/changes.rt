@@ -9,6 +9,7 @@ ghost use Rattle.zq_posheap.specs.Whole.{IsWhole, entries_map};
 
 use crate::heap::{Heap, Held, Slot};
 use crate::name::Name;
+use crate::near::near;
 use crate::seeded::Seeded;
 use indexmap::IndexMap;
 use std::alloc::AllocError;
@@ -55,7 +56,10 @@ impl<V: Drop> Heap<V> {
     {
         let position = self.positions[index];
         let given = exchange(&mut self.members, index, score, value);
-        self.slots[position] = Slot { score, index };
+        self.slots[position] = Slot {
+            near: near(score),
+            index,
+        };
         self.settle(position);
         given
     }
@@ -85,7 +89,10 @@ impl<V: Drop> Heap<V> {
         let last = self.slots.len();
         let _ = self.members.insert(member, Held { score, value });
         self.positions.push_reserved(last);
-        self.slots.push_reserved(Slot { score, index: last });
+        self.slots.push_reserved(Slot {
+            near: near(score),
+            index: last,
+        });
         self.settle(last);
     }
 

@@ -1,6 +1,6 @@
 //! The heap and the map under a `PosHeap`, which know each other.
 ghost use Rattle.std.specs.Prelude.{IfNone, IfSome, length, slice_set, ◌+◌, ◌*◌, ◌<◌, ◌≤◌, ◌≡◌, ◌≢◌, swap};
-ghost use Rattle.indexmap.specs.IndexMap.{index_map_len, keys};
+ghost use Rattle.indexmap.specs.IndexMap.{index_map_len};
 ghost use Rattle.std.specs.BinaryHeap.{IsHeap, lt_by_cmp};
 ghost use Rattle.std.specs.BinaryHeap.Sift.{IsGreaterChild, IsHeapWithHole};
 ghost use Rattle.std.specs.Slice.Heapsort.{IsNotBelowChildren};
@@ -9,20 +9,25 @@ ghost use Rattle.std.specs.Ordering.{is_lt};
 ghost use Rattle.zq_posheap.specs.First.{IsFirst};
 ghost use Rattle.zq_posheap.specs.Listing.{lent_pair};
 ghost use Rattle.zq_posheap.specs.Members.{AreInRange, scores_of};
-ghost use Rattle.zq_posheap.specs.Moves.{AreKnown, HasHole, IsLinkedHeap, KeepsMembers, OnlyMoves, member_of, queue_of, queue_with};
+ghost use Rattle.zq_posheap.specs.Moves.{AreKnown, HasHole, IsKnown, IsLinkedHeap, KeepsMembers, OnlyMoves, pair_at, pairs_in, queue_of, queue_with};
 ghost use Rattle.zq_posheap.specs.Order.{scored_at, scored_cmp, turned_cmp};
 ghost use Rattle.zq_posheap.specs.Whole.{IsWhole, entries_map};
 
 use crate::name::Name;
 use crate::seeded::Seeded;
 use indexmap::IndexMap;
+use std::cmp::Ordering;
 
-/// A position of the heap: a score, and the index in the map of the member that has it.
+/// A position of the heap: the index in the map of a member, and the number of 64 bits that is nearest to its score. Where
+/// two of these numbers differ, the scores do so in the same way, and the map is not read to compare them.
 #[derive(Clone, Copy, Drop)]
 pub(crate) struct Slot {
-    pub(crate) score: i128,
+    pub(crate) near: i64,
     pub(crate) index: usize,
 }
+
+// A sift reads the two children of a position: they are to lie in one line of a cache.
+const _: () = prove!(size_of::<Slot>() == 16);
 
 /// What the map keeps of a member: its score and its value.
 #[derive(Drop)]
@@ -68,14 +73,17 @@ impl<V> Heap<V> {
         self.put(b, x);
     }
 
-    /// The member at an index of the map.
-    fn member(&self, index: usize) -> &[u8]
-        requires { index < index_map_len self.now.members }
-        ensures { result.now ≡ member_of self.now index }
+    /// Where the score and the member at an index of the map stand to those at another.
+    fn compare(&self, x: usize, y: usize) -> Ordering
+        requires x_within { x < index_map_len self.now.members }
+        requires y_within { y < index_map_len self.now.members }
+        ensures { result ≡ scored_cmp (pair_at self.now x) (pair_at self.now y) }
     {
-        match self.members.get_index(index) {
-            Some((member, _)) => member.as_slice(),
-            None => &[],
+        let (x_member, x_held) = self.members.get_index(x).unwrap();
+        let (y_member, y_held) = self.members.get_index(y).unwrap();
+        match x_held.score.cmp(&y_held.score) {
+            Ordering::Equal => x_member.as_slice().cmp(y_member.as_slice()),
+            unlike => unlike,
         }
     }
 
@@ -87,20 +95,20 @@ impl<V> Heap<V> {
         ensures first { IfSome result (λ pair. IsFirst (scores_of (entries_map self.now)) (lent_pair pair)) }
     {
         let slot = self.slots.first()?;
-        let (member, _) = self.members.get_index(slot.index)?;
-        Some((slot.score, member.as_slice()))
+        let (member, held) = self.members.get_index(slot.index)?;
+        Some((held.score, member.as_slice()))
     }
 
     /// Whether the member of a slot goes before that of another.
     fn is_before(&self, x: Slot, y: Slot) -> bool
-        requires x_known { x.index < index_map_len self.now.members }
-        requires y_known { y.index < index_map_len self.now.members }
-        ensures { result ≡ is_lt (scored_cmp (scored_at (keys self.now.members) x) (scored_at (keys self.now.members) y)) }
+        requires x_known { IsKnown self.now x }
+        requires y_known { IsKnown self.now y }
+        ensures { result ≡ is_lt (scored_cmp (scored_at (pairs_in self.now) x) (scored_at (pairs_in self.now) y)) }
     {
-        if x.score != y.score {
-            return x.score < y.score;
+        if x.near != y.near {
+            return x.near < y.near;
         }
-        self.member(x.index).cmp(self.member(y.index)).is_lt()
+        self.compare(x.index, y.index).is_lt()
     }
 
     /// The child of a place that goes before the other.

@@ -12,6 +12,7 @@ mod hashing;
 mod heap;
 pub mod laws;
 mod name;
+mod near;
 mod pairs;
 mod place;
 mod pos_heap;

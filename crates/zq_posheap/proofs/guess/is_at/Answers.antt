@@ -1,7 +1,7 @@
 use Rattle.std.proofs.Common.{ap, sym, ◌∙◌}
 use Rattle.std.proofs.lemmas.Option.{slice_get-map}
 use Rattle.std.specs.Cmp.Lexicographic.{same_text}
-use Rattle.std.specs.Prelude.{Some, option_map, true, ◌≡◌}
+use Rattle.std.specs.Prelude.{Some, option_map}
 use Rattle.indexmap.specs.IndexMap.{get_by}
 use Rattle.zq_posheap.specs.Order.{same_key}
 use Rattle.zq_posheap.proofs.guess.is_at.Goals as goal

@@ -5,8 +5,9 @@ use Rattle.std.specs.Prelude.{◌+ℤ◌}
 use mir.Val.{SFits, of_z, to_z}
 use Rattle.zq_model.proofs.Bounds.{within_add}
 use Rattle.zq_model.specs.Operation.{IsWithin, MOST}
+use Rattle.zq_model.specs.Score.{total}
 use Rattle.zq_model.specs.Sets.{SITES}
-use Rattle.zq_entry.specs.Sums.{MOST_SUM}
+use Rattle.zq_entry.specs.Sums.{MOST_SUM, dense_sums}
 use Rattle.zq_entry.proofs.SumLemmas.{value-fits}
 use Rattle.zq_entry.proofs.addition_ref.AdditionRef.value.Goals as goal
 
@@ -37,7 +38,7 @@ overflow_add-result c = rw (both c) (value-fits (c.value.result +ℤ c.total.res
 
 pub returns-clause-value : goal.returns-clause-value
 returns-clause-value c =
-    value c ∙ (ap (λ x. x +ℤ c.total.result) c.value.ensures.same ∙ ap (λ x. c.args.self.now.score +ℤ x) c.total.ensures.value)
+    value c ∙ (ap (λ x. x +ℤ c.total.result) c.value.ensures.same ∙ ap (λ x. c.args.self.now.score +ℤ x) (c.total.ensures.value ∙ ap (λ sums. total (dense_sums sums)) c.as_slice.ensures))
 
 pub returns-clause-within : goal.returns-clause-within
 returns-clause-within c = rw (value c) (within c)

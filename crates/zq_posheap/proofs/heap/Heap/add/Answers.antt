@@ -3,19 +3,18 @@ use Rattle.std.proofs.lemmas.Int.{to_z-of_z}
 use Rattle.std.proofs.lemmas.List.{length-map, map-append}
 use Rattle.std.specs.FinMap.{insert}
 use mir.Val.{of_z, to_z}
-use Rattle.std.specs.Int.{w128}
-use Rattle.std.specs.Map.{keys_of}
+use Rattle.std.specs.Int.{w128, w64}
 use Rattle.std.specs.Prelude.{[], ◌∷◌}
 use Rattle.indexmap.proofs.CallerLemmas.{insert_entry-new}
-use Rattle.indexmap.specs.IndexMap.{keys}
 use Rattle.zq_posheap.proofs.Entries.{inserted, no_entry}
 use Rattle.zq_posheap.proofs.Linked.{added}
 use Rattle.zq_posheap.proofs.Moving.{same_entries}
+use Rattle.zq_posheap.proofs.Nearest.{noted}
 use Rattle.zq_posheap.proofs.Results.{when_ok}
 use Rattle.zq_posheap.proofs.Scored.{hole_added}
-use Rattle.zq_posheap.proofs.Told.{held, known, one_more_seen}
-use Rattle.zq_posheap.specs.Moves.{scores_in, shown}
-use Rattle.zq_posheap.specs.Order.{same_key}
+use Rattle.zq_posheap.proofs.Told.{held, known_within, one_more_seen}
+use Rattle.zq_posheap.specs.Moves.{nears_in, pairs_in, pairs_of, shown}
+use Rattle.zq_posheap.specs.Order.{Scored, near, same_key}
 use Rattle.zq_posheap.specs.Whole.{entries_map}
 use Rattle.zq_posheap.proofs.heap.Heap.add.Goals as goal
 
@@ -31,8 +30,8 @@ settle-requires-clause-linked g c =
     let score = to_z w128 (of_z w128 c.args.score) in
     let more = when_ok c.insert.result (c.insert.ensures.succeeds (omega (arith, c.requires.room))) c.insert.ensures.entries
     ∙ insert_entry-new same_key heap.members c.args.member (held score c.args.value) (no_entry shown heap.members.entries c.args.member c.requires.absent) in
-    rw (c.push_reserved-2.ensures.items, c.push_reserved.ensures.items, one_more_seen (λ w. w.score) heap.members.entries c.insert.new.self.entries c.args.member _ more)
-    (added heap.slots.items heap.positions.items (scores_in heap) c.requires.whole.linked c.len-last.result score (omega (arith, c.len-last.ensures, heap.slots.ok.0)))
+    rw (c.push_reserved-2.ensures.items, c.push_reserved.ensures.items, one_more_seen (λ w. near w.score) heap.members.entries c.insert.new.self.entries c.args.member _ more, noted score c.near.result c.near.ensures)
+    (added heap.slots.items heap.positions.items (nears_in heap) c.requires.whole.linked c.len-last.result (near score) (omega (arith, c.len-last.ensures, heap.slots.ok.0)))
 
 pub settle-requires-clause-hole : goal.settle-requires-clause-hole
 settle-requires-clause-hole g c =
@@ -40,11 +39,10 @@ settle-requires-clause-hole g c =
     let score = to_z w128 (of_z w128 c.args.score) in
     let more = when_ok c.insert.result (c.insert.ensures.succeeds (omega (arith, c.requires.room))) c.insert.ensures.entries
     ∙ insert_entry-new same_key heap.members c.args.member (held score c.args.value) (no_entry shown heap.members.entries c.args.member c.requires.absent) in
-    let texts = ap (λ es. (keys_of es)) more
-    ∙ map-append (λ e. e.0) heap.members.entries ((c.args.member, held score c.args.value) ∷ []) in
-    hole_added (keys heap.members) heap.slots.items c.len-last.result (omega (arith, c.len-last.ensures, heap.slots.ok.0)) c.requires.whole.ordered
-    (keys c.insert.new.self) c.push_reserved-2.new.self.items c.args.member score texts c.push_reserved-2.ensures.items
-    (λ p x here. omega (arith, known heap c.requires.whole.linked p x here, length-map heap.members.entries (λ e. e.0)))
+    let pairs = ap pairs_of more ∙ map-append (λ e. (e.1.score, e.0)) heap.members.entries ((c.args.member, held score c.args.value) ∷ []) in
+    hole_added (pairs_in heap) heap.slots.items c.len-last.result (omega (arith, c.len-last.ensures, heap.slots.ok.0)) c.requires.whole.ordered
+    (pairs_of c.insert.new.self.entries) c.push_reserved-2.new.self.items (score, c.args.member) (to_z w64 (of_z w64 c.near.result)) pairs c.push_reserved-2.ensures.items
+    (λ p x here. omega (arith, known_within heap x (c.requires.whole.linked.near p x here), length-map {B = Scored} heap.members.entries (λ e. (e.1.score, e.0))))
 
 pub returns-clause-held : goal.returns-clause-held
 returns-clause-held g c =

@@ -8,8 +8,8 @@ use Rattle.zq_posheap.proofs.DropLast.{at_its_place, at_the_end, moved_there, no
 use Rattle.zq_posheap.proofs.Linked.{index_within}
 use Rattle.zq_posheap.proofs.Lists.{last_is, read_at}
 use Rattle.zq_posheap.proofs.Places.{seen_there}
-use Rattle.zq_posheap.proofs.Told.{known, places_long}
-use Rattle.zq_posheap.specs.Moves.{scores_in}
+use Rattle.zq_posheap.proofs.Told.{known_within, places_long}
+use Rattle.zq_posheap.specs.Moves.{nears_in}
 use Rattle.zq_posheap.specs.Whole.{entries_map}
 use Rattle.zq_posheap.specs.declared.heap.Slot.{Slot}
 use Rattle.zq_posheap.proofs.heap.Heap.drop_last.Given.{Over}
@@ -39,7 +39,7 @@ swap_remove-requires g c =
     let slots = heap.slots.items in
     let s = c.in_ok-index.field-0 in
     let last = last_is slots _ c.pop.result s c.requires.occupied heap.slots.ok.0 c.pop.ensures.value c.in_ok-index.was in
-    omega (arith, index_within slots heap.positions.items (scores_in heap) c.requires.linked _ s last, heap.positions.ok.0)
+    omega (arith, index_within slots heap.positions.items (nears_in heap) c.requires.linked _ s last, heap.positions.ok.0)
 
 pub index_mut-requires : goal.index_mut-requires
 index_mut-requires g c =
@@ -130,6 +130,6 @@ returns-clause-held g c = λ t is.
     let last = last_is slots _ c.pop.result s c.requires.occupied heap.slots.ok.0 c.pop.ensures.value c.in_ok-index.was in
     let same : t ≡ s = same_Some _ _ (sym is ∙ last) in
     let gone = c.swap_remove_index in
-    let removed = removed_last heap.members gone.new.self s (known heap c.requires.linked _ s last) gone.result gone.ensures.entry gone.ensures.updates in
+    let removed = removed_last heap.members gone.new.self s (known_within heap s (c.requires.linked.near _ s last)) gone.result gone.ensures.entry gone.ensures.updates in
     let removed' = removed ∙ (λ k. remove (entries_map heap) (get_or (keys heap.members) (sym same k).index [])) in
     elim c.if-index-last.branch [ then-index-last w ↦ rw w.self-is removed' | else-index-last w ↦ rw w.self-is removed' ]
