@@ -2,13 +2,21 @@
 
 use Rattle.std.proofs.Common.{List, ap, false, true, ℕ, ◌<◌, ◌∙◌, ◌≡◌}
 use Rattle.std.specs.Prelude.{if◌then◌else◌}
-use Rattle.zq_commands.specs.Lending.{HasBook, IsLending, Lending, lent_after, queues_in}
+use Rattle.zq_commands.specs.Lending.{HasBook, IsHomeAt, IsLending, Lending, lent_after, queues_in}
 use Rattle.zq_history.specs.Books.{Book}
 use Rattle.zq_model.proofs.Maps.{in_map}
 use Rattle.zq_model.specs.Sets.{SITES}
 use Rattle.zq_moves.proofs.QueuesAfter.{queues_after}
+use Rattle.zq_moves.proofs.Read.{in_place}
 use Rattle.zq_moves.specs.Lent.{is_home, is_home_of, made_in}
 use Rattle.zq_moves.specs.Moves.{Move, after}
+use Rattle.zq_posheap.proofs.Lists.{there_is}
+
+-- a member whose book is at a place has a book
+pub has_book : (key member : List ℕ) (place : ℕ) (lent : Lending) → IsHomeAt key member place lent → HasBook key member lent
+has_book key member place lent at =
+    let book = there_is lent.books place at.inside in
+    (book.0, in_place lent.books place book.0 book.1, at.home book.0 book.1)
 
 -- each member that has a book has it after a move
 pub home_kept : (site stamp : ℕ) (move : Move) (key member : List ℕ) (lent : Lending) → HasBook key member lent → HasBook key member (lent_after site stamp move lent)

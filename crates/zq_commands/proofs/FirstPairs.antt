@@ -1,13 +1,13 @@
--- The first pair of a key over the books that are lent: its member is at home in one of them, and what dropping it leaves.
+-- The first pair of a key over the books that are lent: its member is at home in the book where it was found, and what dropping it leaves.
 
-use Rattle.std.proofs.Common.{Err, List, None, Ok, Option, Result, Some, [], ap, arith, inl, length, map, nat_eq, option_map, refl, subst, sym, true, ℕ, ℤ, ◌∙◌, ◌∷◌, ◌≡◌, ◌≤◌}
+use Rattle.std.proofs.Common.{Err, List, None, Ok, Option, Result, Some, [], ap, arith, inl, inr, length, map, nat_eq, option_map, refl, subst, sym, true, ℕ, ℤ, ◌∙◌, ◌∷◌, ◌≡◌, ◌≤◌, ◌⊎◌}
 use Rattle.std.proofs.lemmas.Bool.{cond-true, eq-eqb}
-use Rattle.std.proofs.lemmas.Option.{none-some, same_Some}
+use Rattle.std.proofs.lemmas.Option.{none-some, same_Some, slice_get_within}
 use Rattle.std.specs.Cmp.Lexicographic.{pointwise}
-use Rattle.std.specs.Prelude.{slice_get}
+use Rattle.std.specs.Prelude.{IfSome, slice_get}
 use Rattle.std.specs.Result.{OnOk}
 use Rattle.zq_commands.specs.Arrays.{copied_parts}
-use Rattle.zq_commands.specs.Lending.{HasBook, IsLending, Lending, lent_after, queues_in}
+use Rattle.zq_commands.specs.Lending.{HasBook, IsHomeAt, IsLending, Lending, lent_after, queues_in}
 use Rattle.zq_commands.specs.FirstPairs.{DropsFirst, drop_of, top_in}
 use Rattle.zq_commands.specs.declared.dropping.Copied.{Copied}
 use Rattle.zq_history.specs.Books.{Book}
@@ -24,7 +24,8 @@ use Rattle.zq_model.specs.Score.{score_of}
 use Rattle.zq_model.specs.Sets.{IsIn}
 use Rattle.zq_moves.proofs.Counted.{measured}
 use Rattle.zq_moves.proofs.Homes.{has_addition, lent_each}
-use Rattle.zq_moves.specs.Lent.{queues_of}
+use Rattle.zq_moves.proofs.Read.{in_place}
+use Rattle.zq_moves.specs.Lent.{is_home_of, queues_of}
 use Rattle.zq_moves.specs.Moves.{Move, Queue, after, after_act}
 use Rattle.zq_plans.specs.Plan.{drops}
 use Rattle.zq_plans.specs.Replies.{parts_of_pair}
@@ -49,6 +50,36 @@ module _ (lent : Lending) (are : IsLending lent) (key : List ℕ) (x : ℤ) (m :
       let value = score_reached lent.rule (entry_at found.0.state.members (key, m)) x found.2 in
       (its.bounded.additions key m value.0 value.1 value.2).member
 
+-- the first pair of the queue over one book: its member is at home there
+module _ (lent : Lending) (are : IsLending lent) (place : ℕ) (book : Book) (at : slice_get lent.books place ≡ Some book) where
+  only : (b : Book) → IsIn b (book ∷ []) → book ≡ b
+  only b (inl same) = same
+  only b (inr none) = absurd none
+
+  abbrev alone : Lending
+  alone = record lent { books = book ∷ [] }
+
+  are_alone : IsLending alone
+  are_alone =
+      let here = in_place lent.books place book at in
+      record {
+        books = (lent_each lent.heaps lent.books book are.books here, λ later none. absurd none, tt);
+        ruled = λ b among. subst (λ c. c.rule ≡ lent.rule) (only b among) (are.ruled book here);
+      }
+
+  pub first_home : (key : List ℕ) (pair : Scored) → Some pair ≡ slice_get (queues_of lent.rule (book ∷ []) key) 0 → IsHomeAt key pair.1 place lent
+  first_home key pair is =
+      let its = pair_home alone are_alone key pair.0 pair.1 (in_place (queues_in alone key) 0 pair (sym is)) in
+      record {
+        inside = slice_get_within lent.books place book at;
+        home = λ other there. subst (λ b. is_home_of key pair.1 b ≡ true) (sym (only its.0 its.1) ∙ same_Some book other (sym at ∙ there)) its.2;
+      }
+
+-- what holds of two values, where there are any, holds of either
+pub of_either : {X : Type 0} (P : X → Type 0) (r a b : Option X) → (r ≡ a) ⊎ (r ≡ b) → IfSome a P → IfSome b P → IfSome r P
+of_either P r a b (inl first) x y = subst (λ o. IfSome o P) (sym first) x
+of_either P r a b (inr second) x y = subst (λ o. IfSome o P) (sym second) y
+
 -- the first pair, of which the member is given
 pub record IsFirst (q : Queue) (m : List ℕ) : Type 0 where
   pub first : Scored
@@ -66,9 +97,6 @@ module _ (lent : Lending) (are : IsLending lent) (key m : List ℕ) (at : option
 
   stands : IsIn (given.first.0, given.first.1) (queues_in lent key)
   stands = subst (λ q. IsIn given.first q) (sym given.is) (inl refl)
-
-  pub top_home : HasBook key m lent
-  top_home = subst (λ w. HasBook key w lent) given.member (pair_home lent are key given.first.0 given.first.1 stands)
 
   pub top_short : length m ≤ LONGEST
   top_short = subst (λ w. length w ≤ LONGEST) given.member (pair_short lent are key given.first.0 given.first.1 stands)

@@ -3,6 +3,7 @@
 use Rattle.std.specs.Borrow.{Bor}
 use Rattle.std.specs.Prelude.{List, Option, map, slice_get, true, ℕ, ℤ, ◌++◌, ◌∷◌, ◌≡◌}
 use Rattle.zq_commands.specs.Lending.{Lending, lent_after, queues_in}
+use Rattle.zq_commands.specs.declared.tops.Top.{Top}
 use Rattle.zq_model.specs.Meaning.{Scored}
 use Rattle.zq_model.specs.Operation.{Drop}
 use Rattle.zq_moves.specs.Moves.{Move, Queue, after}
@@ -13,6 +14,10 @@ use Rattle.zq_words.specs.Words.{Word}
 -- a pair whose member is lent
 abbrev pub lent_pair : ℤ × Bor (List ℕ) → Scored
 lent_pair pair = (pair.0, pair.1.now)
+
+-- a pair without the place at which it was found
+abbrev pub top_pair : Top → Scored
+top_pair top = lent_pair top.pair
 
 abbrev pub top_in : Lending → List ℕ → Option Scored
 top_in lent key = slice_get (queues_in lent key) 0

@@ -1,11 +1,11 @@
 -- The books that are lent to a command, by what rule their scores are read, and how many heaps there are.
 
-use Rattle.std.specs.Prelude.{List, Option, filter, map, option_map, ℕ, ◌++◌, ◌≡◌, ◌≤◌}
+use Rattle.std.specs.Prelude.{List, Option, Some, filter, length, map, option_map, slice_get, true, ℕ, ◌++◌, ◌<◌, ◌≡◌, ◌≤◌}
 use Rattle.zq_history.specs.Books.{Book}
 use Rattle.zq_model.specs.Operation.{Operation}
 use Rattle.zq_model.specs.Rule.{Rule}
 use Rattle.zq_model.specs.Sets.{IsIn}
-use Rattle.zq_moves.specs.Lent.{AreLent, HasHome, is_home, made, operation_in, queues_of}
+use Rattle.zq_moves.specs.Lent.{AreLent, HasHome, is_home, is_home_of, made, operation_in, queues_of}
 use Rattle.zq_moves.specs.Moves.{Move, Queues}
 use Rattle.zq_plans.specs.Run.{LAST_COUNT}
 
@@ -27,6 +27,11 @@ pub record IsLending (lent : Lending) : Type 0 where
 -- the member of the key lies in one of the heaps
 abbrev pub HasBook : List ℕ → List ℕ → Lending → Type 0
 HasBook key member lent = HasHome key member lent.books
+
+-- and this is the place of its book
+pub record IsHomeAt (key member : List ℕ) (place : ℕ) (lent : Lending) : Type 0 where
+  pub inside : place < length lent.books
+  pub home : (book : Book) → slice_get lent.books place ≡ Some book → is_home_of key member book ≡ true
 
 -- the operation that a move makes over books, which is that of the book of its heap
 abbrev pub operations_by : ℕ → Move → List Book → List Operation

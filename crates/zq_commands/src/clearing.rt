@@ -121,7 +121,7 @@ fn drop_first<B: Books>(
         Some(pair) => pair,
         None => return Ok(false),
     };
-    let dropped = drop_top(books, alloc, site, stamp, key, &pair.member);
+    let dropped = drop_top(books, alloc, pair.place, site, stamp, key, &pair.member);
     drop(pair);
     match dropped {
         Ok(()) => Ok(true),

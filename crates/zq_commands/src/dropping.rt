@@ -1,8 +1,8 @@
 //! The first pair of a key, copied and dropped.
 
-ghost use Rattle.std.specs.Prelude.{IfOk, IsErrOf, OnErr, OnOk, Some, [], length, option_map, slice_get, true, ◌≡◌, ◌≤◌};
+ghost use Rattle.std.specs.Prelude.{IfOk, IfSome, IsErrOf, OnErr, OnOk, Some, length, option_map, slice_get, true, ◌≡◌, ◌≤◌};
 ghost use Rattle.zq_commands.specs.Arrays.{copied_parts};
-ghost use Rattle.zq_commands.specs.Lending.{IsDated, IsLending, queues_in};
+ghost use Rattle.zq_commands.specs.Lending.{IsDated, IsHomeAt, IsLending, queues_in};
 ghost use Rattle.zq_commands.specs.FirstPairs.{DropsFirst, top_in};
 ghost use Rattle.zq_model.specs.Operation.{LONGEST};
 ghost use Rattle.zq_plans.specs.Plan.{drops};
@@ -11,15 +11,16 @@ ghost use Rattle.zq_plans.specs.Run.{IsWhy, Number};
 
 use crate::books::Books;
 use crate::cut::Cut;
-use crate::making::make_move;
+use crate::making::make_at;
 use crate::tops::top_of;
 use std::alloc::{AllocError, Global};
 use zq_dots::{Act, SiteNo};
 use zq_moves::heading;
 
-/// A member and its score.
+/// A member and its score, and the place of its book.
 #[derive(Debug, Drop)]
 pub struct Copied {
+    pub place: usize,
     pub member: Vec<u8>,
     pub score: i128,
 }
@@ -28,21 +29,28 @@ pub struct Copied {
 pub fn copy_top<B: Books>(books: &B, alloc: Global, key: &[u8]) -> Result<Option<Copied>, Cut>
     requires lent { IsLending (B.lent books.now) }
     ensures copied { IfOk result (λ copied. option_map copied_parts copied ≡ option_map (parts_of_pair true) (top_in (B.lent books.now) key.now)) }
+    ensures home { IfOk result (λ copied. IfSome copied (λ pair. IsHomeAt key.now pair.member.items pair.place (B.lent books.now))) }
     ensures refused { IsErrOf result Cut.Worn → ⊥ }
 {
-    let Some((score, member)) = top_of(books, key) else {
+    let Some(top) = top_of(books, key) else {
         return Ok(None);
     };
+    let (score, member) = top.pair;
     match Vec::from_slice(alloc, member) {
-        Ok(member) => Ok(Some(Copied { member, score })),
+        Ok(member) => Ok(Some(Copied {
+            place: top.place,
+            member,
+            score,
+        })),
         Err(AllocError) => Err(Cut::NoMemory),
     }
 }
 
-/// Drops the first pair of a key, of which this is the member.
+/// Drops the first pair of a key, of which this is the member, in the book at the place where it was found.
 pub fn drop_top<B: Books>(
     books: &mut B,
     alloc: Global,
+    place: usize,
     site: SiteNo,
     stamp: u64,
     key: &[u8],
@@ -51,6 +59,7 @@ pub fn drop_top<B: Books>(
     requires lent { IsLending (B.lent books.old) }
     requires dated { IsDated stamp (B.lent books.old) }
     requires key { length key.now ≤ LONGEST }
+    requires home { IsHomeAt key.now member.now place (B.lent books.old) }
     requires top { option_map (λ pair. pair.1) (top_in (B.lent books.old) key.now) ≡ Some member.now }
     ensures dropped { OnOk result (DropsFirst site stamp key.now (B.lent books.old) (B.lent books.new)) }
     ensures refused { OnErr result (B.lent books.new ≡ B.lent books.old) }
@@ -61,5 +70,5 @@ pub fn drop_top<B: Books>(
 {
     // Without its first member a queue is the rest.
     heading();
-    make_move(books, alloc, site, stamp, key, member, Act::Drop)
+    make_at(books, alloc, place, site, stamp, key, member, Act::Drop)
 }

@@ -117,14 +117,14 @@ fn pop_one<B: Books>(
         drop(pair);
         return Err(Cut::NoMemory);
     }
-    match drop_top(books, alloc, site, stamp, key, &pair.member) {
+    match drop_top(books, alloc, pair.place, site, stamp, key, &pair.member) {
         Ok(()) => {}
         Err(cut) => {
             drop(pair);
             return Err(cut);
         }
     }
-    let Copied { member, score } = pair;
+    let Copied { member, score, .. } = pair;
     parts.push_reserved(Reply::Bulk(member));
     parts.push_reserved(Reply::Number(score));
     Ok(true)

@@ -1,18 +1,18 @@
 use Rattle.std.proofs.Common.{arith, subst, sym, ◌<◌, ◌≡◌}
 use Rattle.std.proofs.lemmas.Result.{on_ok_weaker}
-use Rattle.zq_commands.proofs.AtPlace.{home_kept, queues_moved}
+use Rattle.zq_commands.proofs.AtPlace.{has_book, home_kept, queues_moved}
 use Rattle.zq_commands.proofs.OnOk.{on_both}
 use Rattle.zq_commands.specs.Lending.{HasBook, lent_after}
 use Rattle.zq_dots.specs.Act.{act_of}
 use Rattle.zq_model.specs.Sets.{SITES}
 use Rattle.zq_moves.specs.Moves.{Move}
-use Rattle.zq_commands.proofs.making.make_move.Goals as goal
+use Rattle.zq_commands.proofs.making.make_at.Goals as goal
 
 pub returns-clause-queues : goal.returns-clause-queues
 returns-clause-queues g c =
     let move : Move = record { key = c.args.key.now; member = c.args.member.now; act = act_of c.args.act } in
     let below : c.args.site < SITES = omega (arith, c.value-number.ensures.same, c.value-number.ensures.below) in
-    on_ok_weaker c.make.result (queues_moved c.args.site c.args.stamp move (g.B.Books.lent c.args.books.now) (g.B.Books.lent c.make.new.self) below c.requires.lent c.requires.home) c.make.ensures.made
+    on_ok_weaker c.make.result (queues_moved c.args.site c.args.stamp move (g.B.Books.lent c.args.books.now) (g.B.Books.lent c.make.new.self) below c.requires.lent (has_book c.args.key.now c.args.member.now c.args.place (g.B.Books.lent c.args.books.now) c.requires.home)) c.make.ensures.made
 
 pub returns-clause-homes : goal.returns-clause-homes
 returns-clause-homes g c = λ key member home.
