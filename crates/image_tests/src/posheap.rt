@@ -7,6 +7,19 @@ use std::collections::BTreeMap;
 use std::test::Fail;
 use zq_posheap::{Guess, Name, PosHeap, Seeded};
 
+/// More than 64 bits hold.
+const FAR: i128 = 1 << 70;
+
+/// A small score, or one that far below or above it.
+fn drawn_score(word: u64) -> i128 {
+    let score = i128::from(word & 15) - 8;
+    match word >> 4 & 3 {
+        0 => score - FAR,
+        1 => score + FAR,
+        _ => score,
+    }
+}
+
 /// The first pair of a map, by a scan of all of it.
 fn first(expected: &BTreeMap<Vec<u8>, i128>) -> Option<(i128, &[u8])> {
     let mut best: Option<(i128, &[u8])> = None;
@@ -47,7 +60,7 @@ fn follows_an_ordered_map(rt: HostRuntime) -> Result<(), Fail> {
                 expected.remove(member)
             );
         } else {
-            let score = i128::from(word >> 40 & 15) - 8;
+            let score = drawn_score(word >> 40);
             heap.set(member, score, step)?;
             expected.insert(member.to_vec(rt.alloc())?, score)?;
         }
