@@ -1,6 +1,6 @@
 //! Which heap a member lies in, by its hash.
 
-ghost use Rattle.std.specs.Prelude.{◌≡◌, ◌≤◌, ◌<◌, fold, length};
+ghost use Rattle.std.specs.Prelude.{◌%◌, ◌≡◌, ◌≤◌, ◌<◌, fold, length};
 ghost use Rattle.zq_model.specs.Heaps as place;
 ghost use Rattle.zq_model.specs.Operation.{LONGEST};
 
@@ -30,7 +30,22 @@ pub fn heap_of(key: &[u8], member: &[u8], heaps: u8) -> u8
 {
     let prefix = (key.len() as u32).to_be_bytes();
     let hash = hash_from(hash_from(hash_from(OFFSET_BASIS, &prefix), key), member);
-    (hash % heaps as u64) as u8
+    remainder(hash, heaps) as u8
+}
+
+/// What is left of a hash modulo the number of heaps. By a power of two that stands here it takes no division, which would
+/// take as long as the hash of a short member.
+fn remainder(hash: u64, heaps: u8) -> u64
+    requires { 1 ≤ heaps }
+    ensures { result ≡ hash % heaps }
+{
+    match heaps {
+        2 => hash % 2,
+        4 => hash % 4,
+        8 => hash % 8,
+        16 => hash % 16,
+        _ => hash % heaps as u64,
+    }
 }
 
 /// The hash of what was hashed before and these bytes after it.

@@ -139,6 +139,7 @@ impl Entry {
 
     /// The preferred of the additions' values by the rule, and `None` where there is no addition. A
     /// value is the addition's score and all its sums.
+    #[inline(always)]
     pub fn score(&self, rule: Rule) -> Option<i128>
         ensures preferred { result ≡ score_of (rule_of rule) self.now }
         ensures none { is_none result ≡ model.is_bare self.now }

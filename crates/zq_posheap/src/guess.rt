@@ -25,6 +25,7 @@ impl Guess {
     }
 
     /// The index of a name in a map, and `None` where it is not there.
+    #[inline(always)]
     pub fn find<V>(&self, names: &IndexMap<Name, V, Seeded>, name: &[u8]) -> Option<usize>
         ensures within { IfSome result (λ index. index < index_map_len names.now) }
         ensures found { is_some result ≡ is_some (get_by (same_key name.now) names.now) }

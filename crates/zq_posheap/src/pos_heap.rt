@@ -105,6 +105,7 @@ impl<V: Drop> PosHeap<V> {
     }
 
     /// Where a member is, for the calls that follow: the one look-up of a call that reads what is there and changes it.
+    #[inline(always)]
     pub fn find(&self, member: &[u8]) -> Option<Place>
         ensures there { is_some result ≡ contains_key self.now.held member.now }
         ensures place { IfSome result (IsPlaceOf self.now member.now) }

@@ -22,6 +22,7 @@ use zq_entry::Entry;
 use zq_posheap::Place;
 
 /// What an effect makes of an entry. Additions that it takes away are not copied.
+#[inline(always)]
 fn changed(alloc: Global, entry: &Entry, effect: &Effect<'_>) -> Result<Entry, AllocError>
     requires counter { (1 ≤ effect.now.dot.n) × (effect.now.dot.n ≤ LAST) }
     requires room { HasRoom effect.now entry.now }
@@ -43,6 +44,7 @@ fn changed(alloc: Global, entry: &Entry, effect: &Effect<'_>) -> Result<Entry, A
 }
 
 /// A copy of the additions that a vector has not seen.
+#[inline(always)]
 fn unseen(alloc: Global, entry: &Entry, seen: &Vector) -> Result<Entry, AllocError>
     ensures { (site n : ℕ) → IfOk result (λ new. new ≡ entry_after ActDrop site n seen.now entry.now) }
 {

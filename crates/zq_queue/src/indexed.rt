@@ -116,6 +116,7 @@ impl Indexed {
     }
 
     /// Gives the member at its place another score and entry, and answers the entry that it had.
+    #[inline(always)]
     pub fn replace_at(&mut self, member: &[u8], place: Place, score: i128, entry: Entry) -> Entry
         requires has { HasPlace self.old place }
         requires place { IsPlaceOf self.old member.now place }

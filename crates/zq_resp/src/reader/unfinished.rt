@@ -106,6 +106,8 @@ pub fn read_on(
     Ok(unfinished)
 }
 
+/// Adds a request of these words, unless there are none.
+#[inline(always)]
 fn hand_out(requests: &mut Vec<Request>, words: Vec<Vec<u8>>) -> Result<(), FeedFault>
     requires { AreWords (views words) }
     ensures ok { OnOk result (requests.new.items ≡ requests.old.items ++ handed (views words ∷ [])) }
