@@ -12,36 +12,7 @@ use crate::cut::Cut;
 use std::alloc::Global;
 use zq_dots::{Act, SiteNo};
 
-/// Makes a move in the book of its heap, which changes the queues as the move says.
-pub fn make_move<B: Books>(
-    books: &mut B,
-    alloc: Global,
-    site: SiteNo,
-    stamp: u64,
-    key: &[u8],
-    member: &[u8],
-    act: Act,
-) -> Result<(), Cut>
-    requires lent { IsLending (B.lent books.old) }
-    requires dated { IsDated stamp (B.lent books.old) }
-    requires home { HasBook key.now member.now (B.lent books.old) }
-    requires key { length key.now ≤ LONGEST }
-    requires member { length member.now ≤ LONGEST }
-    ensures made { OnOk result (B.lent books.new ≡ lent_after site stamp (record { key = key.now; member = member.now; act = act_of act }) (B.lent books.old)) }
-    ensures queues { OnOk result (queues_in (B.lent books.new) ≡ after (record { key = key.now; member = member.now; act = act_of act }) (queues_in (B.lent books.old))) }
-    ensures refused { OnErr result (B.lent books.new ≡ B.lent books.old) }
-    ensures worn { IsErrOf result Cut.Worn → IsWhy site (Some (record { key = key.now; member = member.now; act = act_of act })) (B.lent books.old).books Number }
-    ensures memory { IsErrOf result Cut.NoMemory → IsWhy site (Some (record { key = key.now; member = member.now; act = act_of act })) (B.lent books.old).books Number → ⊥ }
-    ensures lent { IsLending (B.lent books.new) }
-    ensures dated { IsDated stamp (B.lent books.new) }
-    ensures keeps { B.keeps books.old books.new }
-    ensures homes { (k m : List ℕ) → HasBook k m (B.lent books.old) → HasBook k m (B.lent books.new) }
-{
-    let place = books.home(key, member);
-    make_at(books, alloc, place, site, stamp, key, member, act)
-}
-
-/// Makes a move in the book at a place, which is that of its heap.
+/// Makes a move in the book at a place, which is that of its heap: it changes the queues as the move says.
 pub fn make_at<B: Books>(
     books: &mut B,
     alloc: Global,

@@ -15,9 +15,9 @@ use crate::books::Books;
 use crate::cut::Cut;
 use crate::lets::{is_counted, is_let};
 use crate::made::Made;
-use crate::making::make_move;
+use crate::making::make_at;
 use crate::replies::{count_reply, cut_reply};
-use crate::scores::score_of;
+use crate::scores::{Found, find};
 use std::alloc::Global;
 use zq_dots::{Act, Score, SiteNo};
 use zq_resp::Reply;
@@ -91,12 +91,21 @@ fn put_one<B: Books>(
     let Some(score) = Score::new(pair.score) else {
         unreachable!();
     };
-    let old = score_of(books, key, pair.member);
+    let Found { place, score: old } = find(books, key, pair.member);
     let new = i128::from(pair.score);
     if !is_let(flags, old, &new) {
         return Ok(Made::NOTHING);
     }
     let counted = if is_counted(flags, old, &new) { 1 } else { 0 };
-    make_move(books, alloc, site, stamp, key, pair.member, Act::Put(score))?;
+    make_at(
+        books,
+        alloc,
+        place,
+        site,
+        stamp,
+        key,
+        pair.member,
+        Act::Put(score),
+    )?;
     Ok(Made { moves: 1, counted })
 }

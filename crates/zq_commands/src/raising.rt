@@ -1,7 +1,7 @@
 //! ZINCRBY, and ZADD with INCR.
 
 ghost use Rattle.std.specs.Prelude.{IfSome, IsErrOf, IsTrue, OnErr, OnOk, Some, length, ◌≡◌, ◌≤◌, false};
-ghost use Rattle.zq_commands.specs.Lending.{HasBook, IsDated, IsLending, lent_after, queues_in};
+ghost use Rattle.zq_commands.specs.Lending.{HasBook, IsDated, IsHomeAt, IsLending, lent_after, queues_in};
 ghost use Rattle.zq_commands.specs.Running.{RunsOver};
 ghost use Rattle.zq_model.specs.Operation.{LONGEST};
 ghost use Rattle.zq_moves.specs.Moves.{score_in};
@@ -15,9 +15,9 @@ ghost use Rattle.zq_words.specs.Words as words;
 
 use crate::books::Books;
 use crate::cut::Cut;
-use crate::making::make_move;
+use crate::making::make_at;
 use crate::replies::cut_reply;
-use crate::scores::score_of;
+use crate::scores::{Found, find};
 use std::alloc::Global;
 use zq_dots::{Act, GREATEST, Score, SiteNo};
 use zq_resp::Reply;
@@ -44,8 +44,8 @@ pub fn raise<B: Books>(
     ensures keeps { B.keeps books.old books.new }
     ensures writable { IsTrue (is_writable result) }
 {
-    let old = score_of(books, key, pair.member);
-    raise_from(books, alloc, site, stamp, key, pair, old)
+    let found = find(books, key, pair.member);
+    raise_from(books, alloc, site, stamp, key, pair, found)
 }
 
 /// The same where the flags let the member have the sum, and else nothing, which the null bulk says.
@@ -70,11 +70,11 @@ pub fn raise_if<B: Books>(
     ensures keeps { B.keeps books.old books.new }
     ensures writable { IsTrue (is_writable result) }
 {
-    let old = score_of(books, key, pair.member);
-    if !is_sum_let(flags, old, pair) {
+    let found = find(books, key, pair.member);
+    if !is_sum_let(flags, found.score, pair) {
         return Reply::NullBulk;
     }
-    raise_from(books, alloc, site, stamp, key, pair, old)
+    raise_from(books, alloc, site, stamp, key, pair, found)
 }
 
 /// Adds to the score that the member has. The reply takes no memory.
@@ -85,28 +85,28 @@ fn raise_from<B: Books>(
     stamp: u64,
     key: &[u8],
     pair: &Pair,
-    old: Option<i128>,
+    found: Found,
 ) -> Reply
     requires lent { IsLending (B.lent books.old) }
     requires dated { IsDated stamp (B.lent books.old) }
-    requires home { HasBook key.now pair.now.member.now (B.lent books.old) }
+    requires home { IsHomeAt key.now pair.now.member.now found.place (B.lent books.old) }
     requires key { length key.now ≤ LONGEST }
     requires pair { IsPair (pair_shown pair.now) }
-    requires wide { IfSome old IsWide }
-    ensures ran { RunsOver site stamp false (plan.raise key.now pair.now.member.now old pair.now.score) cut_error (B.lent books.old) (B.lent books.new) (reply_bytes result) }
+    requires wide { IfSome found.score IsWide }
+    ensures ran { RunsOver site stamp false (plan.raise key.now pair.now.member.now found.score pair.now.score) cut_error (B.lent books.old) (B.lent books.new) (reply_bytes result) }
     ensures lent { IsLending (B.lent books.new) }
     ensures dated { IsDated stamp (B.lent books.new) }
     ensures keeps { B.keeps books.old books.new }
     ensures writable { IsTrue (is_writable result) }
 {
-    if !is_sum_in_range(old, pair) {
+    if !is_sum_in_range(found.score, pair) {
         return Reply::Error {
             text: "ERR result out of range",
             after: None,
         };
     }
-    let sum = sum_of(old, pair);
-    match raise_member(books, alloc, site, stamp, key, pair, old) {
+    let sum = sum_of(found.score, pair);
+    match raise_member(books, alloc, site, stamp, key, pair, found) {
         Ok(()) => Reply::Number(sum),
         Err(cut) => cut_reply(cut, 0),
     }
@@ -120,16 +120,16 @@ fn raise_member<B: Books>(
     stamp: u64,
     key: &[u8],
     pair: &Pair,
-    old: Option<i128>,
+    found: Found,
 ) -> Result<(), Cut>
     requires lent { IsLending (B.lent books.old) }
     requires dated { IsDated stamp (B.lent books.old) }
-    requires home { HasBook key.now pair.now.member.now (B.lent books.old) }
+    requires home { IsHomeAt key.now pair.now.member.now found.place (B.lent books.old) }
     requires key { length key.now ≤ LONGEST }
     requires pair { IsPair (pair_shown pair.now) }
-    ensures made { OnOk result (B.lent books.new ≡ lent_after site stamp (record { key = key.now; member = pair.now.member.now; act = plan.raising old pair.now.score }) (B.lent books.old)) }
+    ensures made { OnOk result (B.lent books.new ≡ lent_after site stamp (record { key = key.now; member = pair.now.member.now; act = plan.raising found.score pair.now.score }) (B.lent books.old)) }
     ensures refused { OnErr result (B.lent books.new ≡ B.lent books.old) }
-    ensures worn { IsErrOf result Cut.Worn → IsWhy site (Some (record { key = key.now; member = pair.now.member.now; act = plan.raising old pair.now.score })) (B.lent books.old).books Number }
+    ensures worn { IsErrOf result Cut.Worn → IsWhy site (Some (record { key = key.now; member = pair.now.member.now; act = plan.raising found.score pair.now.score })) (B.lent books.old).books Number }
     ensures lent { IsLending (B.lent books.new) }
     ensures dated { IsDated stamp (B.lent books.new) }
     ensures keeps { B.keeps books.old books.new }
@@ -137,11 +137,20 @@ fn raise_member<B: Books>(
     let Some(increment) = Score::new(pair.score) else {
         unreachable!();
     };
-    let act = match old {
+    let act = match found.score {
         None => Act::Put(increment),
         Some(_) => Act::Bump(increment),
     };
-    make_move(books, alloc, site, stamp, key, pair.member, act)
+    make_at(
+        books,
+        alloc,
+        found.place,
+        site,
+        stamp,
+        key,
+        pair.member,
+        act,
+    )
 }
 
 fn sum_of(old: Option<i128>, pair: &Pair) -> i128

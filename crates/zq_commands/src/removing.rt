@@ -14,9 +14,9 @@ ghost use Rattle.zq_words.specs.Words.{views};
 use crate::books::Books;
 use crate::cut::Cut;
 use crate::made::Made;
-use crate::making::make_move;
+use crate::making::make_at;
 use crate::replies::{count_reply, cut_reply};
-use crate::scores::score_of;
+use crate::scores::find;
 use std::alloc::Global;
 use zq_dots::{Act, SiteNo};
 use zq_resp::Reply;
@@ -79,10 +79,20 @@ fn drop_one<B: Books>(
     ensures keeps { B.keeps books.old books.new }
     ensures homes { (k m : List ℕ) → HasBook k m (B.lent books.old) → HasBook k m (B.lent books.new) }
 {
-    if score_of(books, key, member).is_none() {
+    let found = find(books, key, member);
+    if found.score.is_none() {
         return Ok(Made::NOTHING);
     }
-    make_move(books, alloc, site, stamp, key, member, Act::Drop)?;
+    make_at(
+        books,
+        alloc,
+        found.place,
+        site,
+        stamp,
+        key,
+        member,
+        Act::Drop,
+    )?;
     Ok(Made {
         moves: 1,
         counted: 1,

@@ -8,4 +8,4 @@ use Rattle.zq_commands.proofs.raising.raise.Goals as goal
 pub returns-clause-ran : goal.returns-clause-ran
 returns-clause-ran g c =
     subst (λ old. RunsOver c.args.site c.args.stamp false (plan.raise c.args.key.now c.args.pair.now.member.now old c.args.pair.now.score) cut_error (g.B.Books.lent c.args.books.now) (g.B.Books.lent c.raise_from.new.books) (reply_bytes c.raise_from.result))
-    c.score_of-old.ensures.score c.raise_from.ensures.ran
+    c.find-found.ensures.score c.raise_from.ensures.ran
