@@ -33,7 +33,7 @@ enum Step {
 
 use Step::{A, B, Clear, Meet, Swap};
 
-const STEPS: [Step; 102] = [
+const STEPS: [Step; 105] = [
     // Scores as texts.
     A("ZADD q 3.0 b", ":1\r\n"),
     A("ZSCORE q b", "$1\r\n3\r\n"),
@@ -117,6 +117,15 @@ const STEPS: [Step; 102] = [
     A("ZCARD q", ":0\r\n"),
     A("ZADD q 2 b 1 a", ":2\r\n"),
     A("ZPOPNEAR q", "*2\r\n$1\r\na\r\n$1\r\n1\r\n"),
+    A(
+        "ZADD q -5 a-member-of-forty-bytes-that-comes-first",
+        ":1\r\n",
+    ),
+    A(
+        "ZPOPMIN q",
+        "*2\r\n$40\r\na-member-of-forty-bytes-that-comes-first\r\n$2\r\n-5\r\n",
+    ),
+    A("ZCARD q", ":1\r\n"),
     A("PING", "+PONG\r\n"),
     A("PING a", "$1\r\na\r\n"),
     // Increments of two sites add up, however often they come.

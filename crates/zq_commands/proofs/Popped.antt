@@ -134,3 +134,8 @@ module _ (site stamp : ℕ) (key : List ℕ) where
         let moves : take done (drops key (take n q)) ≡ drops key (take done q) = take-map (drop_of key) done (take n q) ∙ ap (drops key) (take-take done n q (omega (arith, below))) in
         part done (want_of cut) (let within = here.within in omega (arith, within, below, length-map (take n q) (drop_of key), length-take n q))
         (here.lent ∙ ap (λ ms. lent_after_all site stamp ms s) (sym moves)) (why_next cut below why) (said cut some none) memory
+
+  -- not even the first one
+  pub popped_none : (s : Lending) (bytes : Word) (cut : Cut) (short : Bool) → (cut ≡ Worn → IsWhy site (slice_get (drops key (queues_in s key)) 0) s.books Number) →
+      bytes ≡ bytes_of (cut_error 0 (want_of cut)) → (want_of cut ≡ Memory → short ≡ true) → EndsOver site stamp false (pop key 1 (queues_in s)) (cut_pop (Some (key, 1)) (queues_in s)) s s bytes short
+  popped_none s bytes cut short why is memory = popped_cut 1 s s 0 [] (popped_first s) bytes cut short (omega arith) why (λ some. absurd (omega (arith, some))) (λ _. is) memory

@@ -1,9 +1,9 @@
 -- The parts of a reply with one pair more.
 
-use Rattle.std.proofs.Common.{Bool, List, Vec, [], ap, map, subst, sym, true, ℕ, ◌&&◌, ◌++◌, ◌∙◌, ◌∷◌, ◌≡◌}
+use Rattle.std.proofs.Common.{Bool, List, [], ap, map, subst, sym, true, ℕ, ◌&&◌, ◌++◌, ◌∙◌, ◌∷◌, ◌≡◌}
+use Rattle.smallvec.specs.SmallVec.{SmallVec}
 use Rattle.std.specs.Fmt.{signed_decimal}
 use Rattle.std.specs.Prelude.{IsTrue, ℤ}
-use Rattle.std.specs.declared.alloc.Global.{Global}
 use Rattle.zq_commands.specs.Arrays.{are_writable, copied_parts}
 use Rattle.zq_commands.specs.declared.dropping.Copied.{Copied}
 use Rattle.zq_resp.specs.Reply.{bulk, bytes_from_parts, is_writable, reply_bytes, writable_from_parts}
@@ -11,10 +11,10 @@ use Rattle.zq_resp.specs.declared.reply.Reply.{Bulk, Number, Reply}
 use Rattle.zq_resp.specs.declared.reply.Reply.TheFolds.{fold-roll-Reply}
 use Rattle.zq_resp.specs.declared.reply.Reply.TheVariants.{rolls-Bulk, rolls-Number}
 
-bulk_bytes : (v : Vec ℕ Global) → reply_bytes (Bulk v) ≡ bulk v.items
+bulk_bytes : (v : SmallVec ℕ) → reply_bytes (Bulk v) ≡ bulk v.items
 bulk_bytes v = ap reply_bytes (sym (rolls-Bulk v)) ∙ fold-roll-Reply (List ℕ) bytes_from_parts _
 
-bulk_writable : (v : Vec ℕ Global) → is_writable (Bulk v) ≡ true
+bulk_writable : (v : SmallVec ℕ) → is_writable (Bulk v) ≡ true
 bulk_writable v = ap is_writable (sym (rolls-Bulk v)) ∙ fold-roll-Reply Bool writable_from_parts _
 
 number_bytes : (n : ℤ) → reply_bytes (Number n) ≡ bulk (signed_decimal n)

@@ -16,12 +16,13 @@ use crate::tops::top_of;
 use std::alloc::{AllocError, Global};
 use zq_dots::{Act, SiteNo};
 use zq_moves::heading;
+use zq_resp::Text;
 
 /// A member and its score, and the place of its book.
 #[derive(Debug, Drop)]
 pub struct Copied {
     pub place: usize,
-    pub member: Vec<u8>,
+    pub member: Text,
     pub score: i128,
 }
 
@@ -36,7 +37,7 @@ pub fn copy_top<B: Books>(books: &B, alloc: Global, key: &[u8]) -> Result<Option
         return Ok(None);
     };
     let (score, member) = top.pair;
-    match Vec::from_slice(alloc, member) {
+    match Text::from_slice(alloc, member) {
         Ok(member) => Ok(Some(Copied {
             place: top.place,
             member,

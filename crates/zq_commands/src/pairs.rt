@@ -10,7 +10,7 @@ ghost use Rattle.zq_resp.specs.Reply.{bulk, is_writable, reply_bytes};
 use crate::cut::Cut;
 use crate::replies::{array_reply, cut_reply};
 use std::alloc::{AllocError, Global};
-use zq_resp::Reply;
+use zq_resp::{Reply, Text};
 
 /// The members of these pairs from a place on, each with its score behind it where scores are asked for.
 pub fn pairs_reply(alloc: Global, pairs: &[(i128, &[u8])], from: usize, with_scores: bool) -> Reply
@@ -49,7 +49,7 @@ fn push_pair(
     ensures parts { OnOk result (map reply_bytes parts.new.items ≡ map reply_bytes parts.old.items ++ map bulk (plan.parts_of_pair with_scores (lent_pair pair.now))) }
     ensures writable { IsTrue (are_writable parts.old.items) → IsTrue (are_writable parts.new.items) }
 {
-    let member = Vec::from_slice(alloc, pair.1)?;
+    let member = Text::from_slice(alloc, pair.1)?;
     push_part(parts, Reply::Bulk(member))?;
     if with_scores {
         push_part(parts, Reply::Number(pair.0))?;

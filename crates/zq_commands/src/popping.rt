@@ -9,7 +9,7 @@ ghost use Rattle.zq_commands.specs.FirstPairs.{PopsFirst};
 ghost use Rattle.zq_model.specs.Operation.{LONGEST};
 ghost use Rattle.zq_plans.specs.Plan as plan;
 ghost use Rattle.zq_plans.specs.Replies as replies;
-ghost use Rattle.zq_plans.specs.Run.{IsWhy, Number, cut_pop, cut_text};
+ghost use Rattle.zq_plans.specs.Run.{IsWhy, Memory, Number, cut_pop, cut_text};
 ghost use Rattle.zq_resp.specs.Reply.{is_writable, reply_bytes};
 
 use crate::books::Books;
@@ -41,6 +41,9 @@ pub fn pop<B: Books>(
     ensures keeps { B.keeps books.old books.new }
     ensures writable { IsTrue (is_writable result.reply) }
 {
+    if count == 1 {
+        return pop_first(books, alloc, site, stamp, key);
+    }
     let mut parts = Vec::new(alloc);
     let mut done = 0;
     while done < count {
@@ -56,6 +59,49 @@ pub fn pop<B: Books>(
         }
     }
     whole(parts)
+}
+
+/// A pop of one pair. Its reply takes no memory where the member has at most 16 bytes.
+fn pop_first<B: Books>(books: &mut B, alloc: Global, site: SiteNo, stamp: u64, key: &[u8]) -> Ran
+    requires lent { IsLending (B.lent books.old) }
+    requires dated { IsDated stamp (B.lent books.old) }
+    requires key { length key.now ≤ LONGEST }
+    ensures ran { EndsOver site stamp false (plan.pop key.now 1 (queues_in (B.lent books.old))) (cut_pop (Some (key.now, 1)) (queues_in (B.lent books.old)))
+        (B.lent books.old) (B.lent books.new) (reply_bytes result.reply) result.is_short }
+    ensures lent { IsLending (B.lent books.new) }
+    ensures dated { IsDated stamp (B.lent books.new) }
+    ensures keeps { B.keeps books.old books.new }
+    ensures writable { IsTrue (is_writable result.reply) }
+{
+    let pair = match copy_top(books, alloc, key) {
+        Ok(Some(pair)) => pair,
+        Ok(None) => return whole(Vec::new(alloc)),
+        Err(cut) => return refused(cut),
+    };
+    match drop_top(books, alloc, pair.place, site, stamp, key, &pair.member) {
+        Ok(()) => {}
+        Err(cut) => {
+            drop(pair);
+            return refused(cut);
+        }
+    }
+    let Copied { member, score, .. } = pair;
+    Ran {
+        reply: Reply::Pair(member, score),
+        is_short: false,
+    }
+}
+
+/// The error of a pop that dropped nothing.
+fn refused(cut: Cut) -> Ran
+    ensures bytes { reply_bytes result.reply ≡ replies.bytes_of (replies.Error (cut_text (want_of cut)) (Some 0)) }
+    ensures writable { IsTrue (is_writable result.reply) }
+    ensures short { want_of cut ≡ Memory → result.is_short ≡ true }
+{
+    Ran {
+        reply: cut_reply(cut, 0),
+        is_short: cut.is_memory(),
+    }
 }
 
 /// The pairs of a pop that was not cut.

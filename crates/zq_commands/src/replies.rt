@@ -10,7 +10,7 @@ ghost use Rattle.zq_resp.specs.Reply.{is_writable, reply_bytes};
 
 use crate::cut::Cut;
 use std::alloc::{AllocError, Global};
-use zq_resp::Reply;
+use zq_resp::{Reply, Text};
 
 /// A number of members.
 pub fn count_reply(count: u64) -> Reply
@@ -28,7 +28,7 @@ pub fn message_reply(alloc: Global, message: Option<&[u8]>) -> Reply
 {
     match message {
         None => Reply::Simple("PONG"),
-        Some(message) => text_reply(Vec::from_slice(alloc, message)),
+        Some(message) => text_reply(Text::from_slice(alloc, message)),
     }
 }
 
@@ -44,7 +44,7 @@ pub fn score_reply(score: Option<i128>) -> Reply
 }
 
 /// The text, and an error where there was no memory for it.
-fn text_reply(text: Result<Vec<u8>, AllocError>) -> Reply
+fn text_reply(text: Result<Text, AllocError>) -> Reply
     ensures text { IfOk text (λ text. reply_bytes result ≡ plan.bytes_of (plan.Bulk text.items)) }
     ensures refused { OnErr text (reply_bytes result ≡ plan.bytes_of (plan.Error (cut_text Memory) (Some 0))) }
     ensures writable { IsTrue (is_writable result) }

@@ -1,9 +1,9 @@
 -- The bytes of replies.
-use Rattle.std.specs.Prelude.{◌++◌, List, ℕ, Option, None, Some, [], ◌∷◌, length, codes, decimal, map, Bool, true, not, ◌||◌, ◌==◌}
+use Rattle.std.specs.Prelude.{◌++◌, List, ℕ, ℤ, Option, None, Some, [], ◌∷◌, length, codes, decimal, map, Bool, true, not, ◌||◌, ◌==◌}
 use Rattle.std.specs.Fmt.{signed_decimal}
 use Rattle.std.specs.List.{list_all, list_any}
 use Rattle.zq_resp.specs.declared.reply.Reply.{Reply}
-use Rattle.zq_resp.specs.declared.reply.Reply.TheOpen.{Reply-F, Simple, Error, Integer, Bulk, Number, NullBulk, Array}
+use Rattle.zq_resp.specs.declared.reply.Reply.TheOpen.{Reply-F, Simple, Error, Integer, Bulk, Number, NullBulk, Array, Pair}
 use Rattle.zq_resp.specs.declared.reply.Reply.TheFolds.{fold-Reply}
 
 -- a text and the end of its line
@@ -22,6 +22,10 @@ abbrev pub joined : List (List ℕ) → List ℕ
 joined [] = []
 joined (part ∷ parts) = part ++ joined parts
 
+-- the array of a text and a number's digits
+abbrev pub pair : List ℕ → ℤ → List ℕ
+pair text number = 42 ∷ line (decimal 2) ++ joined (bulk text ∷ bulk (signed_decimal number) ∷ [])
+
 -- the bytes of a reply, from those of its parts: `+`, `-`, `:`, `$` or `*` first, and `$-1` for the null bulk
 abbrev pub bytes_from_parts : Reply-F (List ℕ) → List ℕ
 bytes_from_parts (Simple text) = 43 ∷ line text.now
@@ -31,6 +35,7 @@ bytes_from_parts (Bulk bytes) = bulk bytes.items
 bytes_from_parts (Number number) = bulk (signed_decimal number)
 bytes_from_parts NullBulk = codes "$-1\r\n"
 bytes_from_parts (Array parts) = 42 ∷ line (decimal (length parts.items)) ++ joined parts.items
+bytes_from_parts (Pair text number) = pair text.items number
 
 abbrev pub reply_bytes : Reply → List ℕ
 reply_bytes = fold-Reply (List ℕ) bytes_from_parts

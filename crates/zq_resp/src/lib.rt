@@ -14,5 +14,5 @@ mod request;
 
 pub use fault::{FeedError, FeedFault};
 pub use reader::Reader;
-pub use reply::{Reply, write_reply};
+pub use reply::{Reply, Text, write_reply};
 pub use request::Request;

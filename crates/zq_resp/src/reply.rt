@@ -3,10 +3,14 @@
 ghost use Rattle.std.specs.Prelude.{◌≡◌, ◌+◌, ◌<◌, ◌≤◌, ◌∷◌, ◌++◌, decimal, length, take, IsTrue};
 ghost use Rattle.std.specs.Vec.{vec_len, vec_capacity};
 ghost use Rattle.std.specs.Result.{OnOk, OnErr};
-ghost use Rattle.zq_resp.specs.Reply.{reply_bytes, all_bytes, is_writable, line, bulk, after_text};
+ghost use Rattle.zq_resp.specs.Reply.{reply_bytes, all_bytes, is_writable, line, bulk, pair, after_text};
 
 use itoa::Buffer;
+use smallvec::SmallVec;
 use std::alloc::AllocError;
+
+/// The bytes of a bulk string. At most 16 lie in the value itself, and take no memory of their own.
+pub type Text = SmallVec<u8, 16>;
 
 const LINE_END: &[u8] = b"\r\n";
 
@@ -22,11 +26,13 @@ pub enum Reply {
         after: Option<u64>,
     },
     Integer(i64),
-    Bulk(Vec<u8>),
+    Bulk(Text),
     /// The number's digits as a bulk string. It takes no memory of its own.
     Number(i128),
     NullBulk,
     Array(Vec<Reply>),
+    /// An array of two bulk strings: a text, and a number's digits. It takes no memory for a list.
+    Pair(Text, i128),
 }
 
 /// Appends the reply's bytes to `out`. Where memory is refused, `out` has the bytes that it had.
@@ -56,13 +62,14 @@ fn append_reply(out: &mut Vec<u8>, reply: &Reply) -> Result<(), AllocError>
         Reply::Simple(text) => append_line(out, b'+', text.as_bytes()),
         Reply::Error { text, after } => append_error(out, text.as_bytes(), *after),
         Reply::Integer(number) => append_line(out, b':', Buffer::new().format(*number).as_bytes()),
-        Reply::Bulk(bytes) => append_bulk(out, bytes),
+        Reply::Bulk(text) => append_bulk(out, text.as_slice()),
         Reply::Number(number) => append_bulk(out, Buffer::new().format(*number).as_bytes()),
         Reply::NullBulk => append_line(out, b'$', b"-1"),
         Reply::Array(parts) => {
             append_number(out, b'*', parts.len())?;
             append_all(out, parts)
         }
+        Reply::Pair(text, number) => append_pair(out, text.as_slice(), *number),
     }
 }
 
@@ -144,4 +151,15 @@ fn append_bulk(out: &mut Vec<u8>, bytes: &[u8]) -> Result<(), AllocError>
 {
     append_number(out, b'$', bytes.len())?;
     append_ended(out, bytes)
+}
+
+fn append_pair(out: &mut Vec<u8>, text: &[u8], number: i128) -> Result<(), AllocError>
+    ensures written { OnOk result (out.new.items ≡ out.old.items ++ pair text.now number) }
+    ensures full { OnErr result (vec_capacity out.old < vec_len out.old + length (pair text.now number)) }
+    ensures kept { take (length out.old.items) out.new.items ≡ out.old.items }
+    ensures capacity { vec_capacity out.old ≤ vec_capacity out.new }
+{
+    append_number(out, b'*', 2)?;
+    append_bulk(out, text)?;
+    append_bulk(out, Buffer::new().format(number).as_bytes())
 }
