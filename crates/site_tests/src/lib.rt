@@ -1,4 +1,4 @@
-//! Tests of commands over books, of sites with many threads, and of the servers of one heap and of a site.
+//! Tests of commands over books, of sites with many threads, and of the two servers of a site.
 #![tactic(auto)]
 
 #[cfg(test)]

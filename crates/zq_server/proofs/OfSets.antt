@@ -1,13 +1,15 @@
--- The book of a server with one heap, by the set of operations of which it has the image.
+-- The books of a server of a site that one session alone uses, by the set of operations of which they have the images.
 
 use Rattle.std.proofs.Common.{Bool, List, Some, [], ap, arith, false, inl, inr, length, map, refl, subst, suc, sym, take, true, true≢false, zero, ℕ, ◌+◌, ◌<◌, ◌∙◌, ◌∷◌, ◌≡◌}
 use Rattle.std.proofs.lemmas.List.{length-map}
-use Rattle.std.proofs.lemmas.Option.{same_Some}
-use Rattle.std.specs.Prelude.{Err, None, Ok, if◌then◌else◌, slice_get}
+use Rattle.std.proofs.lemmas.List.FromFn.{length-map-range_with_len}
+use Rattle.std.proofs.lemmas.Option.{none-some, same_Some}
+use Rattle.std.specs.List.{range_with_len}
+use Rattle.std.specs.Prelude.{Err, None, Ok, Option, if◌then◌else◌, slice_get}
 use Rattle.zq_commands.specs.Beginning.{begun}
+use Rattle.zq_commands.specs.SiteBooks.{empty_book}
 use Rattle.zq_history.specs.Books.{Book}
 use Rattle.zq_model.proofs.JoinImages.{image_of-nothing}
-use Rattle.zq_model.proofs.Listing.{in_map_from}
 use Rattle.zq_model.proofs.Membership.{in_taken}
 use Rattle.zq_model.specs.Bounded.{HasShortNames}
 use Rattle.zq_model.specs.Meaning.{IsWholeQueue}
@@ -21,17 +23,19 @@ use Rattle.zq_moves.specs.Moves.{Move, Queues}
 use Rattle.zq_plans.specs.Plan.{Plan, plan_of}
 use Rattle.zq_plans.specs.Replies.{Reply, bytes_of}
 use Rattle.zq_plans.specs.Run.{Memory, Number, Runs, Want, cut_error, cut_pop, cut_reply, part, popped_of, whole}
+use Rattle.zq_posheap.proofs.Lists.{behind}
 use Rattle.zq_resp.specs.Request.{IsRequest}
 use Rattle.zq_runs.proofs.BooksOf.{with_at_here}
 use Rattle.zq_runs.proofs.InRange.{AreShort, moves_sound}
 use Rattle.zq_runs.proofs.KeptRuns.{short_over}
 use Rattle.zq_runs.proofs.MovedBooks.{all_stand, closed_then, world_then}
 use Rattle.zq_runs.proofs.Questions.{questions_read}
-use Rattle.zq_runs.specs.Books.{AreBooksOf, AreSound, AreUnworn, IsBookOf}
+use Rattle.zq_runs.proofs.SiteBooks as site
+use Rattle.zq_runs.specs.Books.{AreBooksOf, AreSound, AreUnworn, greatest_stamp}
 use Rattle.zq_runs.specs.Reading.{answer_of, answer_over, heaps_in, is_question, is_reading, queues_over}
 use Rattle.zq_runs.specs.State.{State, after_move, after_moves, home_of, is_spent, operation_by, standing}
 use Rattle.zq_server.specs.Meaning.{HasAll, HasImageOf, IsAnswer, IsOfSet}
-use Rattle.zq_server.specs.Plain.{RunsCommand, RunsReading, SITE, next_begun, no_keys, pings, runs, stamp_in, unread, worn}
+use Rattle.zq_server.specs.Plain.{RunsCommand, RunsReading, SITE, next_begun, no_keys, pings, runs, unread, worn}
 use Rattle.zq_words.proofs.CommandLimits.{within_limits}
 use Rattle.zq_words.specs.Command.{Command, Del, Ping, Zadd, ZaddIncr, Zcard, Zcount, Zincrby, Zpopmin, Zpopnear, Zrange, Zrank, Zrem, Zrevrank, Zscore, command_of}
 use Rattle.zq_words.specs.Limits.{IsWithinLimits}
@@ -39,46 +43,90 @@ use Rattle.zq_words.specs.Words.{Word}
 
 -- ---- nothing done
 
-pub opens : IsOfSet [] no_keys
-opens = record {
+number_at : (a n i k : ℕ) → slice_get (range_with_len a n) i ≡ Some k → k ≡ a + i
+number_at a zero i k at = absurd (none-some k at)
+number_at a (suc n) zero k at = let same = same_Some a k at in omega (arith, same)
+number_at a (suc n) (suc i) k at = let rest = number_at (a + 1) n i k at in omega (arith, rest)
+
+empty_has : (K heap : ℕ) → HasImageOf K [] heap (empty_book K Greatest heap)
+empty_has K heap = record { heap_is = refl; heaps = refl; ruled = refl; state = sym (image_of-nothing [] heap (λ o none. absurd none)) }
+
+pub opens : (K : ℕ) → IsHeaps K → IsOfSet K [] (no_keys K)
+opens K heaps = record {
+  heaps = heaps;
   world = record { each = λ o none. absurd none; one = λ o p none. absurd none };
   closed = record { before = λ o none. absurd none };
   short = λ o none. absurd none;
-  number = refl;
-  each = λ book here. elim here [
-    | inl same ↦ subst (HasImageOf []) same (record { heap = refl; heaps = refl; ruled = refl; state = sym (image_of-nothing [] 0 (λ o none. absurd none)) })
-    | inr none ↦ absurd none
-  ];
+  number = length-map-range_with_len (empty_book K Greatest) 0 K;
+  each = λ heap book at.
+      let from = behind (empty_book K Greatest) (range_with_len 0 K) heap book at in
+      let is = number_at 0 K heap from.0 from.1 in
+      let same : heap ≡ from.0 = omega (arith, is) in
+      subst (HasImageOf K [] heap) (ap (empty_book K Greatest) same ∙ from.2) (empty_has K heap);
+}
+
+-- ---- the state of a site
+
+-- a number of the book, and 0 where there is none
+abbrev number_of : (Book → ℕ) → Option Book → ℕ
+number_of f None = 0
+number_of f (Some b) = f b
+
+-- the site has the set, and its heaps the stamps and the counts of these books
+abbrev standing_at : List Operation → List Book → State
+standing_at S books = record {
+  made = [];
+  sets = λ _. S;
+  stamps = λ _ heap. number_of (λ b. b.stamp) (slice_get books heap);
+  counts = λ _ heap. number_of (λ b. b.count) (slice_get books heap);
+}
+
+books_of : (K : ℕ) (S : List Operation) (books : List Book) → IsOfSet K S books → AreBooksOf Greatest K (standing_at S books) SITE books
+books_of K S books of = record {
+  number = of.number;
+  each = λ heap b at.
+      let its = of.each heap b at in
+      record {
+        heap = its.heap_is;
+        heaps = its.heaps;
+        ruled = its.ruled;
+        state = its.state;
+        stamp = sym (ap (number_of (λ c. c.stamp)) at);
+        count = sym (ap (number_of (λ c. c.count)) at);
+      };
 }
 
 -- ---- queues
 
-pub queues_are : (S : List Operation) (books : List Book) → IsOfSet S books → queues_of Greatest books ≡ queues_over Greatest S (heaps_in 1)
-queues_are S [] of = absurd (let none = of.number in omega (arith, none))
-queues_are S (b ∷ []) of = let state = (of.each b (inl refl)).state in λ i key. queue_of Greatest key ((state i).members ∷ [])
-queues_are S (b ∷ c ∷ books) of = absurd (let none = of.number in omega (arith, none))
+pub queues_are : (K : ℕ) (S : List Operation) (books : List Book) → IsOfSet K S books → queues_of Greatest books ≡ queues_over Greatest S (heaps_in K)
+queues_are K S books of = site.queues_are Greatest K (standing_at S books) SITE books (books_of K S books of)
 
-pub queues_meant : (S : List Operation) (books : List Book) → IsOfSet S books → (key : List ℕ) → IsWholeQueue Greatest S key (queues_of Greatest books key)
-queues_meant S books of key = subst (λ (queues : Queues). IsWholeQueue Greatest S key (queues key)) (sym (queues_are S books of)) (whole_queue_is Greatest 1 S key of.world (omega arith))
+pub queues_meant : (K : ℕ) (S : List Operation) (books : List Book) → IsOfSet K S books → (key : List ℕ) → IsWholeQueue Greatest S key (queues_of Greatest books key)
+queues_meant K S books of key =
+    let some = of.heaps.0 in
+    subst (λ (queues : Queues). IsWholeQueue Greatest S key (queues key)) (sym (queues_are K S books of)) (whole_queue_is Greatest K S key of.world (omega (arith, some)))
 
 members_begun : (stamp : ℕ) (books : List Book) → map (λ (b : Book). b.state.members) (map (begun stamp) books) ≡ map (λ (b : Book). b.state.members) books
 members_begun stamp [] = refl
 members_begun stamp (b ∷ books) = ap (λ rest. b.state.members ∷ rest) (members_begun stamp books)
 
 pub queues_begun : (books : List Book) → queues_of Greatest (next_begun books) ≡ queues_of Greatest books
-queues_begun books = λ i key. queue_of Greatest key (members_begun (stamp_in books + 1) books i)
+queues_begun books = λ i key. queue_of Greatest key (members_begun (greatest_stamp books + 1) books i)
 
-pub of_set_begun : (S : List Operation) (books : List Book) → IsOfSet S books → IsOfSet S (next_begun books)
-of_set_begun S books of = record {
-  world = of.world;
-  closed = of.closed;
-  short = of.short;
-  number = length-map books (begun (stamp_in books + 1)) ∙ of.number;
-  each = λ book here.
-      let from = in_map_from (begun (stamp_in books + 1)) book books here in
-      let its = of.each from.0 from.1 in
-      subst (HasImageOf S) from.2 (record { heap = its.heap; heaps = its.heaps; ruled = its.ruled; state = its.state });
-}
+pub of_set_begun : (K : ℕ) (S : List Operation) (books : List Book) → IsOfSet K S books → IsOfSet K S (next_begun books)
+of_set_begun K S books of =
+    let next = begun (greatest_stamp books + 1) in
+    record {
+      heaps = of.heaps;
+      world = of.world;
+      closed = of.closed;
+      short = of.short;
+      number = length-map books next ∙ of.number;
+      each = λ heap book at.
+          let from = behind next books heap book at in
+          let its = of.each heap from.0 from.1 in
+          subst (HasImageOf K S heap) from.2 (record { heap_is = its.heap_is; heaps = its.heaps; ruled = its.ruled; state = its.state });
+    }
 
 -- ---- a request that only reads
 
@@ -98,27 +146,27 @@ reads_only (Zpopmin key count) queues reads = absurd (true≢false (sym reads))
 reads_only (Zpopnear key) queues reads = absurd (true≢false (sym reads))
 reads_only (Del keys) queues reads = absurd (true≢false (sym reads))
 
-module _ (S : List Operation) where
+module _ (K : ℕ) (S : List Operation) where
   -- the set stays, and the reply is an answer
   abbrev IsReadAs : Word → List Book → Word → Type 0
-  IsReadAs answer new bytes = IsOfSet S new × IsAnswer answer bytes
+  IsReadAs answer new bytes = IsOfSet K S new × IsAnswer answer bytes
 
-  none_moved : (strict : Bool) (plan : Plan) (cut : ℕ → Want → Reply) (site stamp : ℕ) (old new : List Book) (bytes : Word) → plan.moves ≡ [] → cut 0 ≡ cut_error 0 → IsOfSet S old →
+  none_moved : (strict : Bool) (plan : Plan) (cut : ℕ → Want → Reply) (site stamp : ℕ) (old new : List Book) (bytes : Word) → plan.moves ≡ [] → cut 0 ≡ cut_error 0 → IsOfSet K S old →
       Runs site stamp strict plan cut old new bytes → IsReadAs (bytes_of plan.reply) new bytes
   none_moved strict plan cut site stamp old new bytes none error of (whole books says) =
-      (subst (IsOfSet S) (sym (books ∙ ap (λ moves. books_after site stamp moves old) none)) of, inl says)
+      (subst (IsOfSet K S) (sym (books ∙ ap (λ moves. books_after site stamp moves old) none)) of, inl says)
   none_moved strict plan cut site stamp old new bytes none error of (part k want few books why says) =
       let most = ap length none in
       let first : k ≡ 0 = omega (arith, few, most) in
       let same : new ≡ old = books ∙ ap (λ n. books_after site stamp (take n plan.moves) old) first in
-      (subst (IsOfSet S) (sym same) of, inr (want, says ∙ ap (λ n. bytes_of (cut n want)) first ∙ ap (λ f. bytes_of (f want)) error))
+      (subst (IsOfSet K S) (sym same) of, inr (want, says ∙ ap (λ n. bytes_of (cut n want)) first ∙ ap (λ f. bytes_of (f want)) error))
 
   cut_none : (command : Command) (queues : Queues) → cut_reply command queues 0 ≡ cut_error 0
   cut_none command queues = elim (popped_of command) as (λ o. (λ want. cut_pop o queues 0 want) ≡ cut_error 0) [ None ↦ refl | Some popped ↦ refl ]
 
-  module _ (old new : List Book) (bytes : Word) (of : IsOfSet S old) where
-    stays : new ≡ old → IsOfSet S new
-    stays same = subst (IsOfSet S) (sym same) of
+  module _ (old new : List Book) (bytes : Word) (of : IsOfSet K S old) where
+    stays : new ≡ old → IsOfSet K S new
+    stays same = subst (IsOfSet K S) (sym same) of
 
     command_read : (command : Command) → is_reading command ≡ true → RunsCommand old command new bytes → IsReadAs (bytes_of (plan_of command (queues_of Greatest old)).reply) new bytes
     command_read command reads (pings message is same says) = absurd (true≢false (sym (ap is_reading (sym is) ∙ reads)))
@@ -128,12 +176,12 @@ module _ (S : List Operation) where
         let mid = next_begun old in
         let queues = queues_of Greatest mid in
         let only = reads_only command queues reads in
-        let read = none_moved _ (plan_of command queues) (cut_reply command queues) SITE (stamp_in old + 1) mid new bytes only (cut_none command queues) (of_set_begun S old of) ran in
+        let read = none_moved _ (plan_of command queues) (cut_reply command queues) SITE (greatest_stamp old + 1) mid new bytes only (cut_none command queues) (of_set_begun K S old of) ran in
         (read.0, subst (λ (q : Queues). IsAnswer (bytes_of (plan_of command q).reply) bytes) (queues_begun old) read.1)
 
-    pub reads_set : (words : List Word) → is_question words ≡ true → RunsReading old (command_of words) new bytes → IsOfSet S new × IsAnswer (answer_of Greatest 1 S words) bytes
+    pub reads_set : (words : List Word) → is_question words ≡ true → RunsReading old (command_of words) new bytes → IsOfSet K S new × IsAnswer (answer_of Greatest K S words) bytes
     reads_set words question answered =
-        subst (λ (q : Queues). IsOfSet S new × IsAnswer (answer_over q (command_of words)) bytes) (queues_are S old of)
+        subst (λ (q : Queues). IsOfSet K S new × IsAnswer (answer_over q (command_of words)) bytes) (queues_are K S old of)
         (elim (command_of words) as (λ r. command_of words ≡ r → RunsReading old r new bytes → IsReadAs (answer_over (queues_of Greatest old) r) new bytes) [
           | Ok command ↦ λ read ran. command_read command (questions_read words command question read) ran
           | Err why ↦ λ _ ran. (stays ran.0, inl ran.1)
@@ -142,67 +190,49 @@ module _ (S : List Operation) where
 -- ---- every request
 
 -- a closed set of one world with short names
-record IsSound (S : List Operation) : Type 0 where
-  world : IsWorld 1 S
+record IsSound (K : ℕ) (S : List Operation) : Type 0 where
+  world : IsWorld K S
   closed : IsClosed S
   short : (o : Operation) → IsIn o S → HasShortNames o
-
-one_heap : IsHeaps 1
-one_heap = (omega arith, omega arith)
 
 site_below : SITE < SITES
 unfolding SITES
 site_below = omega arith
 
--- a site with the set, and its heap with this stamp and this count
-abbrev standing_at : List Operation → Book → State
-standing_at S b = record { made = []; sets = λ _. S; stamps = λ _ _. b.stamp; counts = λ _ _. b.count }
+of_books : (K : ℕ) (st : State) (books : List Book) → IsHeaps K → AreBooksOf Greatest K st SITE books → IsSound K (st.sets SITE) → IsOfSet K (st.sets SITE) books
+of_books K st books heaps are sound = record {
+  heaps = heaps;
+  world = sound.world;
+  closed = sound.closed;
+  short = sound.short;
+  number = are.number;
+  each = λ heap b at.
+      let is = are.each heap b at in
+      record { heap_is = is.heap; heaps = is.heaps; ruled = is.ruled; state = is.state };
+}
 
-book_of : (S : List Operation) (b : Book) → HasImageOf S b → (h : ℕ) (c : Book) → slice_get (b ∷ []) h ≡ Some c → IsBookOf Greatest 1 (standing_at S b) SITE h c
-book_of S b its zero c at =
-    subst (IsBookOf Greatest 1 (standing_at S b) SITE 0) (same_Some b c at)
-    (record { heap = its.heap; heaps = its.heaps; ruled = its.ruled; state = its.state; stamp = refl; count = refl })
-book_of S b its (suc h) c at = absurd (cc)
-
-of_books : (st : State) (books : List Book) → AreBooksOf Greatest 1 st SITE books → IsSound (st.sets SITE) → IsOfSet (st.sets SITE) books
-of_books st [] are sound = absurd (let none = are.number in omega (arith, none))
-of_books st (b ∷ []) are sound =
-    let is = are.each 0 b refl in
-    let its : HasImageOf (st.sets SITE) b = record { heap = is.heap; heaps = is.heaps; ruled = is.ruled; state = is.state } in
-    record {
-      world = sound.world;
-      closed = sound.closed;
-      short = sound.short;
-      number = refl;
-      each = λ book here. elim here [
-        | inl same ↦ subst (HasImageOf (st.sets SITE)) same its
-        | inr none ↦ absurd none
-      ];
-    }
-of_books st (b ∷ c ∷ books) are sound = absurd (let none = are.number in omega (arith, none))
-
-module _ (stamp : ℕ) where
-  first_stands : (st : State) (move : Move) (moves : List Move) → standing 1 SITE stamp (move ∷ moves) st ≡ suc (length moves) →
-      (is_spent st SITE (home_of 1 move) ≡ false) × (standing 1 SITE stamp moves (after_move 1 SITE stamp move st) ≡ length moves)
+module _ (K : ℕ) (heaps : IsHeaps K) (stamp : ℕ) where
+  first_stands : (st : State) (move : Move) (moves : List Move) → standing K SITE stamp (move ∷ moves) st ≡ suc (length moves) →
+      (is_spent st SITE (home_of K move) ≡ false) × (standing K SITE stamp moves (after_move K SITE stamp move st) ≡ length moves)
   first_stands st move moves all =
-      let rest = standing 1 SITE stamp moves (after_move 1 SITE stamp move st) in
-      elim (is_spent st SITE (home_of 1 move)) as (λ b. (if b then 0 else suc rest) ≡ suc (length moves) → (b ≡ false) × (rest ≡ length moves)) [
+      let rest = standing K SITE stamp moves (after_move K SITE stamp move st) in
+      elim (is_spent st SITE (home_of K move)) as (λ b. (if b then 0 else suc rest) ≡ suc (length moves) → (b ≡ false) × (rest ≡ length moves)) [
         | true ↦ λ none. absurd (omega (arith, none))
         | false ↦ λ same. (refl, omega (arith, same))
       ] all
 
   -- moves that all stand add to the set
-  grows : (moves : List Move) (st : State) → AreSound moves → standing 1 SITE stamp moves st ≡ length moves → IsSound (st.sets SITE) →
-      IsSound ((after_moves 1 SITE stamp moves st).sets SITE) × HasAll ((after_moves 1 SITE stamp moves st).sets SITE) (st.sets SITE)
+  grows : (moves : List Move) (st : State) → AreSound moves → standing K SITE stamp moves st ≡ length moves → IsSound K (st.sets SITE) →
+      IsSound K ((after_moves K SITE stamp moves st).sets SITE) × HasAll ((after_moves K SITE stamp moves st).sets SITE) (st.sets SITE)
   grows [] st sound all is = (is, λ o i. i)
   grows (move ∷ moves) st sound all is =
       let stands = first_stands st move moves all in
       let its = sound move (inl refl) in
-      let o = operation_by st SITE (home_of 1 move) move in
-      let same : (after_move 1 SITE stamp move st).sets SITE ≡ o ∷ st.sets SITE = with_at_here st.sets SITE (o ∷ st.sets SITE) in
-      let more = grows moves (after_move 1 SITE stamp move st) (λ m i. sound m (inr i)) stands.1 (record {
-        world = world_then Greatest 1 SITE stamp one_heap site_below st is.world is.closed move its stands.0;
-        closed = closed_then Greatest 1 SITE stamp one_heap site_below st is.world is.closed move its stands.0;
+      let o = operation_by st SITE (home_of K move) move in
+      let same : (after_move K SITE stamp move st).sets SITE ≡ o ∷ st.sets SITE = with_at_here st.sets SITE (o ∷ st.sets SITE) in
+      let more = grows moves (after_move K SITE stamp move st) (λ m i. sound m (inr i)) stands.1 (record {
+        world = world_then Greatest K SITE stamp heaps site_below st is.world is.closed move its stands.0;
+        closed = closed_then Greatest K SITE stamp heaps site_below st is.world is.closed move its stands.0;
         short = subst (λ S. (p : Operation) → IsIn p S → HasShortNames p) (sym same) (λ p i. elim i [
           | inl e ↦ subst HasShortNames e (record { key = its.key; member = its.member })
           | inr there ↦ is.short p there
@@ -210,42 +240,40 @@ module _ (stamp : ℕ) where
       }) in
       (more.0, λ p i. more.1 p (subst (IsIn p) (sym same) (inr i)))
 
--- a book of a closed set that has all of S
-abbrev Grown : List Operation → List Book → Type 0
-Grown S new = (T : List Operation) × IsOfSet T new × HasAll T S
+-- books of a closed set that has all of S
+abbrev Grown : ℕ → List Operation → List Book → Type 0
+Grown K S new = (T : List Operation) × IsOfSet K T new × HasAll T S
 
-moved_set : (S : List Operation) (stamp : ℕ) (moves : List Move) (mid new : List Book) → IsOfSet S mid → AreSound moves → AreUnworn new → new ≡ books_after SITE stamp moves mid → Grown S new
-moved_set S stamp moves [] new of sound unworn is = absurd (let none = of.number in omega (arith, none))
-moved_set S stamp moves (b ∷ []) new of sound unworn is =
-    let st = standing_at S b in
-    let are : AreBooksOf Greatest 1 st SITE (b ∷ []) = record { number = refl; each = book_of S b (of.each b (inl refl)) } in
-    let stands = all_stand Greatest 1 SITE stamp one_heap site_below moves st (b ∷ []) new of.world of.closed sound are unworn is in
-    let more = grows stamp moves st sound stands.0 (record { world = of.world; closed = of.closed; short = of.short }) in
-    ((after_moves 1 SITE stamp moves st).sets SITE, of_books (after_moves 1 SITE stamp moves st) new stands.1 more.0, more.1)
-moved_set S stamp moves (b ∷ c ∷ books) new of sound unworn is = absurd (let none = of.number in omega (arith, none))
+moved_set : (K : ℕ) (S : List Operation) (stamp : ℕ) (moves : List Move) (mid new : List Book) → IsOfSet K S mid → AreSound moves → AreUnworn new → new ≡ books_after SITE stamp moves mid →
+    Grown K S new
+moved_set K S stamp moves mid new of sound unworn is =
+    let st = standing_at S mid in
+    let stands = all_stand Greatest K SITE stamp of.heaps site_below moves st mid new of.world of.closed sound (books_of K S mid of) unworn is in
+    let more = grows K of.heaps stamp moves st sound stands.0 (record { world = of.world; closed = of.closed; short = of.short }) in
+    ((after_moves K SITE stamp moves st).sets SITE, of_books K (after_moves K SITE stamp moves st) new of.heaps stands.1 more.0, more.1)
 
-module _ (S : List Operation) (old new : List Book) (bytes : Word) (of : IsOfSet S old) (unworn : AreUnworn new) where
-  kept : new ≡ old → Grown S new
-  kept same = (S, subst (IsOfSet S) (sym same) of, λ o i. i)
+module _ (K : ℕ) (S : List Operation) (old new : List Book) (bytes : Word) (of : IsOfSet K S old) (unworn : AreUnworn new) where
+  kept : new ≡ old → Grown K S new
+  kept same = (S, subst (IsOfSet K S) (sym same) of, λ o i. i)
 
-  plan_grown : (strict : Bool) (stamp : ℕ) (plan : Plan) (cut : ℕ → Want → Reply) → AreSound plan.moves → Runs SITE stamp strict plan cut (next_begun old) new bytes → Grown S new
-  plan_grown strict stamp plan cut sound (whole books says) = moved_set S stamp plan.moves (next_begun old) new (of_set_begun S old of) sound unworn books
+  plan_grown : (strict : Bool) (stamp : ℕ) (plan : Plan) (cut : ℕ → Want → Reply) → AreSound plan.moves → Runs SITE stamp strict plan cut (next_begun old) new bytes → Grown K S new
+  plan_grown strict stamp plan cut sound (whole books says) = moved_set K S stamp plan.moves (next_begun old) new (of_set_begun K S old of) sound unworn books
   plan_grown strict stamp plan cut sound (part k want few books why says) =
-      moved_set S stamp (take k plan.moves) (next_begun old) new (of_set_begun S old of) (λ m i. sound m (in_taken m k plan.moves i)) unworn books
+      moved_set K S stamp (take k plan.moves) (next_begun old) new (of_set_begun K S old of) (λ m i. sound m (in_taken m k plan.moves i)) unworn books
 
-  command_grown : (command : Command) → IsWithinLimits command → RunsCommand old command new bytes → Grown S new
+  command_grown : (command : Command) → IsWithinLimits command → RunsCommand old command new bytes → Grown K S new
   command_grown command limits (pings message is same says) = kept same
   command_grown command limits (unread takes same says) = kept same
   command_grown command limits (worn apart last same says) = kept same
   command_grown command limits (runs apart low ran) =
       let mid = next_begun old in
-      let short = subst AreShort (sym (queues_are S mid (of_set_begun S old of))) (short_over Greatest 1 S (heaps_in 1) of.world of.short) in
-      plan_grown _ (stamp_in old + 1) (plan_of command (queues_of Greatest mid)) (cut_reply command (queues_of Greatest mid))
+      let short = subst AreShort (sym (queues_are K S mid (of_set_begun K S old of))) (short_over Greatest K S (heaps_in K) of.world of.short) in
+      plan_grown _ (greatest_stamp old + 1) (plan_of command (queues_of Greatest mid)) (cut_reply command (queues_of Greatest mid))
       (moves_sound command (queues_of Greatest mid) limits short) ran
 
-  pub goes_on : (words : List Word) → IsRequest words → RunsReading old (command_of words) new bytes → Grown S new
+  pub goes_on : (words : List Word) → IsRequest words → RunsReading old (command_of words) new bytes → Grown K S new
   goes_on words is answered =
-      elim (command_of words) as (λ r. command_of words ≡ r → RunsReading old r new bytes → Grown S new) [
+      elim (command_of words) as (λ r. command_of words ≡ r → RunsReading old r new bytes → Grown K S new) [
         | Ok command ↦ λ read ran. command_grown command (within_limits words command is.limits.each is.limits.count read) ran
         | Err why ↦ λ _ ran. kept ran.0
       ] refl answered

@@ -1,30 +1,31 @@
--- What the book of a server with one heap means.
+-- What the books of a server of a site that one session alone uses mean.
 
-use Rattle.std.specs.Prelude.{List, length, ◌≡◌, ◌⊎◌}
+use Rattle.std.specs.Prelude.{List, Some, length, slice_get, ℕ, ◌≡◌, ◌⊎◌}
 use Rattle.zq_history.specs.Books.{Book}
 use Rattle.zq_model.specs.Bounded.{HasShortNames}
 use Rattle.zq_model.specs.Image.{image_of}
 use Rattle.zq_model.specs.Operation.{Operation}
 use Rattle.zq_model.specs.Rule.{Greatest}
-use Rattle.zq_model.specs.Sets.{IsClosed, IsIn, IsWorld}
+use Rattle.zq_model.specs.Sets.{IsClosed, IsHeaps, IsIn, IsWorld}
 use Rattle.zq_plans.specs.Replies.{bytes_of}
 use Rattle.zq_plans.specs.Run.{Want, cut_error}
 use Rattle.zq_words.specs.Words.{Word}
 
--- the book is that of the one heap, and has the image of this set
-pub record HasImageOf (S : List Operation) (book : Book) : Type 0 where
-  pub heap : book.heap ≡ 0
-  pub heaps : book.heaps ≡ 1
+-- the book is that of this heap, of K, and has the image of this set there
+pub record HasImageOf (K : ℕ) (S : List Operation) (heap : ℕ) (book : Book) : Type 0 where
+  pub heap_is : book.heap ≡ heap
+  pub heaps : book.heaps ≡ K
   pub ruled : book.rule ≡ Greatest
-  pub state : book.state ≡ image_of S 0
+  pub state : book.state ≡ image_of S heap
 
--- there is one such book, and the set is a closed set of one world with short names
-pub record IsOfSet (S : List Operation) (books : List Book) : Type 0 where
-  pub world : IsWorld 1 S
+-- there is such a book for each of K heaps, at the place of its number, and the set is a closed set of one world with short names
+pub record IsOfSet (K : ℕ) (S : List Operation) (books : List Book) : Type 0 where
+  pub heaps : IsHeaps K
+  pub world : IsWorld K S
   pub closed : IsClosed S
   pub short : (o : Operation) → IsIn o S → HasShortNames o
-  pub number : length books ≡ 1
-  pub each : (book : Book) → IsIn book books → HasImageOf S book
+  pub number : length books ≡ K
+  pub each : (heap : ℕ) (book : Book) → slice_get books heap ≡ Some book → HasImageOf K S heap book
 
 -- the answer, or the error of a command that was not begun
 abbrev pub IsAnswer : Word → Word → Type 0

@@ -1,10 +1,11 @@
-//! What a server with one heap answers, by the operations that its book has taken.
+//! What a server of a site that one session alone uses answers, by the operations that its books have taken.
 
 ghost use Rattle.std.specs.Prelude.{List, [], true, ℕ, ◌≡◌};
 ghost use Rattle.zq_history.specs.Books.{Book};
 ghost use Rattle.zq_model.specs.Meaning.{IsWholeQueue};
 ghost use Rattle.zq_model.specs.Operation.{Operation};
 ghost use Rattle.zq_model.specs.Rule.{Greatest};
+ghost use Rattle.zq_model.specs.Sets.{IsHeaps};
 ghost use Rattle.zq_moves.specs.Lent.{queues_of};
 ghost use Rattle.zq_resp.specs.Reply.{reply_bytes};
 ghost use Rattle.zq_resp.specs.Request.{IsRequest};
@@ -15,15 +16,16 @@ ghost use Rattle.zq_server.specs.Meaning.{HasAll, IsAnswer, IsOfSet};
 ghost use Rattle.zq_server.specs.Plain.{AnswersByPlan, next_begun, no_keys};
 ghost use Rattle.zq_words.specs.Words.{Word};
 
-/// The queues over a book of a closed set are those that the set means, also as a command begins with it, so that every
+/// The queues over the books of a closed set are those that the set means, also as a command begins with them, so that every
 /// plan is read off the set. A request that only reads is answered what the set answers, or is not begun. Each request
-/// leaves a book of a closed set that has all of the one before, where no number of the book is past its last value.
+/// leaves the books of a closed set that has all of the one before, where no number of a book is past its last value.
 pub fn meaning()
-    ensures opens { IsOfSet [] no_keys }
-    ensures queues { (S : List Operation) (books : List Book) → IsOfSet S books → (key : List ℕ) → IsWholeQueue Greatest S key (queues_of Greatest books key) }
+    ensures opens { (K : ℕ) → IsHeaps K → IsOfSet K [] (no_keys K) }
+    ensures queues { (K : ℕ) (S : List Operation) (books : List Book) → IsOfSet K S books → (key : List ℕ) →
+        IsWholeQueue Greatest S key (queues_of Greatest books key) }
     ensures begins { (books : List Book) → queues_of Greatest (next_begun books) ≡ queues_of Greatest books }
-    ensures reads { (S : List Operation) (old new : List Book) (words : List Word) (reply : Replies) → IsOfSet S old → is_question words ≡ true →
-        AnswersByPlan old words reply new → IsOfSet S new × IsAnswer (answer_of Greatest 1 S words) (reply_bytes reply) }
-    ensures goes_on { (S : List Operation) (old new : List Book) (words : List Word) (reply : Replies) → IsOfSet S old → IsRequest words →
-        AnswersByPlan old words reply new → AreUnworn new → (T : List Operation) × IsOfSet T new × HasAll T S }
+    ensures reads { (K : ℕ) (S : List Operation) (old new : List Book) (words : List Word) (reply : Replies) → IsOfSet K S old → is_question words ≡ true →
+        AnswersByPlan old words reply new → IsOfSet K S new × IsAnswer (answer_of Greatest K S words) (reply_bytes reply) }
+    ensures goes_on { (K : ℕ) (S : List Operation) (old new : List Book) (words : List Word) (reply : Replies) → IsOfSet K S old → IsRequest words →
+        AnswersByPlan old words reply new → AreUnworn new → (T : List Operation) × IsOfSet K T new × HasAll T S }
 {}

@@ -1,8 +1,9 @@
-//! A server with one heap.
+//! A server of a site that one session alone uses.
 
 ghost use Rattle.std.specs.Prelude.{IfOk, IsTrue, ◌≡◌};
 ghost use Rattle.zq_resp.specs.Reply.{is_writable, reply_bytes};
-ghost use Rattle.zq_server.specs.Plain.{IsOfOneHeap, RunsCommand, SITE, no_keys};
+ghost use Rattle.zq_model.specs.Sets.{IsHeaps};
+ghost use Rattle.zq_server.specs.Plain.{AreRuledGreatest, RunsCommand, SITE, no_keys};
 
 use crate::serving::Answers;
 use std::alloc::{AllocError, Global};
@@ -14,11 +15,12 @@ use zq_posheap::Seeded;
 use zq_resp::{Reply, Request};
 use zq_words::{Command, Kind};
 
-/// A server of one site with one heap, which keeps what it is given in memory alone. A member's score is the greatest
-/// of its additions'.
+/// A server of a site that one session alone uses: it locks nothing. It keeps what it is given in memory alone. A
+/// member's score is the greatest of its additions'.
 ///
-/// Every command but PING runs at the stamp after that of the heap's book, and is answered `-ERR worn after 0` where
-/// there is none. Before it a tail of 4,096 records or more is cut to its newest 2,048.
+/// Every command but PING runs at the stamp after the greatest of its books', and is answered `-ERR worn after 0` where
+/// there is none. It begins all books: a tail of 4,096 records or more is cut to its newest 2,048. ZPOPNEAR takes the
+/// first pair of all heaps, as ZPOPMIN does.
 #[derive(Drop)]
 pub struct Plain {
     pub(crate) books: SiteBooks,
@@ -28,7 +30,7 @@ impl Model for Plain {
     ghost use Rattle.std.specs.Prelude.{List};
     ghost use Rattle.zq_commands.specs.SiteBooks.{books_code};
     ghost use Rattle.zq_history.specs.Books.{Book};
-    ghost use Rattle.zq_server.specs.Plain.{IsOfOneHeap};
+    ghost use Rattle.zq_server.specs.Plain.{AreRuledGreatest};
 
     ghost Value = { List Book };
 
@@ -36,27 +38,28 @@ impl Model for Plain {
 
     ghost view = { λ server. server.books };
 
-    ghost invariant = { λ server. IsOfOneHeap server.books };
+    ghost invariant = { λ server. AreRuledGreatest server.books };
 }
 
 impl Plain {
-    /// A server with no keys, and `Err` where there was no memory for its book.
-    pub fn new(alloc: Global) -> Result<Plain, AllocError>
-        ensures { IfOk result (λ server. server ≡ no_keys) }
+    /// A server with no keys over so many heaps, 1 to 16, and `Err` where there was no memory for their books.
+    pub fn new(alloc: Global, heaps: u8) -> Result<Plain, AllocError>
+        requires { IsHeaps heaps }
+        ensures { IfOk result (λ server. server ≡ no_keys heaps) }
     {
-        let books = SiteBooks::new(alloc, 1, Rule::High, Seeded::new(0))?;
+        let books = SiteBooks::new(alloc, heaps, Rule::High, Seeded::new(0))?;
         Ok(Plain { books })
     }
 
-    /// A server of the books of one heap.
+    /// A server of these books, in which the greatest of a member's scores counts.
     pub fn of_books(books: SiteBooks) -> Plain
-        requires { IsOfOneHeap books }
+        requires { AreRuledGreatest books }
         ensures { result ≡ books }
     {
         Plain { books }
     }
 
-    /// The book of the one heap.
+    /// The books, by heap.
     pub fn books(&self) -> &[Book]
         ensures { result.now ≡ self.now }
     {
@@ -75,7 +78,10 @@ impl Plain {
                     self.books.begin(stamp);
                     self.books.run(alloc, site(), stamp, command)
                 }
-                None => cut_reply(Cut::Worn, 0),
+                None => {
+                    let _last = self.books.stamp();
+                    cut_reply(Cut::Worn, 0)
+                }
             },
         }
     }
@@ -94,7 +100,7 @@ impl Answers for Plain {
     }
 }
 
-/// The site of a server with one heap.
+/// The site's number.
 fn site() -> SiteNo
     ensures { result ≡ SITE }
 {

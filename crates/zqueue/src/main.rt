@@ -32,7 +32,7 @@ README.md says what each of them does, and docs/COMMANDS.md what clients can sen
 
 fn main(rt: HostRuntime) -> ExitCode {
     let code = match asked(&rt) {
-        Ok(Some(Command::Pipe)) => pipe(&rt, rt.alloc(), &mut rt.reader(), &mut io::writer(&rt)),
+        Ok(Some(Command::Pipe)) => pipe(rt.alloc(), &mut rt.reader(), &mut io::writer(&rt)),
         Ok(Some(Command::Serve(path))) => match serve_file(&rt, rt.alloc(), path.as_str()) {
             Ok(()) => 0,
             Err(refusal) => refuse(refusal, &mut io::writer(&rt)),

@@ -174,7 +174,7 @@ fn pipe_answers_from_both_heaps_and_says_how_the_input_ended(rt: HostRuntime) {
     for (asked, replies, status) in rows {
         let mut asked = asked;
         let mut written = Vec::new(rt.alloc());
-        assert_eq!(rt; pipe(&rt, rt.alloc(), &mut asked, &mut written), status);
+        assert_eq!(rt; pipe(rt.alloc(), &mut asked, &mut written), status);
         assert_eq!(rt; written.as_slice(), replies);
     }
 }

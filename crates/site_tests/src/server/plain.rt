@@ -1,7 +1,8 @@
-//! A server with one heap, by the bytes that it answers. Expected bytes are those of Redis's reference and of the
-//! commands' document.
+//! A server of a site that one session alone uses, by the bytes that it answers. Expected bytes are those of Redis's
+//! reference and of the commands' document.
 
 ghost use Rattle.std.specs.Prelude.{◌≤◌};
+ghost use Rattle.zq_model.specs.Sets.{IsHeaps};
 
 use std::alloc::Global;
 use std::process::Abort;
@@ -184,10 +185,18 @@ fn ask(alloc: Global, server: &mut Plain, line: &str) -> Result<Vec<u8>, Fail> {
     answer(alloc, server, bytes.as_slice())
 }
 
-/// Does a step.
-fn take_step(rt: &impl Abort, alloc: Global, server: &mut Plain, step: Step) -> Result<(), Fail> {
+/// Does a step of a server of so many heaps.
+fn take_step(
+    rt: &impl Abort,
+    alloc: Global,
+    heaps: u8,
+    server: &mut Plain,
+    step: Step,
+) -> Result<(), Fail>
+    requires { IsHeaps heaps }
+{
     match step {
-        Clear => *server = Plain::new(alloc)?,
+        Clear => *server = Plain::new(alloc, heaps)?,
         Ask(line, says) => {
             let bytes = ask(alloc, server, line)?;
             assert!(rt; bytes.as_slice() == says.as_bytes(), "{line}");
@@ -200,11 +209,57 @@ fn take_step(rt: &impl Abort, alloc: Global, server: &mut Plain, step: Step) -> 
     Ok(())
 }
 
+/// Does these steps, the first of them at a server of so many heaps without a key.
+fn take_steps(rt: &impl Abort, alloc: Global, heaps: u8, steps: &[Step]) -> Result<Plain, Fail>
+    requires { IsHeaps heaps }
+{
+    let mut server = Plain::new(alloc, heaps)?;
+    for step in steps.iter() {
+        take_step(rt, alloc, heaps, &mut server, *step)?;
+    }
+    Ok(server)
+}
+
 #[test]
 fn commands_are_answered(rt: HostRuntime) -> Result<(), Fail> {
-    let mut server = Plain::new(rt.alloc())?;
-    for step in STEPS.iter() {
-        take_step(&rt, rt.alloc(), &mut server, *step)?;
+    take_steps(&rt, rt.alloc(), 1, &STEPS)?;
+    Ok(())
+}
+
+#[test]
+fn commands_over_two_heaps_are_answered_alike(rt: HostRuntime) -> Result<(), Fail> {
+    take_steps(&rt, rt.alloc(), 2, &STEPS)?;
+    Ok(())
+}
+
+// Member a of key q lies in heap 0, and member b in heap 1.
+const TWO_STEPS: [Step; 12] = [
+    Ask("ZADD q 3 a 1 b", ":2\r\n"),
+    Ask(
+        "ZRANGE q 0 -1 WITHSCORES",
+        "*4\r\n$1\r\nb\r\n$1\r\n1\r\n$1\r\na\r\n$1\r\n3\r\n",
+    ),
+    Ask("ZRANK q a", ":1\r\n"),
+    Ask("ZCARD q", ":2\r\n"),
+    Ask(
+        "ZPOPMIN q 2",
+        "*4\r\n$1\r\nb\r\n$1\r\n1\r\n$1\r\na\r\n$1\r\n3\r\n",
+    ),
+    Ask("ZCARD q", ":0\r\n"),
+    Ask("ZADD q 5 b 4 a", ":2\r\n"),
+    Ask("ZPOPNEAR q", "*2\r\n$1\r\na\r\n$1\r\n4\r\n"),
+    Ask("ZCARD q", ":1\r\n"),
+    Ask("ZPOPNEAR q", "*2\r\n$1\r\nb\r\n$1\r\n5\r\n"),
+    Ask("ZPOPNEAR q", "*0\r\n"),
+    Ask("ZCARD q", ":0\r\n"),
+];
+
+#[test]
+fn pops_and_readings_are_of_both_heaps(rt: HostRuntime) -> Result<(), Fail> {
+    let server = take_steps(&rt, rt.alloc(), 2, &TWO_STEPS)?;
+    // Each book has two additions and two removals of its member.
+    for book in server.books().iter() {
+        assert_eq!(rt; book.tail_len(), 4);
     }
     Ok(())
 }
@@ -229,7 +284,7 @@ fn puts(alloc: Global, count: usize) -> Result<Vec<u8>, Fail> {
 
 #[test]
 fn a_long_tail_is_cut(rt: HostRuntime) -> Result<(), Fail> {
-    let mut server = Plain::new(rt.alloc())?;
+    let mut server = Plain::new(rt.alloc(), 1)?;
     let bytes = puts(rt.alloc(), 4096)?;
     answer(rt.alloc(), &mut server, bytes.as_slice())?;
     assert_eq!(rt; tail_len(&server), 4096);
@@ -282,7 +337,7 @@ const LAST_STEPS: [Step; 18] = [
 fn a_worn_stamp_leaves_ping_alone(rt: HostRuntime) -> Result<(), Fail> {
     let mut server = stamped(rt.alloc(), LAST_STAMP - 1)?;
     for step in LAST_STEPS.iter() {
-        take_step(&rt, rt.alloc(), &mut server, *step)?;
+        take_step(&rt, rt.alloc(), 1, &mut server, *step)?;
     }
     assert_eq!(rt; tail_len(&server), 1);
     Ok(())

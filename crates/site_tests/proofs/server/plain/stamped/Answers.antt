@@ -1,12 +1,12 @@
 use Rattle.std.proofs.Common.{ap, arith, inl, inr, subst}
 use Rattle.zq_history.specs.Books.{Book}
 use Rattle.zq_model.specs.Sets.{IsIn}
-use Rattle.zq_server.proofs.OneHeap.{begun_heap, opening, opening_heap}
+use Rattle.zq_server.proofs.PlainBooks.{begun_ruled, opening, opening_ruled}
 use Rattle.site_tests.proofs.server.plain.stamped.Goals as goal
 
 pub begin-requires : goal.begin-requires
 begin-requires c =
-    let same = opening c.in_ok-books.books c.in_ok-books.ensures.number c.in_ok-books.ensures.empty in
+    let same = opening 1 c.in_ok-books.books c.in_ok-books.ensures.number c.in_ok-books.ensures.empty in
     record {
       dated = (
         c.requires,
@@ -20,5 +20,4 @@ begin-requires c =
 pub of_books-requires : goal.of_books-requires
 of_books-requires c =
     let books = c.in_ok-books.books in
-    let same = opening books c.in_ok-books.ensures.number c.in_ok-books.ensures.empty in
-    begun_heap c.args.stamp books c.begin.new.self (opening_heap books same) c.begin.ensures.begun
+    begun_ruled c.args.stamp books c.begin.new.self (opening_ruled 1 books c.in_ok-books.ensures.empty) c.begin.ensures.begun

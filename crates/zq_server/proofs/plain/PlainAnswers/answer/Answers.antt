@@ -1,6 +1,6 @@
 use Rattle.std.proofs.Common.{subst, sym}
 use Rattle.zq_resp.specs.Reply.{reply_bytes}
-use Rattle.zq_server.proofs.OneHeap.{refusal_runs}
+use Rattle.zq_server.proofs.PlainBooks.{refusal_runs}
 use Rattle.zq_server.proofs.Refused.{refusal_read}
 use Rattle.zq_server.specs.Plain.{RunsReading}
 use Rattle.zq_words.specs.Command.{command_of}
