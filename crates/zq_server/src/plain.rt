@@ -79,6 +79,7 @@ impl Plain {
                     self.books.run(alloc, site(), stamp, command)
                 }
                 None => {
+                    // It is in range, and no book's stamp is past it.
                     let _last = self.books.stamp();
                     cut_reply(Cut::Worn, 0)
                 }

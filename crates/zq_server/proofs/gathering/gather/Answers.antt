@@ -1,4 +1,4 @@
-use Rattle.std.proofs.Common.{◌≡◌, ◌++◌, [], Err, subst, sym, take}
+use Rattle.std.proofs.Common.{◌≡◌, [], Err, subst, sym, take}
 use Rattle.std.specs.Io.KnownBytes.{Appends}
 use Rattle.std.proofs.lemmas.Result.{err_from_is_err_and}
 use Rattle.zq_resp.specs.Reply.{reply_bytes}
