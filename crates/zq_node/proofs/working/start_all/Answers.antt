@@ -77,4 +77,4 @@ pub spawn_with-requires-send-F : goal.spawn_with-requires-send-F
 spawn_with-requires-send-F g c κs within = crosses_over g κs c.type_bounds.sync-G c.type_bounds.sync-R
 
 pub spawn_with-requires-send-T : goal.spawn_with-requires-send-T
-spawn_with-requires-send-T g c κs within = search (pass_send, reply.crosses, sendable, crosses) depth 30
+spawn_with-requires-send-T g c κs within = search (pass_send, reply.crosses, sendable, crosses) depth 60 fits 50000
