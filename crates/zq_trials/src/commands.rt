@@ -32,12 +32,12 @@ pub struct Row {
 const FILL: &str = "ZADD q 1 a 2 b 3 c";
 
 /// The same with members that are too long to lie in a reply: a pop, and a DEL, takes memory for each. They lie in the same heaps.
-const FILL_LONG: &str =
-    "ZADD q 1 long-member-name-a 2 long-member-name-b 3 long-member-name-c";
+const FILL_LONG: &str = "ZADD q 1 long-member-name-a 2 long-member-name-b 3 long-member-name-c";
 
 const ALL: &str = "*6\r\n$1\r\na\r\n$1\r\n1\r\n$1\r\nb\r\n$1\r\n2\r\n$1\r\nc\r\n$1\r\n3\r\n";
 
-const ALL_LONG: &str = "*6\r\n$18\r\nlong-member-name-a\r\n$1\r\n1\r\n$18\r\nlong-member-name-b\r\n$1\r\n2\r\n$18\r\nlong-member-name-c\r\n$1\r\n3\r\n";
+const ALL_LONG: &str =
+    "*6\r\n$18\r\nlong-member-name-a\r\n$1\r\n1\r\n$18\r\nlong-member-name-b\r\n$1\r\n2\r\n$18\r\nlong-member-name-c\r\n$1\r\n3\r\n";
 
 /// What a call says that had no memory for its first operation.
 pub const REFUSED: &str = "-OOM after 0\r\n";
