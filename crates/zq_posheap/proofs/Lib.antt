@@ -1,4 +1,5 @@
 pub mod ByWords
+pub mod Ends
 pub mod Lists
 pub mod Inverses
 pub mod Linked

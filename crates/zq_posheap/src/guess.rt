@@ -5,6 +5,7 @@ ghost use Rattle.indexmap.specs.IndexMap.{get_by, index_map_len, keys, values};
 ghost use Rattle.zq_posheap.specs.Order.{same_key};
 
 use crate::name::{Name, NameRef};
+use crate::same::is_same;
 use crate::seeded::Seeded;
 use indexmap::IndexMap;
 use std::cell::Cell;
@@ -64,7 +65,7 @@ fn is_at<V>(names: &IndexMap<Name, V, Seeded>, index: usize, name: &[u8]) -> boo
     ensures found { IsTrue result → is_some (get_by (same_key name.now) names.now) ≡ true }
 {
     match names.get_index(index) {
-        Some((there, _)) => there.as_slice() == name,
+        Some((there, _)) => is_same(there.as_slice(), name),
         None => false,
     }
 }

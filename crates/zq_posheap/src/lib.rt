@@ -17,6 +17,7 @@ mod pairs;
 mod place;
 mod pos_heap;
 mod readings;
+mod same;
 mod seeded;
 
 pub use guess::Guess;

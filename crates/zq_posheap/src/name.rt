@@ -6,6 +6,7 @@ ghost use Rattle.std.specs.Cmp.Lexicographic.{bytes_decides, nat_list_eq_equiv, 
 ghost use Rattle.zq_posheap.specs.Hashing.{words_of};
 
 use crate::hashing::write_words;
+use crate::same::is_same;
 use indexmap::Equivalent;
 use std::alloc::{AllocError, Global};
 use std::hash::{Hash, Hasher};
@@ -154,6 +155,6 @@ impl<'a> Equivalent<Name> for NameRef<'a> {
     ghost respects_eq = { λ sought x y. nat_list_eq_equiv.congr sought.0.now x y };
 
     fn equivalent(&self, name: &Name) -> bool {
-        self.0 == name.as_slice()
+        is_same(self.0, name.as_slice())
     }
 }
