@@ -1,6 +1,7 @@
 //! Replies and their bytes.
 
 ghost use Rattle.std.specs.Prelude.{◌≡◌, ◌+◌, ◌<◌, ◌≤◌, ◌∷◌, ◌++◌, decimal, length, take, IsTrue};
+ghost use Rattle.std.specs.Fmt.{signed_decimal};
 ghost use Rattle.std.specs.Vec.{vec_len, vec_capacity};
 ghost use Rattle.std.specs.Result.{OnOk, OnErr};
 ghost use Rattle.zq_resp.specs.Reply.{reply_bytes, all_bytes, is_writable, line, bulk, pair, after_text};
@@ -61,9 +62,9 @@ fn append_reply(out: &mut Vec<u8>, reply: &Reply) -> Result<(), AllocError>
     match reply {
         Reply::Simple(text) => append_line(out, b'+', text.as_bytes()),
         Reply::Error { text, after } => append_error(out, text.as_bytes(), *after),
-        Reply::Integer(number) => append_line(out, b':', Buffer::new().format(*number).as_bytes()),
+        Reply::Integer(number) => append_integer(out, *number),
         Reply::Bulk(text) => append_bulk(out, text.as_slice()),
-        Reply::Number(number) => append_bulk(out, Buffer::new().format(*number).as_bytes()),
+        Reply::Number(number) => append_digits(out, *number),
         Reply::NullBulk => append_line(out, b'$', b"-1"),
         Reply::Array(parts) => {
             append_number(out, b'*', parts.len())?;
@@ -86,6 +87,7 @@ fn append_all(out: &mut Vec<u8>, replies: &[Reply]) -> Result<(), AllocError>
     Ok(())
 }
 
+#[inline(always)]
 fn append_line(out: &mut Vec<u8>, kind: u8, text: &[u8]) -> Result<(), AllocError>
     ensures written { OnOk result (out.new.items ≡ out.old.items ++ kind ∷ line text.now) }
     ensures full { OnErr result (vec_capacity out.old < vec_len out.old + length (kind ∷ line text.now)) }
@@ -96,7 +98,21 @@ fn append_line(out: &mut Vec<u8>, kind: u8, text: &[u8]) -> Result<(), AllocErro
     append_ended(out, text)
 }
 
+/// A line with a number that may be below 0. Most are counts.
+fn append_integer(out: &mut Vec<u8>, number: i64) -> Result<(), AllocError>
+    ensures written { OnOk result (out.new.items ≡ out.old.items ++ 58 ∷ line (signed_decimal number)) }
+    ensures full { OnErr result (vec_capacity out.old < vec_len out.old + length (58 ∷ line (signed_decimal number))) }
+    ensures kept { take (length out.old.items) out.new.items ≡ out.old.items }
+    ensures capacity { vec_capacity out.old ≤ vec_capacity out.new }
+{
+    match usize::try_from(number) {
+        Ok(number) => append_number(out, b':', number),
+        Err(_) => append_line(out, b':', Buffer::new().format(number).as_bytes()),
+    }
+}
+
 /// A line with a number. One digit is written as it is.
+#[inline(always)]
 fn append_number(out: &mut Vec<u8>, kind: u8, number: usize) -> Result<(), AllocError>
     ensures written { OnOk result (out.new.items ≡ out.old.items ++ kind ∷ line (decimal number)) }
     ensures full { OnErr result (vec_capacity out.old < vec_len out.old + length (kind ∷ line (decimal number))) }
@@ -115,6 +131,7 @@ fn append_number(out: &mut Vec<u8>, kind: u8, number: usize) -> Result<(), Alloc
 }
 
 /// A text, CR LF.
+#[inline(always)]
 fn append_ended(out: &mut Vec<u8>, text: &[u8]) -> Result<(), AllocError>
     ensures written { OnOk result (out.new.items ≡ out.old.items ++ line text.now) }
     ensures full { OnErr result (vec_capacity out.old < vec_len out.old + length (line text.now)) }
@@ -143,6 +160,7 @@ fn append_error(out: &mut Vec<u8>, text: &[u8], after: Option<u64>) -> Result<()
     out.extend_from_slice(LINE_END)
 }
 
+#[inline(always)]
 fn append_bulk(out: &mut Vec<u8>, bytes: &[u8]) -> Result<(), AllocError>
     ensures written { OnOk result (out.new.items ≡ out.old.items ++ bulk bytes.now) }
     ensures full { OnErr result (vec_capacity out.old < vec_len out.old + length (bulk bytes.now)) }
@@ -153,6 +171,19 @@ fn append_bulk(out: &mut Vec<u8>, bytes: &[u8]) -> Result<(), AllocError>
     append_ended(out, bytes)
 }
 
+/// A bulk string of a number's digits. Most numbers take 64 bits, which are written in fewer steps.
+fn append_digits(out: &mut Vec<u8>, number: i128) -> Result<(), AllocError>
+    ensures written { OnOk result (out.new.items ≡ out.old.items ++ bulk (signed_decimal number)) }
+    ensures full { OnErr result (vec_capacity out.old < vec_len out.old + length (bulk (signed_decimal number))) }
+    ensures kept { take (length out.old.items) out.new.items ≡ out.old.items }
+    ensures capacity { vec_capacity out.old ≤ vec_capacity out.new }
+{
+    match u64::try_from(number) {
+        Ok(number) => append_bulk(out, Buffer::new().format(number).as_bytes()),
+        Err(_) => append_bulk(out, Buffer::new().format(number).as_bytes()),
+    }
+}
+
 fn append_pair(out: &mut Vec<u8>, text: &[u8], number: i128) -> Result<(), AllocError>
     ensures written { OnOk result (out.new.items ≡ out.old.items ++ pair text.now number) }
     ensures full { OnErr result (vec_capacity out.old < vec_len out.old + length (pair text.now number)) }
@@ -161,5 +192,5 @@ fn append_pair(out: &mut Vec<u8>, text: &[u8], number: i128) -> Result<(), Alloc
 {
     append_number(out, b'*', 2)?;
     append_bulk(out, text)?;
-    append_bulk(out, Buffer::new().format(number).as_bytes())
+    append_digits(out, number)
 }
