@@ -17,6 +17,7 @@ pub struct Found {
 }
 
 /// Where a member of a key lies, and its score.
+#[inline(always)]
 pub fn find<B: Books>(books: &B, key: &[u8], member: &[u8]) -> Found
     requires lent { IsLending (B.lent books.now) }
     requires home { HasBook key.now member.now (B.lent books.now) }

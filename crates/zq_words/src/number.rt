@@ -14,6 +14,7 @@ const LEAST: u64 = 9_223_372_036_854_775_808;
 /// The score that a text writes: a sign or none, one or more digits, and then nothing or a point with
 /// one or more zeros behind it. `None` for another text, and for a number whose amount is above
 /// 9,007,199,254,740,992.
+#[inline(always)]
 pub fn parse_score(text: &[u8]) -> Option<i64>
     ensures { result ≡ written_score text.now }
 {
