@@ -1,7 +1,8 @@
 #!/usr/bin/env python3
 """Times `./zqueue pipe` on streams made from a seed, in alternation with redis-server over loopback, where it is
-there, and with the yardstick in C, and prints the medians and their ratios. One loader, feed.c, feeds them all. Needs a C
-compiler.
+there, and with the yardstick in C, and prints the medians and the fastest rounds, and their ratios. Where a machine's
+neighbours slow it down for some of the rounds, the fastest of many rounds swing the least. One loader, feed.c, feeds them
+all. Needs a C compiler.
 
 Usage: bench/pipe.py [--seed N] [--requests N] [--members N[,N..]] [--rounds N] [KIND ..]
 The kinds are those of streams.py, each over each number of members. A stream of readings in order is timed after a first
@@ -120,12 +121,14 @@ def measure(kind, members, options, feed, redis, stick):
         # The yardstick keeps nothing, and answers no PING, by which the loader knows the end of a first stream.
         times["yardstick"].append(feed.seconds("stick", stick, first=feed.nothing))
     medians = {name: statistics.median(all) for name, all in times.items() if all}
+    fastest = {name: min(all) for name, all in times.items() if all}
     line = f"{kind} over {members} members: {requests} requests, {len(data)} bytes"
     for name, seconds in medians.items():
-        line += f"; {name} {seconds:.3f} s, {requests / seconds:,.0f} requests/s"
+        line += f"; {name} {seconds:.3f} s, {requests / seconds:,.0f} requests/s, at best {requests / fastest[name]:,.0f}"
     for name in ("redis", "yardstick"):
         if name in medians:
             line += f"; zqueue's rate is {medians[name] / medians['zqueue']:.2f} of {name}'s"
+            line += f", at best {fastest[name] / fastest['zqueue']:.2f}"
     print(line, flush=True)
 
 
