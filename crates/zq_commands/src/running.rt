@@ -90,7 +90,7 @@ fn run_kind<B: Books>(books: &mut B, alloc: Global, site: SiteNo, stamp: u64, ki
     ensures writable { IsTrue (is_writable result.reply) }
 {
     match kind {
-        Kind::Zadd { key, flags, pairs } => Ran::of(put_pairs(
+        Kind::Zadd { key, pairs, flags } => Ran::of(put_pairs(
             books,
             alloc,
             site,
@@ -99,7 +99,7 @@ fn run_kind<B: Books>(books: &mut B, alloc: Global, site: SiteNo, stamp: u64, ki
             *flags,
             pairs.as_slice(),
         )),
-        Kind::ZaddIncr { key, flags, pair } => {
+        Kind::ZaddIncr { key, pair, flags } => {
             Ran::of(raise_if(books, alloc, site, stamp, key, *flags, pair))
         }
         Kind::Zincrby { key, pair } => Ran::of(raise(books, alloc, site, stamp, key, pair)),

@@ -1,11 +1,10 @@
 -- Texts of digits alone.
 use Rattle.std.proofs.Common.{ap, arith, refl, sym, ◌∙◌}
 use Rattle.std.proofs.lemmas.Bool.{and_parts, ltb-false}
-use Rattle.std.proofs.lemmas.Int.{ints}
 use Rattle.std.proofs.lemmas.List.{take_all}
 use Rattle.std.specs.Char.{is_ascii_digit}
 use Rattle.std.specs.List.{before_first, list_all, list_any}
-use Rattle.std.specs.Prelude.{Some, [], false, min, nat_eq, pos, true, ℕ, ◌-◌, ◌^◌, ◌∷◌, ◌≡◌}
+use Rattle.std.specs.Prelude.{Some, [], false, nat_eq, pos, true, ℕ, ◌∷◌, ◌≡◌}
 use Rattle.zq_words.proofs.Positions.{list_any-place}
 use Rattle.zq_words.specs.Words.{Word, are_all, if_passes, integer_of, is_in_range, is_point, number_of, written_score}
 
@@ -33,13 +32,9 @@ signless (d ∷ ds) e =
     let first = (and_parts _ _ e).0 in
     rw (plus_apart d first, minus_apart d first, e) refl
 
--- a number above this one is no score, however much above
-capped : (n : ℕ) → if_passes is_in_range (Some (pos (min n (2 ^ 64 - 1)))) ≡ if_passes is_in_range (Some (pos n))
-capped n = grind (arith, ints)
-
-pub plain_score : (text : Word) (amount : ℕ) → are_all is_ascii_digit text ≡ true → amount ≡ min (number_of text) (2 ^ 64 - 1) →
+pub plain_score : (text : Word) (amount : ℕ) → are_all is_ascii_digit text ≡ true → amount ≡ number_of text →
     if_passes is_in_range (Some (pos amount)) ≡ written_score text
 plain_score text amount e is =
     let none = pointless text (and_parts _ _ e).1 in
     let read = ap (if_passes is_in_range) (signless text e) in
-    ap (λ n. if_passes is_in_range (Some (pos n))) is ∙ capped (number_of text) ∙ sym read ∙ rw (none, whole text none) refl
+    ap (λ n. if_passes is_in_range (Some (pos n))) is ∙ sym read ∙ rw (none, whole text none) refl

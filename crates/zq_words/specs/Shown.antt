@@ -23,8 +23,8 @@ pairs_shown pairs = map pair_shown (pairs_in pairs)
 
 abbrev pub shown : Kind → Command
 shown (kind.Ping message) = Ping (option_map (λ m. m.now) message)
-shown (kind.Zadd key flags pairs) = Zadd key.now flags (pairs_shown pairs)
-shown (kind.ZaddIncr key flags pair) = ZaddIncr key.now flags pair.score pair.member.now
+shown (kind.Zadd key pairs flags) = Zadd key.now flags (pairs_shown pairs)
+shown (kind.ZaddIncr key pair flags) = ZaddIncr key.now flags pair.score pair.member.now
 shown (kind.Zincrby key pair) = Zincrby key.now pair.score pair.member.now
 shown (kind.Zrem key members) = Zrem key.now (views members.now)
 shown (kind.Zscore key member) = Zscore key.now member.now

@@ -14,14 +14,14 @@ pub enum Kind<'a> {
     /// One pair or more.
     Zadd {
         key: &'a [u8],
-        flags: Flags,
         pairs: Pairs<'a>,
+        flags: Flags,
     },
     /// ZADD with INCR: the pair's score is added to the member's.
     ZaddIncr {
         key: &'a [u8],
-        flags: Flags,
         pair: Pair<'a>,
+        flags: Flags,
     },
     /// The pair's score is added to the member's.
     Zincrby {

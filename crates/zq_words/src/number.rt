@@ -1,6 +1,6 @@
 //! The texts of numbers.
 
-ghost use Rattle.std.specs.Prelude.{◌+◌, ◌-◌, ◌*◌, ◌^◌, ◌&&◌, min, neg_ℤ, not, pos, None, Some, IfSome, IsTrue, ◌<◌, ◌≡◌, position, length, if◌then◌else◌};
+ghost use Rattle.std.specs.Prelude.{◌+◌, ◌-◌, ◌*◌, ◌^◌, ◌&&◌, min, neg_ℤ, not, pos, None, Some, IfNone, IfSome, IsTrue, ◌<◌, ◌≡◌, position, length, if◌then◌else◌};
 ghost use Rattle.std.specs.List.{list_all, list_any, before_first, after_first};
 ghost use Rattle.std.specs.Char.{is_ascii_digit};
 ghost use Rattle.std.specs.Option.{option_map};
@@ -10,6 +10,9 @@ use zq_dots::GREATEST;
 
 /// The amount of the least `i64`.
 const LEAST: u64 = 9_223_372_036_854_775_808;
+
+/// A number of so many digits takes 64 bits at most.
+const FEW_DIGITS: usize = 18;
 
 /// The score that a text writes: a sign or none, one or more digits, and then nothing or a point with
 /// one or more zeros behind it. `None` for another text, and for a number whose amount is above
@@ -24,13 +27,14 @@ pub fn parse_score(text: &[u8]) -> Option<i64>
     }
 }
 
-/// What a text of digits alone writes, or 2^64 - 1 where that is greater, and `None` for any other text. Most scores are
-/// such texts, and one pass reads them.
+/// What a text of at most 18 digits, and of nothing else, writes, and `None` for any other text. Most scores are such
+/// texts, and one pass reads them.
 fn plain_amount(text: &[u8]) -> Option<u64>
     ensures digits { IfSome result (λ amount. IsTrue (are_all is_ascii_digit text.now)) }
-    ensures amount { IfSome result (λ amount. amount ≡ min (number_of text.now) (2 ^ 64 - 1)) }
+    ensures amount { IfSome result (λ amount. amount ≡ number_of text.now) }
+    ensures none { IfNone result (IsTrue (are_all is_ascii_digit text.now) → 18 < length text.now) }
 {
-    if text.is_empty() {
+    if text.is_empty() || text.len() > FEW_DIGITS {
         return None;
     }
     let mut amount = 0u64;
@@ -38,7 +42,7 @@ fn plain_amount(text: &[u8]) -> Option<u64>
         if !digit.is_ascii_digit() {
             return None;
         }
-        amount = with_digit(amount, *digit);
+        amount = amount * 10 + u64::from(*digit - b'0');
     }
     Some(amount)
 }

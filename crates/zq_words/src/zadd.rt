@@ -53,7 +53,7 @@ fn read_flagged<'a>(
         return read_increment(key, flags, pairs);
     }
     match read_pairs(alloc, pairs)? {
-        Some(pairs) => Ok(Kind::Zadd { key, flags, pairs }),
+        Some(pairs) => Ok(Kind::Zadd { key, pairs, flags }),
         None => Err(Refused::Score),
     }
 }
@@ -70,7 +70,7 @@ fn read_increment<'a>(
         [increment, member] => {
             let score = parse_score(increment).ok_or(Refused::Score)?;
             let pair = Pair { score, member };
-            Ok(Kind::ZaddIncr { key, flags, pair })
+            Ok(Kind::ZaddIncr { key, pair, flags })
         }
         _ => Err(Refused::OnePair),
     }

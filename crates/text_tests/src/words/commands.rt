@@ -63,27 +63,27 @@ const COMMANDS: [(&str, &str); 30] = [
     // The words of a pair may be those of flags.
     (
         "ZADD q 1 NX",
-        "Zadd { key: [113], flags: Flags { nx: false, xx: false, gt: false, lt: false, ch: false }, pairs: One(Pair { score: 1, member: [78, 88] }) }",
+        "Zadd { key: [113], pairs: One(Pair { score: 1, member: [78, 88] }), flags: Flags { nx: false, xx: false, gt: false, lt: false, ch: false } }",
     ),
     (
         "ZADD q 1 a -2.0 b",
-        "Zadd { key: [113], flags: Flags { nx: false, xx: false, gt: false, lt: false, ch: false }, pairs: Many([Pair { score: 1, member: [97] }, Pair { score: -2, member: [98] }]) }",
+        "Zadd { key: [113], pairs: Many([Pair { score: 1, member: [97] }, Pair { score: -2, member: [98] }]), flags: Flags { nx: false, xx: false, gt: false, lt: false, ch: false } }",
     ),
     (
         "ZADD q NX CH 1 a 2 a 3 a",
-        "Zadd { key: [113], flags: Flags { nx: true, xx: false, gt: false, lt: false, ch: true }, pairs: Many([Pair { score: 1, member: [97] }, Pair { score: 2, member: [97] }, Pair { score: 3, member: [97] }]) }",
+        "Zadd { key: [113], pairs: Many([Pair { score: 1, member: [97] }, Pair { score: 2, member: [97] }, Pair { score: 3, member: [97] }]), flags: Flags { nx: true, xx: false, gt: false, lt: false, ch: true } }",
     ),
     (
         "ZADD q incr 1 a",
-        "ZaddIncr { key: [113], flags: Flags { nx: false, xx: false, gt: false, lt: false, ch: false }, pair: Pair { score: 1, member: [97] } }",
+        "ZaddIncr { key: [113], pair: Pair { score: 1, member: [97] }, flags: Flags { nx: false, xx: false, gt: false, lt: false, ch: false } }",
     ),
     (
         "ZADD q XX GT INCR CH 1 a",
-        "ZaddIncr { key: [113], flags: Flags { nx: false, xx: true, gt: true, lt: false, ch: true }, pair: Pair { score: 1, member: [97] } }",
+        "ZaddIncr { key: [113], pair: Pair { score: 1, member: [97] }, flags: Flags { nx: false, xx: true, gt: true, lt: false, ch: true } }",
     ),
     (
         "ZADD q LT XX LT 1 a",
-        "Zadd { key: [113], flags: Flags { nx: false, xx: true, gt: false, lt: true, ch: false }, pairs: One(Pair { score: 1, member: [97] }) }",
+        "Zadd { key: [113], pairs: One(Pair { score: 1, member: [97] }), flags: Flags { nx: false, xx: true, gt: false, lt: true, ch: false } }",
     ),
 ];
 
