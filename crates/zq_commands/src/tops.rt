@@ -53,16 +53,16 @@ fn lesser<'a>(first: Option<Top<'a>>, second: Option<Top<'a>>) -> Option<Top<'a>
     ensures least { option_map top_pair result ≡ least (option_map top_pair first.entry) (option_map top_pair second.entry) }
     ensures either { (result ≡ first.entry) ⊎ (result ≡ second.entry) }
 {
-    let Some(one) = &first else {
-        return second;
-    };
-    let Some(other) = &second else {
-        return first;
-    };
-    if order(&one.pair, &other.pair).is_lt() {
-        first
-    } else {
-        second
+    match (first, second) {
+        (Some(one), Some(other)) => {
+            if order(&one.pair, &other.pair).is_lt() {
+                Some(one)
+            } else {
+                Some(other)
+            }
+        }
+        (None, second) => second,
+        (first, None) => first,
     }
 }
 
