@@ -1,11 +1,10 @@
 -- The first pair of a key over the books that are lent: its member is at home in the book where it was found, and what dropping it leaves.
 
-use Rattle.std.proofs.Common.{Err, List, None, Ok, Option, Result, Some, [], ap, arith, inl, inr, length, map, nat_eq, option_map, refl, subst, sym, true, ℕ, ℤ, ◌∙◌, ◌∷◌, ◌≡◌, ◌≤◌, ◌⊎◌}
+use Rattle.std.proofs.Common.{List, None, Option, Some, [], ap, arith, inl, inr, length, map, nat_eq, option_map, refl, subst, sym, true, ℕ, ℤ, ◌∙◌, ◌∷◌, ◌≡◌, ◌≤◌, ◌⊎◌}
 use Rattle.std.proofs.lemmas.Bool.{cond-true, eq-eqb}
 use Rattle.std.proofs.lemmas.Option.{none-some, same_Some, slice_get_within}
 use Rattle.std.specs.Cmp.Lexicographic.{pointwise}
 use Rattle.std.specs.Prelude.{IfSome, slice_get}
-use Rattle.std.specs.Result.{OnOk}
 use Rattle.zq_commands.specs.Arrays.{copied_parts}
 use Rattle.zq_commands.specs.Lending.{HasBook, IsHomeAt, IsLending, Lending, lent_after, queues_in}
 use Rattle.zq_commands.specs.FirstPairs.{DropsFirst, drop_of, top_in}
@@ -154,8 +153,3 @@ pub copied_member : (q : Queue) (r : Option Copied) (copied : Copied) → r ≡ 
     option_map (λ p. p.1) (slice_get q 0) ≡ Some copied.member.items
 copied_member [] r copied some e = absurd (none-some (copied_parts copied) (sym e ∙ ap (option_map copied_parts) some))
 copied_member (x ∷ q) r copied some e = ap (λ m. Some m) (member_parts x copied (copied_first (x ∷ q) q x r copied some refl e))
-
--- what two facts of a result that is Ok give
-pub on_ok2 : {T E : Type 0} {P Q R : Type 0} (r : Result T E) → (P → Q → R) → OnOk r P → OnOk r Q → OnOk r R
-on_ok2 (Ok x) f p q = f p q
-on_ok2 (Err e) f p q = tt

@@ -20,3 +20,4 @@ pub mod BookMoves
 pub mod ScoreBounds
 pub mod ReadFrom
 pub mod Begun
+pub mod Stood

@@ -1,6 +1,7 @@
 //! How a command sees the books that are lent to it.
 
-ghost use Rattle.std.specs.Prelude.{IfOk, IsErrOf, List, OnErr, OnOk, Some, count_by, length, map, option_map, slice_get, slice_range, ◌<◌, ◌^◌, ◌∷◌, ◌≡◌, ◌≤◌, [], ℕ, true};
+ghost use Rattle.std.specs.FinMap.{get};
+ghost use Rattle.std.specs.Prelude.{IfOk, IsErrOf, List, OnErr, OnOk, Some, count_by, is_some, length, map, option_map, slice_get, slice_range, ◌<◌, ◌^◌, ◌∷◌, ◌≡◌, ◌≤◌, [], ℕ, true};
 ghost use Rattle.zq_commands.specs.Lending.{HasBook, IsDated, IsLending, Lending, lent_after};
 ghost use Rattle.zq_commands.specs.FirstPairs.{lent_pair};
 ghost use Rattle.zq_dots.specs.Act.{act_of};
@@ -104,7 +105,8 @@ pub trait Books {
         ensures same { lent self.new ≡ lent self.old }
         ensures keeps { keeps self.old self.new };
 
-    /// Makes a site's next operation of an act in the book at a place, which is that of the member's heap.
+    /// Makes a site's next operation of an act in the book at a place, which is that of the member's heap, and answers
+    /// whether the member stood before.
     fn make(
         &mut self,
         alloc: Global,
@@ -114,7 +116,7 @@ pub trait Books {
         key: &[u8],
         member: &[u8],
         act: Act,
-    ) -> Result<(), Cut>
+    ) -> Result<bool, Cut>
         requires inside { place < length (lent self.old).books }
         requires home { (book : Book) → slice_get (lent self.old).books place ≡ Some book → is_home_of key.now member.now book ≡ true }
         requires lent { IsLending (lent self.old) }
@@ -122,6 +124,7 @@ pub trait Books {
         requires key { length key.now ≤ LONGEST }
         requires member { length member.now ≤ LONGEST }
         ensures made { OnOk result (lent self.new ≡ lent_after site stamp (record { key = key.now; member = member.now; act = act_of act }) (lent self.old)) }
+        ensures stood { IfOk result (λ stood. (book : Book) → slice_get (lent self.old).books place ≡ Some book → stood ≡ is_some (get book.state.members (key.now, member.now))) }
         ensures refused { OnErr result (lent self.new ≡ lent self.old) }
         ensures worn { IsErrOf result Cut.Worn → IsWhy site (Some (record { key = key.now; member = member.now; act = act_of act })) (lent self.old).books Number }
         ensures memory { IsErrOf result Cut.NoMemory → IsWhy site (Some (record { key = key.now; member = member.now; act = act_of act })) (lent self.old).books Number → ⊥ }

@@ -71,5 +71,8 @@ pub fn drop_top<B: Books>(
 {
     // Without its first member a queue is the rest.
     heading();
-    make_at(books, alloc, place, site, stamp, key, member, Act::Drop)
+    match make_at(books, alloc, place, site, stamp, key, member, Act::Drop) {
+        Ok(_) => Ok(()),
+        Err(cut) => Err(cut),
+    }
 }

@@ -1,10 +1,10 @@
 //! One move.
 
-ghost use Rattle.std.specs.Prelude.{IsErrOf, List, OnErr, OnOk, Some, length, ℕ, ◌≡◌, ◌≤◌};
+ghost use Rattle.std.specs.Prelude.{IfOk, IsErrOf, List, OnErr, OnOk, Some, is_some, length, ℕ, ◌≡◌, ◌≤◌};
 ghost use Rattle.zq_commands.specs.Lending.{HasBook, IsDated, IsHomeAt, IsLending, lent_after, queues_in};
 ghost use Rattle.zq_dots.specs.Act.{act_of};
 ghost use Rattle.zq_model.specs.Operation.{LONGEST};
-ghost use Rattle.zq_moves.specs.Moves.{after};
+ghost use Rattle.zq_moves.specs.Moves.{after, score_in};
 ghost use Rattle.zq_plans.specs.Run.{IsWhy, Number};
 
 use crate::books::Books;
@@ -12,7 +12,8 @@ use crate::cut::Cut;
 use std::alloc::Global;
 use zq_dots::{Act, SiteNo};
 
-/// Makes a move in the book at a place, which is that of its heap: it changes the queues as the move says.
+/// Makes a move in the book at a place, which is that of its heap: it changes the queues as the move says. It answers whether the
+/// member stood before.
 pub fn make_at<B: Books>(
     books: &mut B,
     alloc: Global,
@@ -22,7 +23,7 @@ pub fn make_at<B: Books>(
     key: &[u8],
     member: &[u8],
     act: Act,
-) -> Result<(), Cut>
+) -> Result<bool, Cut>
     requires lent { IsLending (B.lent books.old) }
     requires dated { IsDated stamp (B.lent books.old) }
     requires home { IsHomeAt key.now member.now place (B.lent books.old) }
@@ -30,6 +31,7 @@ pub fn make_at<B: Books>(
     requires member { length member.now ≤ LONGEST }
     ensures made { OnOk result (B.lent books.new ≡ lent_after site stamp (record { key = key.now; member = member.now; act = act_of act }) (B.lent books.old)) }
     ensures queues { OnOk result (queues_in (B.lent books.new) ≡ after (record { key = key.now; member = member.now; act = act_of act }) (queues_in (B.lent books.old))) }
+    ensures stood { IfOk result (λ stood. stood ≡ is_some (score_in (queues_in (B.lent books.old) key.now) member.now)) }
     ensures refused { OnErr result (B.lent books.new ≡ B.lent books.old) }
     ensures worn { IsErrOf result Cut.Worn → IsWhy site (Some (record { key = key.now; member = member.now; act = act_of act })) (B.lent books.old).books Number }
     ensures memory { IsErrOf result Cut.NoMemory → IsWhy site (Some (record { key = key.now; member = member.now; act = act_of act })) (B.lent books.old).books Number → ⊥ }

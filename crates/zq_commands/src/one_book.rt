@@ -1,6 +1,7 @@
 //! What commands read and make in the book of one heap.
 
-ghost use Rattle.std.specs.Prelude.{IsErrOf, OnErr, OnOk, count_by, length, not, true, ◌↔◌, ◌≡◌, ◌≤◌};
+ghost use Rattle.std.specs.FinMap.{get};
+ghost use Rattle.std.specs.Prelude.{IfOk, IsErrOf, OnErr, OnOk, count_by, is_some, length, not, true, ◌↔◌, ◌≡◌, ◌≤◌};
 ghost use Rattle.zq_commands.specs.VecBooks.{IsRecordedOn};
 ghost use Rattle.zq_dots.specs.Act.{act_of};
 ghost use Rattle.zq_model.specs.Bounded.{IsBounded};
@@ -36,8 +37,8 @@ pub fn count_between(shard: &Shard, key: &[u8], min: &Bound, max: &Bound) -> usi
     below.saturating_sub(count_to(shard, key, !min.is_out, min.limit))
 }
 
-/// Makes a site's next operation of an act in a book, which is that of the member's heap. Nothing has changed after an
-/// error.
+/// Makes a site's next operation of an act in a book, which is that of the member's heap, and answers whether the member
+/// stood before. Nothing has changed after an error.
 pub fn make_in(
     book: &mut Book,
     alloc: Global,
@@ -46,22 +47,23 @@ pub fn make_in(
     key: &[u8],
     member: &[u8],
     act: Act,
-) -> Result<(), Cut>
+) -> Result<bool, Cut>
     requires home { is_home_of key.now member.now book.old ≡ true }
     requires stamp { book.old.stamp ≤ stamp }
     requires bounded { stamp ≤ LAST_COUNT }
     requires key { length key.now ≤ LONGEST }
     requires member { length member.now ≤ LONGEST }
     ensures made { OnOk result (book.new ≡ made_in site stamp (record { key = key.now; member = member.now; act = act_of act }) book.old) }
+    ensures stood { IfOk result (λ stood. stood ≡ is_some (get book.old.state.members (key.now, member.now))) }
     ensures bounded { OnOk result (IsBounded book.new.heaps book.new.heap book.new.state) }
     ensures recorded { IsRecordedOn book.old book.new }
     ensures worn { IsErrOf result Cut.Worn ↔ (is_worn site book.old ≡ true) }
     ensures refused { OnErr result (book.new ≡ book.old) }
 {
     match book.make_here(alloc, site, stamp, key, member, act) {
-        Ok(()) => {
+        Ok(stood) => {
             let _vector = book.shard().vector();
-            Ok(())
+            Ok(stood)
         }
         Err(MakeFault::Worn) => Err(Cut::Worn),
         Err(MakeFault::NoMemory) => Err(Cut::NoMemory),

@@ -13,7 +13,7 @@ ghost use Rattle.zq_words.specs.Shown.{pair_shown};
 
 use crate::books::Books;
 use crate::cut::Cut;
-use crate::lets::{is_counted, is_let};
+use crate::lets::{are_none, is_counted, is_let};
 use crate::made::Made;
 use crate::making::make_at;
 use crate::replies::{count_reply, cut_reply};
@@ -61,7 +61,7 @@ pub fn put_pairs<B: Books>(
     count_reply(counted)
 }
 
-/// Puts a pair, if the flags let it.
+/// Puts a pair, if the flags let it. Where there are no flags, what the member had is not looked up before.
 fn put_one<B: Books>(
     books: &mut B,
     alloc: Global,
@@ -91,6 +91,21 @@ fn put_one<B: Books>(
     let Some(score) = Score::new(pair.score) else {
         unreachable!();
     };
+    if are_none(flags) {
+        let place = books.home(key, pair.member);
+        let stood = make_at(
+            books,
+            alloc,
+            place,
+            site,
+            stamp,
+            key,
+            pair.member,
+            Act::Put(score),
+        )?;
+        let counted = if stood { 0 } else { 1 };
+        return Ok(Made { moves: 1, counted });
+    }
     let Found { place, score: old } = find(books, key, pair.member);
     let new = i128::from(pair.score);
     if !is_let(flags, old, &new) {

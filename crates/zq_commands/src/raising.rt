@@ -150,7 +150,8 @@ fn raise_member<B: Books>(
         key,
         pair.member,
         act,
-    )
+    )?;
+    Ok(())
 }
 
 fn sum_of(old: Option<i128>, pair: &Pair) -> i128

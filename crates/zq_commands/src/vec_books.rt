@@ -89,7 +89,7 @@ impl Books for Vec<Book> {
         key: &[u8],
         member: &[u8],
         act: Act,
-    ) -> Result<(), Cut> {
+    ) -> Result<bool, Cut> {
         make_in(&mut self[place], alloc, site, stamp, key, member, act)
     }
 

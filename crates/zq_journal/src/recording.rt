@@ -1,5 +1,6 @@
 //! How a book records what its site makes and takes.
-ghost use Rattle.std.specs.Prelude.{◌≡◌, ◌≢◌, ◌≤◌, ◌<◌, ◌+◌, ◌↔◌, ◌⊎◌, ◌++◌, ◌∷◌, [], IfOk, IsErrOf, List, OnErr, OnOk, length, slice_index, true, ℕ};
+ghost use Rattle.std.specs.Prelude.{◌≡◌, ◌≢◌, ◌≤◌, ◌<◌, ◌+◌, ◌↔◌, ◌⊎◌, ◌++◌, ◌∷◌, [], IfOk, IsErrOf, List, OnErr, OnOk, is_some, length, slice_index, true, ℕ};
+ghost use Rattle.std.specs.FinMap.{get};
 ghost use Rattle.zq_dots.specs.Act.{act_of};
 ghost use Rattle.zq_dots.specs.Placed.{IsRanged, LONGEST};
 ghost use Rattle.zq_history.specs.Books.{Book as Books, Made, Step, is_change_over, recorded};
@@ -7,6 +8,7 @@ ghost use Rattle.zq_history.specs.Reach.{IsWorked};
 ghost use Rattle.zq_journal.specs.Books.{LAST_STAMP, book_taken, state_of, step_of, steps_taken};
 ghost use Rattle.zq_journal.specs.Records.{IsRecordable, change_of, placed_in, whole};
 ghost use Rattle.zq_model.specs.Heaps as place;
+ghost use Rattle.zq_model.specs.Image.{place_of};
 ghost use Rattle.zq_model.specs.Operation.{Act as ModelAct, IsAct};
 ghost use Rattle.zq_model.specs.Sets as sets;
 ghost use Rattle.zq_shard.specs.Shard.{IsOfHeap, next_operation};
@@ -24,7 +26,8 @@ use zq_shard::{MakeFault, Taken};
 
 impl Book {
     /// Makes the next operation of a site and takes it, with a record, whose operation
-    /// [`Book::newest`] then answers. The stamp is no less than the book's.
+    /// [`Book::newest`] then answers. The stamp is no less than the book's. It answers whether the member stood
+    /// before.
     ///
     /// `WrongHeap` where the member lies in another heap, else `Worn` where the site's counter or
     /// the book's count is at its last value, else `NoMemory` where a growth was refused; after each
@@ -37,11 +40,12 @@ impl Book {
         key: &[u8],
         member: &[u8],
         act: Act,
-    ) -> Result<(), MakeFault>
+    ) -> Result<bool, MakeFault>
         requires stamp { self.old.stamp ≤ stamp }
         requires bounded { stamp ≤ LAST_STAMP }
         requires key { length key.now ≤ LONGEST }
         requires member { length member.now ≤ LONGEST }
+        ensures stood { IfOk result (λ stood. stood ≡ is_some (get self.old.state.members (key.now, member.now))) }
         ensures wrong_heap { IsErrOf result MakeFault.WrongHeap ↔ (place.heap_of key.now member.now self.old.heaps ≢ self.old.heap) }
         ensures worn { IsErrOf result MakeFault.Worn ↔ ((place.heap_of key.now member.now self.old.heaps ≡ self.old.heap) × ((slice_index self.old.state.vector site ≡ sets.LAST) ⊎ (self.old.count ≡ LAST_STAMP))) }
         ensures recorded { OnOk result (self.new ≡ recorded self.old stamp (Made (next_operation (state_of self.old) site key.now member.now (act_of act)).operation)) }
@@ -67,12 +71,13 @@ impl Book {
         key: &[u8],
         member: &[u8],
         act: Act,
-    ) -> Result<(), MakeFault>
+    ) -> Result<bool, MakeFault>
         requires home { place.heap_of key.now member.now self.old.heaps ≡ self.old.heap }
         requires stamp { self.old.stamp ≤ stamp }
         requires bounded { stamp ≤ LAST_STAMP }
         requires key { length key.now ≤ LONGEST }
         requires member { length member.now ≤ LONGEST }
+        ensures stood { IfOk result (λ stood. stood ≡ is_some (get self.old.state.members (key.now, member.now))) }
         ensures here { IsErrOf result MakeFault.WrongHeap → ⊥ }
         ensures worn { IsErrOf result MakeFault.Worn ↔ ((slice_index self.old.state.vector site ≡ sets.LAST) ⊎ (self.old.count ≡ LAST_STAMP)) }
         ensures recorded { OnOk result (self.new ≡ recorded self.old stamp (Made (next_operation (state_of self.old) site key.now member.now (act_of act)).operation)) }
@@ -88,8 +93,7 @@ impl Book {
             member: Name::copied(alloc, member)?,
             act,
         });
-        self.enter(alloc, stamp, what)?;
-        Ok(())
+        Ok(self.enter(alloc, stamp, what)?)
     }
 
     /// Takes an operation of another site where it is New, with a record; what is Known or Early
@@ -145,14 +149,16 @@ impl Book {
         self.shard.next_here(site)
     }
 
-    /// Takes an operation that is new to the state, with a record at this stamp.
+    /// Takes an operation that is new to the state, with a record at this stamp, and answers whether its member stood
+    /// before.
     #[tactic(auto, unfolding(crate::specs::Books::LAST_STAMP))]
-    fn enter(&mut self, alloc: Global, at: u64, what: Change) -> Result<(), AllocError>
+    fn enter(&mut self, alloc: Global, at: u64, what: Change) -> Result<bool, AllocError>
         requires stamp { self.old.stamp ≤ at }
         requires bounded { at ≤ LAST_STAMP }
         requires count { self.old.count < LAST_STAMP }
         requires recordable { IsRecordable self.old.heap self.old.heaps (placed_in (whole self.old.heap self.old.heaps self.old.state.vector what)) }
         requires over { is_change_over self.old.heap self.old.state.vector (change_of (whole self.old.heap self.old.heaps self.old.state.vector what)) ≡ true }
+        ensures stood { IfOk result (λ stood. stood ≡ is_some (get self.old.state.members (place_of (placed_in (whole self.old.heap self.old.heaps self.old.state.vector what)).operation))) }
         ensures recorded { OnOk result (self.new ≡ recorded self.old at (change_of (whole self.old.heap self.old.heaps self.old.state.vector what))) }
         ensures worked { OnOk result ((a : Books) (steps : List Step) → IsWorked self.old a at steps →
             IsWorked self.new a at (steps ++ step_of at (change_of (whole self.old.heap self.old.heaps self.old.state.vector what)) ∷ [])) }
@@ -166,6 +172,7 @@ impl Book {
         working();
         self.tail.reserve(1)?;
         let before = what.put_in(alloc, &mut self.shard)?;
+        let stood = before.is_some();
         self.tail.push_back_reserved(Record {
             stamp: at,
             what,
@@ -173,7 +180,7 @@ impl Book {
         });
         self.stamp = at;
         self.count += 1;
-        Ok(())
+        Ok(stood)
     }
 }
 

@@ -80,7 +80,7 @@ impl Books for Kept {
         key: &[u8],
         member: &[u8],
         act: Act,
-    ) -> Result<(), Cut> {
+    ) -> Result<bool, Cut> {
         make_in(&mut self.book, alloc, site, stamp, key, member, act)
     }
 

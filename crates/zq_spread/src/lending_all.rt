@@ -1,5 +1,6 @@
 //! How the heaps that a call holds are lent to a command.
-ghost use Rattle.std.specs.Prelude.{IsErrOf, OnErr, OnOk, Some, length, slice_get, ◌<◌, ◌↔◌, ◌≡◌, ◌≤◌, true, ℕ};
+ghost use Rattle.std.specs.FinMap.{get};
+ghost use Rattle.std.specs.Prelude.{IfOk, IsErrOf, OnErr, OnOk, Some, is_some, length, slice_get, ◌<◌, ◌↔◌, ◌≡◌, ◌≤◌, true, ℕ};
 ghost use Rattle.zq_commands.specs.Lending.{IsLending};
 ghost use Rattle.zq_commands.specs.VecBooks.{lending_of, rule_in};
 ghost use Rattle.zq_dots.specs.Act.{act_of};
@@ -91,7 +92,7 @@ impl Books for Holds {
         key: &[u8],
         member: &[u8],
         act: Act,
-    ) -> Result<(), Cut> {
+    ) -> Result<bool, Cut> {
         let index = self.helds.as_slice().len() - 1 - place;
         make_held(&mut self.helds[index], alloc, site, stamp, key, member, act)
     }
@@ -143,8 +144,8 @@ fn index_held(held: &mut Held<Kept>, alloc: Global, key: &[u8])
     kept.book.index(alloc, key, MOST_SCANNED);
 }
 
-/// Makes a site's next operation of an act in a heap that is held, which is the member's. Nothing has changed after an
-/// error.
+/// Makes a site's next operation of an act in a heap that is held, which is the member's, and answers whether the
+/// member stood before. Nothing has changed after an error.
 fn make_held(
     held: &mut Held<Kept>,
     alloc: Global,
@@ -153,13 +154,14 @@ fn make_held(
     key: &[u8],
     member: &[u8],
     act: Act,
-) -> Result<(), Cut>
+) -> Result<bool, Cut>
     requires home { is_home_of key.now member.now (value_of held.old).book ≡ true }
     requires stamp { (value_of held.old).book.stamp ≤ stamp }
     requires bounded { stamp ≤ LAST_COUNT }
     requires key { length key.now ≤ LONGEST }
     requires member { length member.now ≤ LONGEST }
     ensures made { OnOk result ((value_of held.new).book ≡ made_in site stamp (record { key = key.now; member = member.now; act = act_of act }) (value_of held.old).book) }
+    ensures stood { IfOk result (λ stood. stood ≡ is_some (get (value_of held.old).book.state.members (key.now, member.now))) }
     ensures bounded { OnOk result (IsBoundedBook (value_of held.new).book) }
     ensures held { IsHeldOn held.old held.new }
     ensures worn { IsErrOf result Cut.Worn ↔ (is_worn site (value_of held.old).book ≡ true) }

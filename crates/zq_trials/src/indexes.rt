@@ -51,7 +51,7 @@ fn with(alloc: Global, mut book: Book, number: u16) -> Option<Book>
     let score = Score::new(place.checked_add(1)?)?;
     let (stamp, member) = (book.stamp(), number.to_be_bytes());
     match book.make(alloc, site, stamp, b"q", &member, Act::Put(score)) {
-        Ok(()) | Err(MakeFault::WrongHeap) => Some(book),
+        Ok(_) | Err(MakeFault::WrongHeap) => Some(book),
         Err(_) => None,
     }
 }

@@ -1,6 +1,7 @@
 //! The books of a site, with a list of the operations that are made in them.
 
-ghost use Rattle.std.specs.Prelude.{IfOk, IsErrOf, OnErr, OnOk, [], length, true, ◌++◌, ◌↔◌, ◌∷◌, ◌≡◌, ◌≤◌};
+ghost use Rattle.std.specs.FinMap.{get};
+ghost use Rattle.std.specs.Prelude.{IfOk, IsErrOf, OnErr, OnOk, [], is_some, length, true, ◌++◌, ◌↔◌, ◌∷◌, ◌≡◌, ◌≤◌};
 ghost use Rattle.zq_dots.specs.Act.{act_of};
 ghost use Rattle.zq_model.specs.Bounded.{IsBounded};
 ghost use Rattle.zq_model.specs.Operation.{LONGEST};
@@ -89,7 +90,7 @@ impl Books for Holder {
         key: &[u8],
         member: &[u8],
         act: Act,
-    ) -> Result<(), Cut> {
+    ) -> Result<bool, Cut> {
         make_in(
             &mut self.books[place],
             &mut self.made,
@@ -107,7 +108,8 @@ impl Books for Holder {
     ghost keeps_through = { λ x y z first second. λ K heaps are. second K (first K heaps are).0 (first K heaps are).1 };
 }
 
-/// Makes a site's next operation of an act in the book of its heap, and lists it. Nothing has changed after an error.
+/// Makes a site's next operation of an act in the book of its heap, and lists it. It answers whether the
+/// member stood before. Nothing has changed after an error.
 fn make_in(
     book: &mut Book,
     made: &mut Vec<Op>,
@@ -117,7 +119,7 @@ fn make_in(
     key: &[u8],
     member: &[u8],
     act: Act,
-) -> Result<(), Cut>
+) -> Result<bool, Cut>
     requires home { is_home_of key.now member.now book.old ≡ true }
     requires stamp { book.old.stamp ≤ stamp }
     requires bounded { stamp ≤ LAST_COUNT }
@@ -125,6 +127,7 @@ fn make_in(
     requires member { length member.now ≤ LONGEST }
     ensures made { OnOk result (book.new ≡ made_in site stamp (record { key = key.now; member = member.now; act = act_of act }) book.old) }
     ensures listed { OnOk result (made.new.items ≡ made.old.items ++ told_in site (record { key = key.now; member = member.now; act = act_of act }) book.old ∷ []) }
+    ensures stood { IfOk result (λ stood. stood ≡ is_some (get book.old.state.members (key.now, member.now))) }
     ensures bounded { OnOk result (IsBounded book.new.heaps book.new.heap book.new.state) }
     ensures worn { IsErrOf result Cut.Worn ↔ (is_worn site book.old ≡ true) }
     ensures refused { OnErr result (book.new ≡ book.old) }
@@ -136,13 +139,13 @@ fn make_in(
         drop(op);
         return Err(Cut::NoMemory);
     }
-    if book.make(alloc, site, stamp, key, member, act).is_err() {
+    let Ok(stood) = book.make(alloc, site, stamp, key, member, act) else {
         drop(op);
         return Err(Cut::NoMemory);
-    }
+    };
     let _vector = book.shard().vector();
     made.push_reserved(op);
-    Ok(())
+    Ok(stood)
 }
 
 /// The next operation of a site in the book of its heap, which is not yet made.

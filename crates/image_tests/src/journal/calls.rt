@@ -77,7 +77,8 @@ pub(crate) fn merge(book: &mut Book, alloc: Global, state: &Shard) -> Result<(),
 /// A site drops the member a of the key q, at the book's stamp.
 pub(crate) fn drop_a(book: &mut Book, alloc: Global, site: SiteNo) -> Result<(), MakeFault> {
     let stamp = book.stamp();
-    book.make(alloc, site, stamp, b"q", b"a", Act::Drop)
+    book.make(alloc, site, stamp, b"q", b"a", Act::Drop)?;
+    Ok(())
 }
 
 #[tactic(auto, unfolding(zq_journal::specs::Books::LAST_STAMP))]

@@ -1,6 +1,8 @@
 use Rattle.std.proofs.Common.{List, Some, ap, arith, length, set, subst, sym, ◌<◌, ◌∙◌, ◌≡◌}
-use Rattle.std.proofs.lemmas.Result.{on_err_weaker, on_ok_weaker}
-use Rattle.std.specs.Prelude.{slice_get}
+use Rattle.std.proofs.lemmas.Option.{same_Some}
+use Rattle.std.proofs.lemmas.Result.{IfOk-weaker, on_err_weaker, on_ok_weaker}
+use Rattle.std.specs.FinMap.{get}
+use Rattle.std.specs.Prelude.{is_some, slice_get}
 use Rattle.zq_commands.proofs.BookMoves.{set_dated, set_lending, set_lent_after, why_worn, worn_why}
 use Rattle.zq_commands.proofs.OnOk.{both_ok, on_both}
 use Rattle.zq_commands.specs.Lending.{IsDated, IsLending}
@@ -53,6 +55,12 @@ returns-clause-made c =
     let changed = books_changed c.args.self.now.helds.items c.args.place (length c.as_slice.result.now) c.index_mut.result.now (many d) (within d) c.index_mut.ensures.value y in
     on_ok_weaker c.make_held.result (λ made. ap lending_of changed ∙ ap (λ (b : Book). lending_of (set (books_in d) c.args.place b)) made
     ∙ set_lent_after c.args.site c.args.stamp (move_in d) (books_in d) c.args.place (old_in d) c.requires.lent (stands d) (c.requires.home (old_in d) (stands d))) c.make_held.ensures.made
+
+pub returns-clause-stood : goal.returns-clause-stood
+returns-clause-stood c =
+    let d = (goal.at.returns-clause-stood c).After-index_mut in
+    IfOk-weaker c.make_held.result _ _ (λ stood is book at. subst (λ (b : Book). stood ≡ is_some (get b.state.members (c.args.key.now, c.args.member.now))) (same_Some _ _ (sym (stands d) ∙ at)) is)
+    c.make_held.ensures.stood
 
 pub returns-clause-refused : goal.returns-clause-refused
 returns-clause-refused c =
