@@ -201,16 +201,57 @@ const ROUNDS: [Round; 5] = [
 fn requests_in_spent_memory_are_as_they_were_sent(rt: HostRuntime) -> Result<(), Fail> {
     let mut reader = Reader::new();
     for round in &ROUNDS {
-        let requests = reader.feed(rt.alloc(), round.piece).map_err(|e| e.fault)?;
-        assert_eq!(rt; requests.len(), round.requests.len());
-        assert!(rt;
-            requests
-                .iter()
-                .zip(round.requests)
-                .all(|(own, words)| is_words(own, words))
-        );
-        reader.take_back(requests);
+        let mut rest = round.piece;
+        let mut count = 0;
+        while !rest.is_empty() {
+            let (found, taken) = reader.next_request(rt.alloc(), rest)?;
+            rest = &rest[taken..];
+            if let Some(request) = found {
+                assert!(rt; is_words(&request, round.requests[count]));
+                count += 1;
+                reader.give_back(request);
+            }
+        }
+        assert_eq!(rt; count, round.requests.len());
     }
     assert!(rt; !reader.inside());
     Ok(())
+}
+
+#[test]
+fn a_request_takes_the_bytes_up_to_its_end(rt: HostRuntime) -> Result<(), Fail> {
+    let cases: [(&[u8], Option<&[&[u8]]>, usize); 6] = [
+        (
+            b"*1\r\n$4\r\nPING\r\n*1\r\n$4\r\nQUIT\r\n",
+            Some(&[b"PING"]),
+            14,
+        ),
+        (b"*0\r\n*1\r\n$4\r\nPING\r\n", None, 4),
+        (b"*-1\r\n", None, 5),
+        (b"", None, 0),
+        (b"*2\r\n$5\r\nZCA", None, 11),
+        (b"RD\r\n$1\r\nq\r\n*1", Some(&[b"ZCARD", b"q"]), 11),
+    ];
+    let mut reader = Reader::new();
+    for (piece, words, bytes) in cases {
+        let (found, taken) = reader.next_request(rt.alloc(), piece)?;
+        assert_eq!(rt; taken, bytes);
+        match (&found, words) {
+            (Some(request), Some(words)) => assert!(rt; is_words(request, words)),
+            (None, None) => {}
+            _ => assert!(rt; false, "a request is there, or is not"),
+        }
+    }
+    Ok(())
+}
+
+#[test]
+fn no_request_follows_a_fault(rt: HostRuntime) {
+    let mut reader = Reader::new();
+    for fault in [FeedFault::Protocol, FeedFault::Over, FeedFault::Over] {
+        match reader.next_request(rt.alloc(), b"*1\n") {
+            Ok(_) => assert!(rt; false, "a line ends without CR"),
+            Err(why) => assert_eq!(rt; why, fault),
+        }
+    }
 }

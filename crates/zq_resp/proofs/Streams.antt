@@ -1,6 +1,6 @@
 -- Requests one after the other.
-use Rattle.std.proofs.Common.{◌≡◌, ℕ, List, [], ◌∷◌, ◌++◌, Option, Some, None, Result, Ok, Err, refl, sym, ap, subst, ◌∙◌, append_assoc}
-use Rattle.std.proofs.lemmas.List.{append-nil}
+use Rattle.std.proofs.Common.{◌≡◌, ℕ, List, [], ◌∷◌, ◌++◌, take, drop, Option, Some, None, Result, Ok, Err, refl, sym, ap, subst, ◌∙◌, append_assoc}
+use Rattle.std.proofs.lemmas.List.{append-nil, append_cancel_right, take-append-drop}
 use Rattle.std.proofs.lemmas.List.Elements.{filter-append}
 use Rattle.zq_resp.specs.declared.fault.FeedFault.{FeedFault}
 use Rattle.zq_resp.specs.declared.fault.FeedFault.TheVariants as fault
@@ -8,12 +8,35 @@ use Rattle.zq_resp.specs.Front.{Front, Got, Part, Wrong}
 use Rattle.zq_resp.specs.Grammar.{request_at}
 use Rattle.zq_resp.specs.Laws.{Gives, Run, Turn, first_fault, given, given_by, stream}
 use Rattle.zq_resp.specs.Stream.{Breaks, Feeds, Reaches, Requests, Splits, Stops, handed, has_words}
+use Rattle.zq_resp.proofs.Spelled.{request_again, request_got}
 use Rattle.zq_resp.proofs.Stable.{got_stays, wrong_stays}
 
 -- one request more
 pub reaches_one : (bytes mid after : List ℕ) (all : Requests) (words : List (List ℕ)) → Reaches bytes all mid → request_at mid ≡ Got (words, after) → Reaches bytes (all ++ words ∷ []) after
 reaches_one bytes mid after [] words reaches got = (after, ap request_at reaches ∙ got, refl)
 reaches_one bytes mid after (first ∷ all) words reaches got = (reaches.0, reaches.1, reaches_one reaches.0 mid after all words reaches.2 got)
+
+none_begun : request_at [] ≡ Part
+unfolding request_at
+none_begun = refl
+
+-- the bytes up to a request's end are the request
+got_alone : (bytes after : List ℕ) (words : List (List ℕ)) → request_at (bytes ++ after) ≡ Got (words, after) → request_at bytes ≡ Got (words, [])
+got_alone bytes after words got =
+    let found = request_got (bytes ++ after) after words got in
+    let text : bytes ≡ found.0 = append_cancel_right bytes found.0 after found.2 in
+    ap request_at (text ∙ sym (append-nil found.0)) ∙ request_again found.0 [] words found.1
+
+-- a piece up to the end of its first request
+pub fed_one : (had piece : List ℕ) (words : List (List ℕ)) (taken : ℕ) → request_at (had ++ piece) ≡ Got (words, drop taken piece) → Feeds (Some had) (take taken piece) (Ok (handed (words ∷ []))) (Some [])
+fed_one had piece words taken got =
+    let cut : had ++ piece ≡ (had ++ take taken piece) ++ drop taken piece = ap (λ text. had ++ text) (sym (take-append-drop taken piece)) ∙ sym (append_assoc had (take taken piece) (drop taken piece)) in
+    let alone = got_alone (had ++ take taken piece) (drop taken piece) words (ap request_at (sym cut) ∙ got) in
+    (words ∷ [], record { reaches = ([], alone, refl); partial = none_begun }, refl)
+
+-- a piece that ends no request
+pub fed_none : (had piece has : List ℕ) → has ≡ had ++ piece → request_at has ≡ Part → Feeds (Some had) piece (Ok []) (Some has)
+fed_none had piece has longer part = ([], record { reaches = sym longer; partial = part }, refl)
 
 -- a text is read in one way
 

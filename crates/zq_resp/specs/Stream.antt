@@ -62,6 +62,11 @@ is_inside None = false
 is_inside (Some []) = false
 is_inside (Some (b ∷ bytes)) = true
 
+-- a request, or none, as a list of requests
+abbrev pub listed : Option (List (List ℕ)) → Requests
+listed None = []
+listed (Some request) = request ∷ []
+
 -- an answer as lists
 abbrev pub answered : Result (Vec (List (List ℕ)) Global) FeedError → Result Requests (FeedFault × Requests)
 answered (Ok requests) = Ok requests.items

@@ -1,7 +1,9 @@
 //! Requests out of a stream that comes in pieces.
 
-ghost use Rattle.std.specs.Prelude.{◌≡◌, [], Some};
-ghost use Rattle.zq_resp.specs.Stream.{Feeds, answered, is_inside};
+ghost use Rattle.std.specs.Prelude.{◌≡◌, ◌<◌, ◌≤◌, [], IfErr, IfOk, Err, List, Ok, Some, length, take, ℕ};
+ghost use Rattle.zq_resp.specs.Front.{Part};
+ghost use Rattle.zq_resp.specs.Grammar.{request_at};
+ghost use Rattle.zq_resp.specs.Stream.{Feeds, answered, is_inside, listed};
 
 mod line;
 mod null;
@@ -15,14 +17,16 @@ mod words;
 
 use crate::fault::{FeedError, FeedFault};
 use crate::request::Request;
+use progress::Progress;
+use short::short_request;
 use spent::Spent;
 use std::alloc::Global;
 use std::marker::Model;
-use unfinished::{Unfinished, read_on};
+use unfinished::{Unfinished, read_on, request_of};
 
 /// Reads requests from a stream of bytes, in whatever pieces it comes. Between two pieces it keeps the
 /// request that is not yet whole: its words that are whole, and of the word that the piece's end cut the
-/// bytes so far. Beside it there is the memory of requests that were handed back, and nothing else.
+/// bytes so far. Beside it there is the memory of requests that were given back, and nothing else.
 #[derive(Drop)]
 pub struct Reader {
     unfinished: Option<Unfinished>,
@@ -54,7 +58,8 @@ impl Reader {
 
     /// Whether some bytes of an unfinished request are kept.
     pub fn inside(&self) -> bool
-        ensures { result ≡ is_inside self.now }
+        ensures inside { result ≡ is_inside self.now }
+        ensures unfinished { (had : List ℕ) → self.now ≡ Some had → request_at had ≡ Part }
     {
         match &self.unfinished {
             Some(unfinished) => unfinished.is_begun(),
@@ -96,15 +101,76 @@ impl Reader {
         }
     }
 
-    /// Takes requests back of which nothing is needed any more, for their memory: later calls of `feed` put
-    /// words into it. What was kept of an earlier call is given back first.
+    /// Takes the next piece of the stream up to the end of the first request in it, and answers that request with
+    /// the number of bytes taken. `None` where they end no request, or one of no words, which is left out: then all
+    /// of the piece is taken, or what follows is to be taken next.
     ///
-    /// Kept are, of the first 1,024 of these, those of at most nine words, in a list of at most 16 places, of
-    /// which each has at most 128 bytes of memory; and none where the list of requests has more than 2,048
-    /// places. So a reader keeps at most 1,622,016 bytes of it. All else is given back.
-    pub fn take_back(&mut self, requests: Vec<Request>)
+    /// It does what [`Reader::feed`] does with the bytes taken, and at a fault what that does with the piece.
+    pub fn next_request(
+        &mut self,
+        alloc: Global,
+        piece: &[u8],
+    ) -> Result<(Option<Request>, usize), FeedFault>
+        ensures within { IfOk result (λ found. found.1 ≤ length piece.now) }
+        ensures some { IfOk result (λ found. 0 < length piece.now → 0 < found.1) }
+        ensures fed { IfOk result (λ found. Feeds self.old (take found.1 piece.now) (Ok (listed found.0)) self.new) }
+        ensures fault { IfErr result (λ why. Feeds self.old piece.now (Err (why, [])) self.new) }
+    {
+        let Some(unfinished) = &self.unfinished else {
+            return Err(FeedFault::Over);
+        };
+        if unfinished.is_begun() {
+            return self.next_by_parts(alloc, piece);
+        }
+        match short_request(alloc, piece, &mut self.spent) {
+            Ok(Some((words, taken))) => Ok((request_of(words), taken)),
+            Ok(None) => self.next_by_parts(alloc, piece),
+            Err(fault) => {
+                self.unfinished = None;
+                Err(fault)
+            }
+        }
+    }
+
+    /// The same, part by part.
+    fn next_by_parts(
+        &mut self,
+        alloc: Global,
+        piece: &[u8],
+    ) -> Result<(Option<Request>, usize), FeedFault>
+        ensures within { IfOk result (λ found. found.1 ≤ length piece.now) }
+        ensures some { IfOk result (λ found. 0 < length piece.now → 0 < found.1) }
+        ensures fed { IfOk result (λ found. Feeds self.old (take found.1 piece.now) (Ok (listed found.0)) self.new) }
+        ensures fault { IfErr result (λ why. Feeds self.old piece.now (Err (why, [])) self.new) }
+    {
+        let Some(unfinished) = self.unfinished.take() else {
+            return Err(FeedFault::Over);
+        };
+        if piece.is_empty() {
+            self.unfinished = Some(unfinished);
+            return Ok((None, 0));
+        }
+        let (progress, taken) = unfinished.read(alloc, piece)?;
+        match progress {
+            Progress::More(unfinished) => {
+                self.unfinished = Some(unfinished);
+                Ok((None, taken))
+            }
+            Progress::Whole(words) => {
+                self.unfinished = Some(Unfinished::new());
+                Ok((request_of(words), taken))
+            }
+        }
+    }
+
+    /// Takes a request back of which nothing is needed any more, for its memory: a later one of as many words is
+    /// put into it.
+    ///
+    /// One is kept for each number of words up to nine, where its list has at most 16 places and each word at most
+    /// 128 bytes of memory. So a reader keeps at most 9,216 bytes of it. All else is given back.
+    pub fn give_back(&mut self, request: Request)
         ensures { self.new ≡ self.old }
     {
-        self.spent.keep(requests);
+        self.spent.keep(request);
     }
 }

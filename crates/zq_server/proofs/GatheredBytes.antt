@@ -60,6 +60,13 @@ puts-stopped T U old new bytes Read p = p
 puts-stopped T U old new bytes Write p = p
 puts-stopped T U old new bytes NoMemory p = p
 
+-- What was put before comes first.
+pub puts-join : (T : Type 0) (a b c : Held) (first second : List ℕ) (result : Result T SessionFault) → Gathers a b first → Puts {T = T} b c second result → Puts {T = T} a c (first ++ second) result
+puts-join T a b c first second (Ok done) p q = gathers-join a b c first second p q
+puts-join T a b c first second (Err Read) p q = absurd q
+puts-join T a b c first second (Err Write) p q = cut-join a b c first second p q
+puts-join T a b c first second (Err NoMemory) p q = gathers-join a b c first second p q
+
 -- However it ended, the first of the bytes are written or gathered.
 pub puts-cut : (T : Type 0) (old new : Held) (bytes : List ℕ) (result : Result T SessionFault) → Puts {T = T} old new bytes result → IsCutOff old new bytes
 puts-cut T old new bytes (Ok done) p = cut-none old new bytes p

@@ -29,31 +29,20 @@ pub answered-join : {S : Type 0} (answers : Relation S) (a b c : S) (xs ys : Req
 answered-join answers a b c xs ys first second p q =
     (p.0 ++ q.0, runs-join answers a b c xs ys p.0 q.0 p.1 q.1, rw (p.2, q.2) (sym (all_bytes-append p.0 q.0)))
 
-pub answered-more : {S : Type 0} (answers : Relation S) (a b c : S) (requests : Requests) (i : ℕ) (request : List (List ℕ)) (reply : Reply) (bytes : List ℕ)
-    → i < length requests → request ≡ get_or requests i request → IsAnswered answers a b (take i requests) bytes → answers b request reply c
-    → IsAnswered answers a c (take (i + 1) requests) (bytes ++ reply_bytes reply)
-answered-more answers a b c requests i request reply bytes h e p q =
-    let next : take (i + 1) requests ≡ take i requests ++ request ∷ [] = take_more requests i request h ∙ ap (λ x. take i requests ++ x ∷ []) (sym e) in
-    subst (λ front. IsAnswered answers a c front (bytes ++ reply_bytes reply)) (sym next)
-    (answered-join answers a b c (take i requests) (request ∷ []) bytes (reply_bytes reply) p (answered-one answers b c request reply q))
-
--- The last reply was made and not written.
-pub stopped-more : {S : Type 0} (answers : Relation S) (a b c : S) (requests : Requests) (i : ℕ) (request : List (List ℕ)) (reply : Reply) (bytes : List ℕ)
-    → i < length requests → request ≡ get_or requests i request → IsAnswered answers a b (take i requests) bytes → answers b request reply c
-    → IsStopped answers a c requests bytes
-stopped-more answers a b c requests i request reply bytes h e p q =
-    let next : take (i + 1) requests ≡ take i requests ++ request ∷ [] = take_more requests i request h ∙ ap (λ x. take i requests ++ x ∷ []) (sym e) in
-    record {
-      first = take (i + 1) requests;
-      others = drop (i + 1) requests;
-      split = sym (take-append-drop (i + 1) requests);
-      replies = p.0;
-      unwritten = reply ∷ [];
-      runs = subst (λ front. Runs answers a front (p.0 ++ reply ∷ []) c) (sym next) (runs-join answers a b c (take i requests) (request ∷ []) p.0 (reply ∷ []) p.1 (c, q, refl));
-      at_most_one = omega arith;
-      all_else = λ none. absurd cc;
-      written = p.2;
-    }
+-- The reply was made and not written.
+pub stopped-one : {S : Type 0} (answers : Relation S) (a b : S) (request : List (List ℕ)) (reply : Reply)
+    → answers a request reply b → IsStopped answers a b (request ∷ []) []
+stopped-one answers a b request reply h = record {
+  first = request ∷ [];
+  others = [];
+  split = refl;
+  replies = [];
+  unwritten = reply ∷ [];
+  runs = (b, h, refl);
+  at_most_one = omega arith;
+  all_else = λ none. refl;
+  written = refl;
+}
 
 -- All was written.
 pub stopped-whole : {S : Type 0} (answers : Relation S) (a b : S) (requests : Requests) (bytes : List ℕ)
@@ -86,15 +75,18 @@ pub begun-whole : {S : Type 0} (answers : Relation S) (a b : S) (requests : Requ
 begun-whole answers a b requests bytes p =
     (requests, [], [], sym (append-nil requests), subst (IsAnswered answers a b requests) (sym (append-nil bytes)) p)
 
--- The last reply was made, and the writer failed in it or before.
-pub begun-more : {S : Type 0} (answers : Relation S) (a b c : S) (requests : Requests) (i : ℕ) (request : List (List ℕ)) (reply : Reply) (bytes : List ℕ)
-    → i < length requests → request ≡ get_or requests i request → IsAnswered answers a b (take i requests) bytes → answers b request reply c
-    → IsBegun answers a c requests (bytes ++ reply_bytes reply)
-begun-more answers a b c requests i request reply bytes h e p q = (
-  take (i + 1) requests,
-  drop (i + 1) requests,
-  [],
-  sym (take-append-drop (i + 1) requests),
-  subst (IsAnswered answers a c (take (i + 1) requests)) (sym (append-nil (bytes ++ reply_bytes reply)))
-      (answered-more answers a b c requests i request reply bytes h e p q),
-)
+-- Some are answered, and of those that follow the first.
+pub stopped-join : {S : Type 0} (answers : Relation S) (a b c : S) (xs ys : Requests) (first second : List ℕ)
+    → IsAnswered answers a b xs first → IsStopped answers b c ys second → IsStopped answers a c (xs ++ ys) (first ++ second)
+stopped-join answers a b c xs ys first second p q = record {
+  first = xs ++ q.first;
+  others = q.others;
+  split = ap (λ l. xs ++ l) q.split ∙ sym (append_assoc xs q.first q.others);
+  replies = p.0 ++ q.replies;
+  unwritten = q.unwritten;
+  runs = subst (λ replies. Runs answers a (xs ++ q.first) replies c) (sym (append_assoc p.0 q.replies q.unwritten))
+      (runs-join answers a b c xs q.first p.0 (q.replies ++ q.unwritten) p.1 q.runs);
+  at_most_one = q.at_most_one;
+  all_else = q.all_else;
+  written = rw (p.2, q.written) (sym (all_bytes-append p.0 q.replies));
+}

@@ -3,7 +3,9 @@ use Rattle.std.proofs.Common.{◌≡◌, List, ℕ, [], ◌++◌, Option, None, 
 use Rattle.std.specs.Io.KnownBytes.{Appends, IsAtEnd}
 use Rattle.zq_server.proofs.GatheredBytes.{all-written, front-written, puts-cut}
 use Rattle.zq_server.specs.Gathering.{Puts, held}
-use Rattle.zq_resp.specs.Stream.{Feeds, Reaches, Requests, Splits, Stops, handed}
+use Rattle.zq_resp.specs.Front.{Part}
+use Rattle.zq_resp.specs.Grammar.{request_at}
+use Rattle.zq_resp.specs.Stream.{Breaks, Feeds, Reaches, Requests, Splits, Stops, handed}
 use Rattle.zq_resp.specs.declared.fault.FeedFault.TheVariants as fault
 use Rattle.zq_resp.specs.declared.fault.FeedFault.{FeedFault}
 use Rattle.zq_server.specs.declared.serving.Served.{Served}
@@ -14,8 +16,8 @@ use Rattle.zq_server.specs.declared.outcome.SessionFault.{SessionFault}
 use Rattle.zq_server.specs.declared.outcome.SessionFault.TheVariants as stop
 use Rattle.zq_server.specs.Session.{Relation, IsAnswered, IsBegun, IsClosed, IsOwed, IsReadOff, IsStopped, Serves, closing}
 use Rattle.zq_server.specs.Serving.{AnswersAll, EndsWith, ServesLast, ServesPiece}
-use Rattle.zq_server.proofs.Runs.{answered-none, answered-join, begun-whole, stopped-whole, stopped-begun}
-use Rattle.zq_server.proofs.Streams.{reaches-on, splits-on, breaks-on, splits-none, handed-append}
+use Rattle.zq_server.proofs.Runs.{answered-none, answered-join, begun-whole, stopped-join, stopped-whole, stopped-begun}
+use Rattle.zq_server.proofs.Streams.{reaches-more, reaches-on, splits-on, breaks-on, splits-none, handed-append}
 
 module _ {S : Type 0} (answers : Relation S) where
   -- the text so far is answered whole, but for the unfinished request
@@ -78,6 +80,58 @@ module _ {S : Type 0} (answers : Relation S) where
         subst (IsClosed answers old new (handed (s.all ++ p.0))) (sym (append_assoc written bytes p.2)) (closed-on old mid new s.all p.0 written (bytes ++ p.2) s.answered p.4),
       )
 
+  stopped-on : (old mid new : S) (all more : Requests) (written bytes : List ℕ)
+      → IsAnswered answers old mid (handed all) written → IsStopped answers mid new (handed more) bytes
+      → IsStopped answers old new (handed (all ++ more)) (written ++ bytes)
+  stopped-on old mid new all more written bytes p q =
+      subst (λ requests. IsStopped answers old new requests (written ++ bytes)) (sym (handed-append all more))
+      (stopped-join answers old mid new (handed all) (handed more) written bytes p q)
+
+  -- a piece of which nothing is taken yet
+  pub piece-begins : (s : S) (had : List ℕ) → request_at had ≡ Part → ServesPiece answers s s had [] (Some had) [] (Ok More)
+  piece-begins s had part = ([], had, refl, record { reaches = append-nil had; partial = part }, answered-none answers s)
+
+  piece-goes-on : (old mid new : S) (had front back written bytes has : List ℕ) (kept : Option (List ℕ)) (result : Result Served SessionFault)
+      → Stands old mid (had ++ front) written has → ServesPiece answers mid new has back kept bytes result → ServesPiece answers old new had (front ++ back) kept (written ++ bytes) result
+  piece-goes-on old mid new had front back written bytes has kept (Ok More) s p = (
+    s.all ++ p.0,
+    p.1,
+    p.2,
+    subst (λ text. Splits text (s.all ++ p.0) p.1) (append_assoc had front back) (splits-on (had ++ front) has back p.1 s.all p.0 s.splits p.3),
+    answered-on old mid new s.all p.0 written bytes s.answered p.4,
+  )
+  piece-goes-on old mid new had front back written bytes has kept (Ok Broken) s p = (
+    s.all ++ p.0,
+    p.1,
+    subst (λ text. Breaks text (s.all ++ p.0) p.1) (append_assoc had front back) (breaks-on (had ++ front) has back s.all p.0 p.1 s.splits p.2),
+    closed-on old mid new s.all p.0 written bytes s.answered p.3,
+  )
+  piece-goes-on old mid new had front back written bytes has kept (Err stop.Read) s p = absurd p
+  piece-goes-on old mid new had front back written bytes has kept (Err stop.Write) s p =
+      subst (λ text. IsOwed answers old new text (written ++ bytes)) (append_assoc had front back) (owed-on old mid new (had ++ front) written has back bytes s p)
+  piece-goes-on old mid new had front back written bytes has kept (Err stop.NoMemory) s p = (
+    s.all ++ p.0,
+    p.1,
+    subst (λ text. Reaches text (s.all ++ p.0) p.1) (append_assoc had front back) (reaches-on (had ++ front) has back p.1 s.all p.0 s.splits.reaches p.2),
+    stopped-on old mid new s.all p.0 written bytes s.answered p.3,
+  )
+
+  -- a piece whose front was served
+  pub piece-then : (old mid new : S) (had front back written bytes : List ℕ) (between kept : Option (List ℕ)) (result : Result Served SessionFault)
+      → ServesPiece answers old mid had front between written (Ok More)
+      → ((has : List ℕ) → between ≡ Some has → ServesPiece answers mid new has back kept bytes result)
+      → ServesPiece answers old new had (front ++ back) kept (written ++ bytes) result
+  piece-then old mid new had front back written bytes between kept result s p =
+      piece-goes-on old mid new had front back written bytes s.1 kept result (record { all = s.0; splits = s.3; answered = s.4 }) (p s.1 s.2)
+
+  pub piece-on : (old mid new : S) (had piece written bytes : List ℕ) (at : ℕ) (between kept : Option (List ℕ)) (result : Result Served SessionFault)
+      → ServesPiece answers old mid had (take at piece) between written (Ok More)
+      → ((has : List ℕ) → between ≡ Some has → ServesPiece answers mid new has (drop at piece) kept bytes result)
+      → ServesPiece answers old new had piece kept (written ++ bytes) result
+  piece-on old mid new had piece written bytes at between kept result s p =
+      subst (λ piece. ServesPiece answers old new had piece kept (written ++ bytes) result) (take-append-drop at piece)
+      (piece-then old mid new had (take at piece) (drop at piece) written bytes between kept result s p)
+
   -- the input breaks the protocol in a piece
   pub breaks-off : (old mid new : S) (text written had piece bytes : List ℕ) (kept : Option (List ℕ))
       → Stands old mid text written had → ServesPiece answers mid new had piece kept bytes (Ok Broken) → Serves answers old new (text ++ piece) (written ++ bytes) (Ok Protocol)
@@ -115,12 +169,6 @@ module _ {S : Type 0} (answers : Relation S) where
   piece-stops old new had piece bytes rest all kept stop.Write r p = inl (all, rest, r, p)
   piece-stops old new had piece bytes rest all kept stop.NoMemory r p = (all, rest, r, p)
 
-  pub last-stops : (old new : S) (why : FeedFault) (requests : Requests) (bytes : List ℕ) (stopped : SessionFault)
-      → AnswersAll answers old new requests bytes (Err stopped) → ServesLast answers old new why requests bytes (Err stopped)
-  last-stops old new why requests bytes stop.Read p = absurd p
-  last-stops old new why requests bytes stop.Write p = p
-  last-stops old new why requests bytes stop.NoMemory p = p
-
   -- a piece whose requests are answered
   piece-is-more : (old new : S) (had piece bytes : List ℕ) (requests : Requests) (kept : Option (List ℕ))
       → Feeds (Some had) piece (Ok requests) kept → IsAnswered answers old new requests bytes → ServesPiece answers old new had piece kept bytes (Ok More)
@@ -133,16 +181,19 @@ module _ {S : Type 0} (answers : Relation S) where
   piece-more old new had piece bytes requests before kept is f p =
       piece-is-more old new had piece bytes requests kept (subst (λ b. Feeds b piece (Ok requests) kept) is f) p
 
-  piece-is-cut : (old new : S) (had piece bytes : List ℕ) (requests : Requests) (fed kept : Option (List ℕ)) (why : SessionFault)
-      → Feeds (Some had) piece (Ok requests) fed → AnswersAll answers old new requests bytes (Err why) → ServesPiece answers old new had piece kept bytes (Err why)
-  piece-is-cut old new had piece bytes requests None kept why f p = absurd f
-  piece-is-cut old new had piece bytes requests (Some has) kept why f p =
-      piece-stops old new had piece bytes has f.0 kept why f.1.reaches (subst (λ handed_out. AnswersAll answers old new handed_out bytes (Err why)) f.2 p)
+  piece-is-cut : (old new : S) (had piece more bytes : List ℕ) (requests : Requests) (fed kept : Option (List ℕ)) (why : SessionFault)
+      → Feeds (Some had) piece (Ok requests) fed → AnswersAll answers old new requests bytes (Err why) → ServesPiece answers old new had (piece ++ more) kept bytes (Err why)
+  piece-is-cut old new had piece more bytes requests None kept why f p = absurd f
+  piece-is-cut old new had piece more bytes requests (Some has) kept why f p =
+      piece-stops old new had (piece ++ more) bytes (has ++ more) f.0 kept why
+      (subst (λ text. Reaches text f.0 (has ++ more)) (append_assoc had piece more) (reaches-more (had ++ piece) more has f.0 f.1.reaches))
+      (subst (λ handed_out. AnswersAll answers old new handed_out bytes (Err why)) f.2 p)
 
-  pub piece-cut : (old new : S) (had piece bytes : List ℕ) (requests : Requests) (before fed kept : Option (List ℕ)) (why : SessionFault)
-      → before ≡ Some had → Feeds before piece (Ok requests) fed → AnswersAll answers old new requests bytes (Err why) → ServesPiece answers old new had piece kept bytes (Err why)
-  piece-cut old new had piece bytes requests before fed kept why is f p =
-      piece-is-cut old new had piece bytes requests fed kept why (subst (λ b. Feeds b piece (Ok requests) fed) is f) p
+  pub piece-cut : (old new : S) (had piece bytes : List ℕ) (taken : ℕ) (requests : Requests) (before fed kept : Option (List ℕ)) (why : SessionFault)
+      → before ≡ Some had → Feeds before (take taken piece) (Ok requests) fed → AnswersAll answers old new requests bytes (Err why) → ServesPiece answers old new had piece kept bytes (Err why)
+  piece-cut old new had piece bytes taken requests before fed kept why is f p =
+      subst (λ piece. ServesPiece answers old new had piece kept bytes (Err why)) (take-append-drop taken piece)
+      (piece-is-cut old new had (take taken piece) (drop taken piece) bytes requests fed kept why (subst (λ b. Feeds b (take taken piece) (Ok requests) fed) is f) p)
 
   -- the requests before a fault are the first of the text's
   reached : (text : List ℕ) (why : FeedFault) (requests : Requests) → Stops text why requests

@@ -7,7 +7,8 @@ use Rattle.zq_resp.specs.Grammar.{request_at}
 use Rattle.zq_resp.specs.Stream.{Requests, Reaches, Splits, Breaks, handed}
 use Rattle.zq_resp.proofs.Stable.{got_stays}
 
-reaches-more : (bytes more rest : List ℕ) (all : Requests) → Reaches bytes all rest → Reaches (bytes ++ more) all (rest ++ more)
+-- more bytes
+pub reaches-more : (bytes more rest : List ℕ) (all : Requests) → Reaches bytes all rest → Reaches (bytes ++ more) all (rest ++ more)
 reaches-more bytes more rest [] r = ap (λ text. text ++ more) r
 reaches-more bytes more rest (request ∷ all) r = (r.0 ++ more, got_stays bytes more r.0 request r.1, reaches-more r.0 more rest all r.2)
 

@@ -15,10 +15,6 @@ use Rattle.zq_server.specs.declared.outcome.SessionFault.TheVariants as stop
 use Rattle.zq_server.specs.Gathering.{Held, Gives}
 use Rattle.zq_server.specs.Session.{Relation, IsAnswered, IsBegun, IsClosed, IsStopped, IsOwed, IsReadOff, Serves}
 
--- One request: its reply is made, and its bytes are put behind what was gathered.
-abbrev pub AnswersOne : {S : Type 0} → Relation S → S → S → List (List ℕ) → Held → Held → Result (Unit {0}) SessionFault → Type 0
-AnswersOne answers old new request before after result = (reply : Reply) × answers old request reply new × Gives before after (reply_bytes reply) result
-
 -- The bytes for some requests, by how it ended.
 abbrev pub AnswersAll : {S : Type 0} → Relation S → S → S → Requests → List ℕ → Result (Unit {0}) SessionFault → Type 0
 AnswersAll answers old new requests bytes (Ok done) = IsAnswered answers old new requests bytes

@@ -2,16 +2,17 @@
 
 ghost use Rattle.std.specs.Prelude.{◌≡◌, ◌++◌, IsTrue, List, MatchResult, ℕ, Some, true};
 ghost use Rattle.zq_resp.specs.Reply.{is_writable};
+ghost use Rattle.zq_resp.specs.Stream.{listed};
 ghost use Rattle.zq_resp.specs.declared.reply.Reply.{Reply};
 ghost use Rattle.zq_server.specs.Gathering.{Puts, held};
 ghost use Rattle.zq_server.specs.Session.{closing};
-ghost use Rattle.zq_server.specs.Serving.{AnswersOne, AnswersAll, IsBreak, ServesLast, ServesPiece};
+ghost use Rattle.zq_server.specs.Serving.{AnswersAll, IsBreak, ServesPiece};
 
 use crate::gathering::gather;
 use crate::outcome::SessionFault;
 use std::alloc::Global;
 use std::io::Write;
-use zq_resp::{FeedError, FeedFault, Reader, Reply, Request, write_reply};
+use zq_resp::{FeedFault, Reader, Reply, Request, write_reply};
 
 /// What answers requests.
 pub trait Answers {
@@ -51,29 +52,51 @@ pub fn serve_piece<A: Answers, W: Write>(
         × ServesPiece A.answers answerer.old answerer.new had piece.now input.new bytes result
         × Puts (held (W.contents writer.old) out.old.items) (held (W.contents writer.new) out.new.items) bytes result }
 {
-    match input.feed(alloc, piece) {
-        Ok(requests) => {
-            answer_all(alloc, answerer, &requests, writer, out)?;
-            input.take_back(requests);
-            Ok(Served::More)
+    // What is kept of an earlier piece is less than a request.
+    let _inside = input.inside();
+    let mut at = 0;
+    while at < piece.len() {
+        match input.next_request(alloc, &piece[at..]) {
+            Ok((found, taken)) => {
+                answer_found(alloc, answerer, input, found, writer, out)?;
+                at += taken;
+            }
+            Err(fault) => return end(fault, out),
         }
-        Err(error) => serve_last(alloc, answerer, &error, writer, out),
     }
+    Ok(Served::More)
 }
 
-fn serve_last<A: Answers, W: Write>(
+/// Answers a request, where there is one, and gives it back to the reader for its memory.
+fn answer_found<A: Answers, W: Write>(
     alloc: Global,
     answerer: &mut A,
-    error: &FeedError,
+    input: &mut Reader,
+    found: Option<Request>,
     writer: &mut W,
     out: &mut Vec<u8>,
-) -> Result<Served, SessionFault>
-    ensures { (bytes : List ℕ)
-        × ServesLast A.answers answerer.old answerer.new error.now.fault error.now.before.items bytes result
+) -> Result<(), SessionFault>
+    ensures kept { input.new ≡ input.old }
+    ensures answered { (bytes : List ℕ)
+        × AnswersAll A.answers answerer.old answerer.new (listed found) bytes result
         × Puts (held (W.contents writer.old) out.old.items) (held (W.contents writer.new) out.new.items) bytes result }
 {
-    answer_all(alloc, answerer, &error.before, writer, out)?;
-    if breaks(error.fault) {
+    let Some(request) = found else {
+        return Ok(());
+    };
+    let reply = answerer.answer(alloc, &request);
+    gather(writer, out, &reply)?;
+    input.give_back(request);
+    Ok(())
+}
+
+/// Ends the input at a fault.
+fn end(fault: FeedFault, out: &mut Vec<u8>) -> Result<Served, SessionFault>
+    ensures { MatchResult result
+        (λ served. IsBreak fault × (served ≡ Served.Broken) × (out.new.items ≡ out.old.items ++ closing))
+        (λ stop. (stop ≡ SessionFault.NoMemory) × (out.new.items ≡ out.old.items)) }
+{
+    if breaks(fault) {
         close(out)
     } else {
         Err(SessionFault::NoMemory)
@@ -88,37 +111,6 @@ fn breaks(fault: FeedFault) -> bool
         FeedFault::Protocol | FeedFault::TooLong => true,
         FeedFault::Over | FeedFault::NoMemory => false,
     }
-}
-
-fn answer_all<A: Answers, W: Write>(
-    alloc: Global,
-    answerer: &mut A,
-    requests: &[Request],
-    writer: &mut W,
-    out: &mut Vec<u8>,
-) -> Result<(), SessionFault>
-    ensures { (bytes : List ℕ)
-        × AnswersAll A.answers answerer.old answerer.new requests.now bytes result
-        × Puts (held (W.contents writer.old) out.old.items) (held (W.contents writer.new) out.new.items) bytes result }
-{
-    for request in requests {
-        answer_one(alloc, answerer, request, writer, out)?;
-    }
-    Ok(())
-}
-
-fn answer_one<A: Answers, W: Write>(
-    alloc: Global,
-    answerer: &mut A,
-    request: &Request,
-    writer: &mut W,
-    out: &mut Vec<u8>,
-) -> Result<(), SessionFault>
-    ensures { AnswersOne A.answers answerer.old answerer.new request.now
-        (held (W.contents writer.old) out.old.items) (held (W.contents writer.new) out.new.items) result }
-{
-    let reply = answerer.answer(alloc, request);
-    gather(writer, out, &reply)
 }
 
 // Puts the error that closes the session behind what is gathered.

@@ -29,7 +29,7 @@ pub fn short_request(
         None | Some(0) => return Ok(None),
         Some(count) => count,
     };
-    let mut words = match spent.pop() {
+    let mut words = match spent.take(count) {
         Some(words) => words,
         None => Vec::with_capacity(alloc, count)?,
     };
@@ -72,11 +72,38 @@ fn replace_word(spent: &mut Vec<u8>, word: &[u8]) -> Result<(), AllocError>
     ensures { OnOk result (spent.new.items ≡ word.now) }
 {
     if spent.len() == word.len() {
-        spent.as_mut_slice().copy_from_slice(word);
+        overwrite(spent.as_mut_slice(), word);
         return Ok(());
     }
     spent.clear();
     spent.extend_from_slice(word)
+}
+
+/// Copies bytes over as many. Most words are short: two copies of a known length, which may share bytes, write them
+/// whole.
+#[inline(always)]
+fn overwrite(bytes: &mut [u8], word: &[u8])
+    requires { length bytes.old ≡ length word.now }
+    ensures { bytes.new ≡ word.now }
+{
+    match word.len() {
+        4..8 => overwrite_ends::<4>(bytes, word),
+        8..=16 => overwrite_ends::<8>(bytes, word),
+        _ => bytes.copy_from_slice(word),
+    }
+}
+
+/// The same, where the first bytes of a word, so many, and its last ones leave none out.
+#[inline(always)]
+fn overwrite_ends<const N: usize>(bytes: &mut [u8], word: &[u8])
+    requires alike { length bytes.old ≡ length word.now }
+    requires long { N ≤ length word.now }
+    requires short { length word.now ≤ N + N }
+    ensures { bytes.new ≡ word.now }
+{
+    let last = word.len() - N;
+    bytes[..N].copy_from_slice(&word[..N]);
+    bytes[last..].copy_from_slice(&word[last..]);
 }
 
 /// The count of a request that begins at the front, where it has one digit and its line is all there.

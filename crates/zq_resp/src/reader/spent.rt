@@ -2,39 +2,36 @@
 
 use crate::request::Request;
 
-/// So many requests are kept at most.
-const MOST_KEPT: usize = 1_024;
+/// One place for each number of words of a request that is kept, and one for none.
+const PLACES: usize = 10;
 
-/// The list of them has at most so many places.
-const MOST_PLACES: usize = 2_048;
-
-/// Requests that were answered: the memory of their words is used again for later ones.
+/// Requests that were answered: the memory of their words is used again for a later one of as many words.
 #[derive(Drop)]
 pub struct Spent {
-    requests: Option<Vec<Request>>,
+    requests: [Option<Request>; PLACES],
 }
 
 impl Spent {
     /// None.
     pub fn new() -> Self {
-        Spent { requests: None }
+        Spent {
+            requests: [None, None, None, None, None, None, None, None, None, None],
+        }
     }
 
-    /// The words of one of them, as they were; `None` where none is left.
-    pub fn pop(&mut self) -> Option<Vec<Vec<u8>>> {
-        let request = self.requests.as_mut()?.pop()?;
+    /// The words of the one of so many words, as they were; `None` where none is left.
+    pub fn take(&mut self, count: usize) -> Option<Vec<Vec<u8>>> {
+        let request = self.requests.get_mut(count)?.take()?;
         Some(request.into_words())
     }
 
-    /// Keeps the small ones of these, in place of all that were kept before.
-    pub fn keep(&mut self, requests: Vec<Request>) {
-        let mut requests = requests;
-        requests.truncate(MOST_KEPT);
-        requests.retain(|request| request.is_small());
-        self.requests = if requests.capacity() > MOST_PLACES {
-            None
-        } else {
-            Some(requests)
-        };
+    /// Keeps this one if it is small, in place of the one of as many words that was kept before.
+    pub fn keep(&mut self, request: Request) {
+        if !request.is_small() {
+            return;
+        }
+        if let Some(place) = self.requests.get_mut(request.words().len()) {
+            *place = Some(request);
+        }
     }
 }

@@ -5,7 +5,7 @@ ghost use Rattle.zq_resp.specs.Request.{AreWords};
 ghost use Rattle.zq_resp.specs.Suspended.{IsStep, views};
 ghost use Rattle.zq_resp.specs.Partial.{text_so_far};
 ghost use Rattle.zq_resp.specs.Unfinished.{PieceGives, Stands, UnfinishedStep};
-ghost use Rattle.zq_resp.specs.Stream.{handed, is_inside};
+ghost use Rattle.zq_resp.specs.Stream.{handed, is_inside, listed};
 
 use crate::fault::FeedFault;
 use crate::reader::partial::Partial;
@@ -46,7 +46,7 @@ impl Unfinished {
 
     /// Reads on until the request ends or the bytes do, and answers how many bytes that took. The first byte
     /// past the limit of a request is answered `TooLong`.
-    fn read(
+    pub fn read(
         self,
         alloc: Global,
         bytes: &[u8],
@@ -107,15 +107,26 @@ pub fn read_on(
 }
 
 /// Adds a request of these words, unless there are none.
-#[inline(always)]
 fn hand_out(requests: &mut Vec<Request>, words: Vec<Vec<u8>>) -> Result<(), FeedFault>
     requires { AreWords (views words) }
     ensures ok { OnOk result (requests.new.items ≡ requests.old.items ++ handed (views words ∷ [])) }
     ensures err { OnErr result (requests.new.items ≡ requests.old.items) }
     ensures memory { IfErr result (λ e. e ≡ FeedFault.NoMemory) }
 {
-    if !words.is_empty() {
-        requests.push(Request::new(words))?;
+    if let Some(request) = request_of(words) {
+        requests.push(request)?;
     }
     Ok(())
+}
+
+/// A request of these words, unless there are none.
+#[inline(always)]
+pub fn request_of(words: Vec<Vec<u8>>) -> Option<Request>
+    requires { AreWords (views words) }
+    ensures { listed result ≡ handed (views words ∷ []) }
+{
+    if words.is_empty() {
+        return None;
+    }
+    Some(Request::new(words))
 }

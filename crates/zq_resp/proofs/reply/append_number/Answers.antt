@@ -1,4 +1,4 @@
-use Rattle.std.proofs.Common.{List, OnErr, [], arith, decimal, length, ◌+◌, ◌++◌, ◌∷◌, ◌≡◌, ℕ}
+use Rattle.std.proofs.Common.{[], arith, decimal, ◌+◌, ◌∷◌, ◌≡◌}
 use Rattle.std.proofs.lemmas.Fmt.{decimal_digit}
 use Rattle.std.proofs.lemmas.Grind.{common_steps}
 use Rattle.zq_resp.proofs.reply.append_number.Goals as goal

@@ -1,33 +1,69 @@
-use Rattle.std.proofs.Common.{◌≡◌, Err, Ok, subst, sym}
-use Rattle.zq_resp.specs.Stream.{Feeds}
-use Rattle.zq_server.specs.Gathering.{held}
-use Rattle.zq_server.specs.Serving.{AnswersAll}
+use Rattle.std.proofs.Common.{◌≡◌, ◌++◌, Err, Ok, [], arith, drop, subst, sym, take}
+use Rattle.std.proofs.Math.Seq.{take-add}
+use Rattle.std.proofs.lemmas.List.{length-drop, take_all, take_rest}
 use Rattle.std.proofs.lemmas.Result.{err_from_is_err_and}
-use Rattle.zq_server.proofs.GatheredBytes.{puts-stopped}
-use Rattle.zq_server.proofs.Served.{piece-cut, piece-last, piece-more}
+use Rattle.zq_resp.specs.Stream.{Feeds, listed}
+use Rattle.zq_server.proofs.GatheredBytes.{gathers-join, gathers-none, puts-join, puts-stopped}
+use Rattle.zq_server.proofs.Replied.{replied-last}
+use Rattle.zq_server.proofs.Served.{piece-begins, piece-cut, piece-last, piece-more, piece-on, piece-then}
+use Rattle.zq_server.specs.Gathering.{held}
 use Rattle.zq_server.specs.declared.serving.Served.{Served}
+use Rattle.zq_server.specs.declared.serving.Served.TheVariants.{More}
 use Rattle.zq_server.proofs.serving.serve_piece.Goals as goal
 
-pub returns-in_err-answer_all-in-Ok : goal.returns-in_err-answer_all-in-Ok
-returns-in_err-answer_all-in-Ok g c = λ had is.
+pub loop-at-init : goal.loop-at-init
+loop-at-init g c = (omega arith, λ had is. ([], rw is (piece-begins g.A.Answers.answers _ had (c.inside-inside.ensures.unfinished had is)), gathers-none _))
+
+pub returns-in_err-answer_found-in-Ok : goal.returns-in_err-answer_found-in-Ok
+returns-in_err-answer_found-in-Ok g c = λ had is.
     let failed = err_from_is_err_and c.from_residual.result c.from_residual.ensures.1 in
-    let why : c.from_residual.result ≡ Err c.in_err-answer_all-in-Ok.field-0.0 = cc (failed.1, failed.2) in
-    let all = c.in_err-answer_all-in-Ok.ensures in
-    let stopped = subst (λ l. AnswersAll g.A.Answers.answers c.args.answerer.now c.answer_all.new.answerer l all.0 (Err c.in_err-answer_all-in-Ok.field-0.0)) c.deref.ensures.value all.1 in
-    let before = held (g.W.Write.contents c.args.writer.now) c.args.out.now.items in
-    let after = held (g.W.Write.contents c.answer_all.new.writer) c.answer_all.new.out.items in
+    let stop = c.in_err-answer_found-in-Ok.field-0.0 in
+    let why : c.from_residual.result ≡ Err stop = cc (failed.1, failed.2) in
+    let served = c.loop-at.invariant.1 had is in
+    let one = c.in_err-answer_found-in-Ok.ensures.answered in
+    let begun = held (g.W.Write.contents c.args.writer.now) c.args.out.now.items in
+    let before = held (g.W.Write.contents c.loop-at.writer) c.loop-at.out.items in
+    let after = held (g.W.Write.contents c.answer_found.new.writer) c.answer_found.new.out.items in
     rw why (
-      all.0,
-      piece-cut g.A.Answers.answers _ _ had c.args.piece.now all.0 c.in-Ok.requests.items c.args.input.now c.feed.new.self c.feed.new.self c.in_err-answer_all-in-Ok.field-0.0 is c.in-Ok.ensures stopped,
-      puts-stopped (Unit {0}) Served before after all.0 c.in_err-answer_all-in-Ok.field-0.0 all.2,
+      served.0 ++ one.0,
+      piece-on g.A.Answers.answers _ _ _ had c.args.piece.now served.0 one.0 c.loop-at.at _ c.answer_found.new.input (Err stop) served.1
+          (λ has kept. piece-cut g.A.Answers.answers _ _ has (drop c.loop-at.at c.args.piece.now) one.0 c.in-Ok.taken (listed c.in-Ok.found) c.loop-at.input c.next_request.new.self c.answer_found.new.input stop kept
+          (rw (take_rest c.args.piece.now c.loop-at.at) at c.in-Ok.ensures.fed) one.1),
+      puts-stopped (Unit {0}) Served begun after (served.0 ++ one.0) stop (puts-join (Unit {0}) begun before after served.0 one.0 (Err stop) served.2 one.2),
     )
 
-pub returns-in_ok-answer_all-in-Ok : goal.returns-in_ok-answer_all-in-Ok
-returns-in_ok-answer_all-in-Ok g c = λ had is.
-    let all = rw c.deref.ensures.value at c.in_ok-answer_all-in-Ok.ensures in
-    (all.0, piece-more g.A.Answers.answers _ _ had c.args.piece.now all.0 _ _ _ is (subst (λ kept. Feeds c.args.input.now c.args.piece.now (Ok c.in-Ok.requests.items) kept) (sym c.take_back.ensures) c.in-Ok.ensures) all.1, all.2)
+pub loop-at-preserved : goal.loop-at-preserved
+loop-at-preserved g c = (
+  omega (arith, c.in-Ok.ensures.within, length-drop c.loop-at.at c.args.piece.now, c.loop-at.invariant.0),
+  λ had is.
+      let served = c.loop-at.invariant.1 had is in
+      let one = c.in_ok-answer_found-in-Ok.ensures.answered in
+      let begun = held (g.W.Write.contents c.args.writer.now) c.args.out.now.items in
+      let before = held (g.W.Write.contents c.loop-at.writer) c.loop-at.out.items in
+      let after = held (g.W.Write.contents c.answer_found.new.writer) c.answer_found.new.out.items in
+      let fed = subst (λ kept. Feeds c.loop-at.input (take c.in-Ok.taken (drop c.loop-at.at c.args.piece.now)) (Ok (listed c.in-Ok.found)) kept) (sym c.in_ok-answer_found-in-Ok.ensures.kept) (rw (take_rest c.args.piece.now c.loop-at.at) at c.in-Ok.ensures.fed) in (
+        served.0 ++ one.0,
+        rw (take-add c.loop-at.at c.in-Ok.taken c.args.piece.now)
+            (piece-then g.A.Answers.answers _ _ _ had (take c.loop-at.at c.args.piece.now) (take c.in-Ok.taken (drop c.loop-at.at c.args.piece.now)) served.0 one.0 _ _ (Ok More) served.1
+            (λ has kept. piece-more g.A.Answers.answers _ _ has (take c.in-Ok.taken (drop c.loop-at.at c.args.piece.now)) one.0 (listed c.in-Ok.found) c.loop-at.input c.answer_found.new.input kept fed one.1)),
+        gathers-join begun before after served.0 one.0 served.2 one.2,
+      ),
+)
 
 pub returns-in-Err : goal.returns-in-Err
 returns-in-Err g c = λ had is.
-    let all = c.serve_last.ensures in
-    (all.0, piece-last g.A.Answers.answers _ _ had c.args.piece.now all.0 _ _ _ _ c.serve_last.result is c.in-Err.ensures all.1, all.2)
+    let served = c.loop-at.invariant.1 had is in
+    let contents = g.W.Write.contents c.loop-at.writer in
+    let last = replied-last g.A.Answers.answers c.loop-at.answerer contents c.loop-at.out.items c.end.new.out.items c.in-Err.fault c.end.result c.end.ensures in
+    let begun = held (g.W.Write.contents c.args.writer.now) c.args.out.now.items in (
+      served.0 ++ last.0,
+      piece-on g.A.Answers.answers _ _ _ had c.args.piece.now served.0 last.0 c.loop-at.at _ _ c.end.result served.1
+          (λ has kept. piece-last g.A.Answers.answers _ _ has (drop c.loop-at.at c.args.piece.now) last.0 [] c.loop-at.input c.next_request.new.self c.in-Err.fault c.end.result kept (rw (take_rest c.args.piece.now c.loop-at.at) at c.in-Err.ensures.fault) last.1),
+      puts-join Served begun (held contents c.loop-at.out.items) (held contents c.end.new.out.items) served.0 last.0 c.end.result served.2 last.2,
+    )
+
+pub returns : goal.returns
+returns g c = λ had is.
+    let served = c.loop-at.invariant.1 had is in
+    let whole = take_all c.loop-at.at c.args.piece.now (omega (arith, c.loop-at-test.false)) in
+    (served.0, rw whole at served.1, served.2)
