@@ -14,14 +14,15 @@ use Rattle.zq_server.specs.declared.outcome.SessionFault.{SessionFault}
 use Rattle.zq_server.specs.declared.outcome.SessionFault.TheVariants.{Read, Write, NoMemory}
 
 module _ {S : Type 0} (answers : Relation S) where
-  -- a fault at a request
-  pub replied-stops : (a b : S) (before after : Held) (request : List (List ℕ)) (reply : Reply) (why : SessionFault)
-      → answers a request reply b → Gives before after (reply_bytes reply) (Err why)
-      → (bytes : List ℕ) × AnswersAll answers a b (request ∷ []) bytes (Err why) × Puts {T = Unit {0}} before after bytes (Err why)
-  replied-stops a b before after request reply Read h p = absurd p
-  replied-stops a b before after request reply Write h p =
+  -- one request
+  pub replied-one : (a b : S) (before after : Held) (request : List (List ℕ)) (reply : Reply) (result : Result (Unit {0}) SessionFault)
+      → answers a request reply b → Gives before after (reply_bytes reply) result
+      → (bytes : List ℕ) × AnswersAll answers a b (request ∷ []) bytes result × Puts {T = Unit {0}} before after bytes result
+  replied-one a b before after request reply (Ok done) h p = (reply_bytes reply, answered-one answers a b request reply h, p.0)
+  replied-one a b before after request reply (Err Read) h p = absurd p
+  replied-one a b before after request reply (Err Write) h p =
       (reply_bytes reply, begun-whole answers a b (request ∷ []) (reply_bytes reply) (answered-one answers a b request reply h), p)
-  replied-stops a b before after request reply NoMemory h p = ([], stopped-one answers a b request reply h, p)
+  replied-one a b before after request reply (Err NoMemory) h p = ([], stopped-one answers a b request reply h, p)
 
   -- the closing words, or there was no memory for them, or for what would follow
   pub replied-last : (s : S) (contents : Option (List ℕ)) (gathered rest : List ℕ) (why : FeedFault) (result : Result Served SessionFault)

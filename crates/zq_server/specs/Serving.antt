@@ -1,7 +1,5 @@
 -- What one piece of the input is answered with.
 use Rattle.std.specs.Prelude.{◌≡◌, ◌≢◌, ◌≤◌, ℕ, List, [], ◌++◌, length, Option, Some, None, Result, Ok, Err}
-use Rattle.zq_resp.specs.declared.reply.Reply.{Reply}
-use Rattle.zq_resp.specs.Reply.{reply_bytes}
 use Rattle.zq_resp.specs.declared.fault.FeedFault.{FeedFault}
 use Rattle.zq_resp.specs.declared.fault.FeedFault.TheVariants.{Protocol, TooLong, Over, NoMemory}
 use Rattle.zq_resp.specs.Stream.{Requests, Reaches, Splits, Breaks, handed}
@@ -12,7 +10,6 @@ use Rattle.zq_server.specs.declared.outcome.End.TheVariants.{Clean, Inside}
 use Rattle.zq_server.specs.declared.outcome.End.TheVariants as end
 use Rattle.zq_server.specs.declared.outcome.SessionFault.{SessionFault}
 use Rattle.zq_server.specs.declared.outcome.SessionFault.TheVariants as stop
-use Rattle.zq_server.specs.Gathering.{Held, Gives}
 use Rattle.zq_server.specs.Session.{Relation, IsAnswered, IsBegun, IsClosed, IsStopped, IsOwed, IsReadOff, Serves}
 
 -- The bytes for some requests, by how it ended.

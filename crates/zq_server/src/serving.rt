@@ -1,8 +1,7 @@
 //! Answers to the requests of one piece of the input.
 
-ghost use Rattle.std.specs.Prelude.{◌≡◌, ◌++◌, IsTrue, List, MatchResult, ℕ, Some, true};
+ghost use Rattle.std.specs.Prelude.{◌≡◌, ◌++◌, ◌∷◌, [], IsTrue, List, MatchResult, ℕ, Some, true};
 ghost use Rattle.zq_resp.specs.Reply.{is_writable};
-ghost use Rattle.zq_resp.specs.Stream.{listed};
 ghost use Rattle.zq_resp.specs.declared.reply.Reply.{Reply};
 ghost use Rattle.zq_server.specs.Gathering.{Puts, held};
 ghost use Rattle.zq_server.specs.Session.{closing};
@@ -58,7 +57,10 @@ pub fn serve_piece<A: Answers, W: Write>(
     while at < piece.len() {
         match input.next_request(alloc, &piece[at..]) {
             Ok((found, taken)) => {
-                answer_found(alloc, answerer, input, found, writer, out)?;
+                if let Some(request) = found {
+                    answer_one(alloc, answerer, &request, writer, out)?;
+                    input.give_back(request);
+                }
                 at += taken;
             }
             Err(fault) => return end(fault, out),
@@ -67,27 +69,20 @@ pub fn serve_piece<A: Answers, W: Write>(
     Ok(Served::More)
 }
 
-/// Answers a request, where there is one, and gives it back to the reader for its memory.
-fn answer_found<A: Answers, W: Write>(
+/// Answers a request.
+fn answer_one<A: Answers, W: Write>(
     alloc: Global,
     answerer: &mut A,
-    input: &mut Reader,
-    found: Option<Request>,
+    request: &Request,
     writer: &mut W,
     out: &mut Vec<u8>,
 ) -> Result<(), SessionFault>
-    ensures kept { input.new ≡ input.old }
-    ensures answered { (bytes : List ℕ)
-        × AnswersAll A.answers answerer.old answerer.new (listed found) bytes result
+    ensures { (bytes : List ℕ)
+        × AnswersAll A.answers answerer.old answerer.new (request.now ∷ []) bytes result
         × Puts (held (W.contents writer.old) out.old.items) (held (W.contents writer.new) out.new.items) bytes result }
 {
-    let Some(request) = found else {
-        return Ok(());
-    };
-    let reply = answerer.answer(alloc, &request);
-    gather(writer, out, &reply)?;
-    input.give_back(request);
-    Ok(())
+    let reply = answerer.answer(alloc, request);
+    gather(writer, out, &reply)
 }
 
 /// Ends the input at a fault.
