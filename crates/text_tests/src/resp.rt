@@ -173,7 +173,7 @@ struct Round {
     requests: &'static [&'static [&'static [u8]]],
 }
 
-/// Each piece's requests are handed back before the next piece: their memory is used again, and their bytes are not.
+/// Each request is given back before the next one is read: its memory is used again, and its bytes are not.
 const ROUNDS: [Round; 5] = [
     Round {
         piece: b"*4\r\n$4\r\nZADD\r\n$5\r\nboard\r\n$3\r\n100\r\n$12\r\nabcdefghijkl\r\n*1\r\n$4\r\nPING\r\n",
