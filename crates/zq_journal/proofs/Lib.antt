@@ -9,4 +9,5 @@ pub mod Replaying
 pub mod Lacking
 pub mod Undone
 pub mod MadeHere
+pub mod Halves
 pub mod Crossing

@@ -29,7 +29,7 @@ pub record Record : Type 0 where
 abbrev pub whole : ℕ → ℕ → List ℕ → change.Change → Change
 whole h K v (kept.Made own) = Made (record {
   heaps = K;
-  operation = record { heap = h; site = own.dot.site; n = own.dot.n; seen = v; key = own.key; member = own.member; act = act_of own.act };
+  operation = record { heap = h; site = own.dot.site; n = own.dot.n; seen = v; key = own.names.0; member = own.names.1; act = act_of own.act };
 })
 whole h K v (kept.Took op) = Took op.value
 

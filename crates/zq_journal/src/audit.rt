@@ -67,7 +67,8 @@ fn replay(alloc: Global, shard: &mut Shard, tail: &VecDeque<Record>) -> Result<(
     ensures image { OnOk result (shard.new.image ≡ replayed (written_in (records_in shard.old shard.old.image.vector tail.now.items)) shard.old.image) }
 {
     for place in 0..tail.len() {
-        drop(tail[place].what.put_in(alloc, shard)?);
+        let what = &tail[place].what;
+        drop(what.put_in(alloc, shard, what.key(), what.member())?);
     }
     Ok(())
 }

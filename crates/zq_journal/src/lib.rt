@@ -6,6 +6,7 @@ mod audit;
 mod book;
 mod cutting;
 mod faults;
+mod names;
 mod own;
 mod putting;
 mod recording;

@@ -11,13 +11,18 @@ use zq_entry::Entry;
 use zq_shard::Shard;
 
 impl Change {
-    /// Takes the operation in a heap to which it is new, and answers what its member had before. Where memory is short
-    /// nothing changes.
+    /// Takes the operation, of this key and this member, in a heap to which it is new, and answers what its member had
+    /// before. Where memory is short nothing changes.
+    #[inline(always)]
     pub(crate) fn put_in(
         &self,
         alloc: Global,
         shard: &mut Shard,
+        key: &[u8],
+        member: &[u8],
     ) -> Result<Option<Entry>, AllocError>
+        requires key { key.now ≡ (placed_in (whole shard.old.heap shard.old.heaps shard.old.image.vector self.now)).operation.key }
+        requires member { member.now ≡ (placed_in (whole shard.old.heap shard.old.heaps shard.old.image.vector self.now)).operation.member }
         requires own { IsRecordable shard.old.heap shard.old.heaps (placed_in (whole shard.old.heap shard.old.heaps shard.old.image.vector self.now)) }
         requires new { taken_of shard.old.image.vector (placed_in (whole shard.old.heap shard.old.heaps shard.old.image.vector self.now)).operation ≡ New }
         ensures heap { shard.new.heap ≡ shard.old.heap }
@@ -30,10 +35,7 @@ impl Change {
         ensures refused { OnErr result (shard.new ≡ shard.old) }
     {
         match self {
-            Change::Made(own) => {
-                let (key, member) = (own.key.as_slice(), own.member.as_slice());
-                shard.put_next(alloc, own.dot, key, member, own.act)
-            }
+            Change::Made(own) => shard.put_next(alloc, own.dot, key, member, own.act),
             Change::Took(op) => shard.put_in(alloc, op),
         }
     }

@@ -16,12 +16,12 @@ ghost use Rattle.zq_shard.specs.Taken.{answer_of};
 
 use crate::book::{Book, LAST};
 use crate::faults::TakeFault;
+use crate::names::Names;
 use crate::own::Own;
 use crate::records::{Change, Record};
 use std::alloc::{AllocError, Global};
 use zq_dots::{Act, Dot, Op, SiteNo, heap_of};
 use zq_history::{keeping, undoing, working};
-use zq_posheap::Name;
 use zq_shard::{MakeFault, Taken};
 
 impl Book {
@@ -89,11 +89,10 @@ impl Book {
         let dot = self.next_here(site)?;
         let what = Change::Made(Own {
             dot,
-            key: Name::copied(alloc, key)?,
-            member: Name::copied(alloc, member)?,
+            names: Names::copied(alloc, key, member)?,
             act,
         });
-        Ok(self.enter(alloc, stamp, what)?)
+        Ok(self.enter(alloc, stamp, key, member, what)?)
     }
 
     /// Takes an operation of another site where it is New, with a record; what is Known or Early
@@ -125,8 +124,8 @@ impl Book {
         if self.count == LAST {
             return Err(TakeFault::Worn);
         }
-        let op = boxed(alloc, op)?;
-        self.enter(alloc, stamp, Change::Took(op))?;
+        let copy = boxed(alloc, op)?;
+        self.enter(alloc, stamp, op.key(), op.member(), Change::Took(copy))?;
         Ok(taken)
     }
 
@@ -149,13 +148,23 @@ impl Book {
         self.shard.next_here(site)
     }
 
-    /// Takes an operation that is new to the state, with a record at this stamp, and answers whether its member stood
-    /// before.
+    /// Takes an operation of this key and this member that is new to the state, with a record at this stamp, and answers
+    /// whether its member stood before.
     #[tactic(auto, unfolding(crate::specs::Books::LAST_STAMP))]
-    fn enter(&mut self, alloc: Global, at: u64, what: Change) -> Result<bool, AllocError>
+    #[inline(always)]
+    fn enter(
+        &mut self,
+        alloc: Global,
+        at: u64,
+        key: &[u8],
+        member: &[u8],
+        what: Change,
+    ) -> Result<bool, AllocError>
         requires stamp { self.old.stamp ≤ at }
         requires bounded { at ≤ LAST_STAMP }
         requires count { self.old.count < LAST_STAMP }
+        requires key { key.now ≡ (placed_in (whole self.old.heap self.old.heaps self.old.state.vector what)).operation.key }
+        requires member { member.now ≡ (placed_in (whole self.old.heap self.old.heaps self.old.state.vector what)).operation.member }
         requires recordable { IsRecordable self.old.heap self.old.heaps (placed_in (whole self.old.heap self.old.heaps self.old.state.vector what)) }
         requires over { is_change_over self.old.heap self.old.state.vector (change_of (whole self.old.heap self.old.heaps self.old.state.vector what)) ≡ true }
         ensures stood { IfOk result (λ stood. stood ≡ is_some (get self.old.state.members (place_of (placed_in (whole self.old.heap self.old.heaps self.old.state.vector what)).operation))) }
@@ -171,7 +180,7 @@ impl Book {
         // and goes on with a call's work.
         working();
         self.tail.reserve(1)?;
-        let before = what.put_in(alloc, &mut self.shard)?;
+        let before = what.put_in(alloc, &mut self.shard, key, member)?;
         let stood = before.is_some();
         self.tail.push_back_reserved(Record {
             stamp: at,

@@ -37,7 +37,7 @@ impl Change {
         ensures { (h K : ℕ) (v : List ℕ) → result.now ≡ (placed_in (whole h K v self.now)).operation.key }
     {
         match self {
-            Change::Made(own) => own.key.as_slice(),
+            Change::Made(own) => own.names.key(),
             Change::Took(op) => op.key(),
         }
     }
@@ -47,7 +47,7 @@ impl Change {
         ensures { (h K : ℕ) (v : List ℕ) → result.now ≡ (placed_in (whole h K v self.now)).operation.member }
     {
         match self {
-            Change::Made(own) => own.member.as_slice(),
+            Change::Made(own) => own.names.member(),
             Change::Took(op) => op.member(),
         }
     }
@@ -72,8 +72,8 @@ impl Change {
     {
         match self {
             Change::Made(own) => {
-                let key = Vec::from_slice(alloc, own.key.as_slice())?;
-                let member = Vec::from_slice(alloc, own.member.as_slice())?;
+                let key = Vec::from_slice(alloc, own.names.key())?;
+                let member = Vec::from_slice(alloc, own.names.member())?;
                 Ok(Op::new(heap, heaps, own.dot, *seen, key, member, own.act))
             }
             Change::Took(op) => op.copy(alloc),
@@ -89,3 +89,6 @@ pub(crate) struct Record {
     pub(crate) what: Change,
     pub(crate) before: Option<Entry>,
 }
+
+// Each call that makes something writes one: it is to fill two lines of a cache.
+const _: () = prove!(size_of::<Record>() == 128);

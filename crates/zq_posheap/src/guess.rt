@@ -58,6 +58,7 @@ impl Guess {
 }
 
 /// Whether a name stands at an index of a map.
+#[inline(always)]
 fn is_at<V>(names: &IndexMap<Name, V, Seeded>, index: usize, name: &[u8]) -> bool
     ensures there { IsTrue result → slice_get (keys names.now) index ≡ Some name.now }
     ensures value { IsTrue result → slice_get (values names.now) index ≡ get_by (same_key name.now) names.now }

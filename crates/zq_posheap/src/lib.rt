@@ -25,4 +25,5 @@ pub use name::{Name, NameRef};
 pub use pairs::Pairs;
 pub use place::Place;
 pub use pos_heap::PosHeap;
+pub use same::overwrite;
 pub use seeded::Seeded;

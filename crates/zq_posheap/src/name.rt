@@ -6,7 +6,7 @@ ghost use Rattle.std.specs.Cmp.Lexicographic.{bytes_decides, nat_list_eq_equiv, 
 ghost use Rattle.zq_posheap.specs.Hashing.{words_of};
 
 use crate::hashing::write_words;
-use crate::same::is_same;
+use crate::same::{is_same, overwrite};
 use indexmap::Equivalent;
 use std::alloc::{AllocError, Global};
 use std::hash::{Hash, Hasher};
@@ -75,7 +75,7 @@ impl Name {
         ensures { result ≡ bytes.now }
     {
         let mut kept = [0; SHORT];
-        kept[..bytes.len()].copy_from_slice(bytes);
+        overwrite(&mut kept[..bytes.len()], bytes);
         Name {
             kept: Kept::Short(bytes.len() as u8, kept),
         }

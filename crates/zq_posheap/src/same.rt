@@ -33,3 +33,30 @@ fn has_same_ends<const N: usize>(a: &[u8], b: &[u8]) -> bool
     };
     a_first == b_first && a_last == b_last
 }
+
+/// Copies bytes over as many. Most names are short: two copies of a known length, which may share bytes, write them
+/// whole.
+#[inline(always)]
+pub fn overwrite(bytes: &mut [u8], name: &[u8])
+    requires { length bytes.old ≡ length name.now }
+    ensures { bytes.new ≡ name.now }
+{
+    match name.len() {
+        4..8 => overwrite_ends::<4>(bytes, name),
+        8..=16 => overwrite_ends::<8>(bytes, name),
+        _ => bytes.copy_from_slice(name),
+    }
+}
+
+/// The same, where the first bytes of a name, so many, and its last ones leave none out.
+#[inline(always)]
+fn overwrite_ends<const N: usize>(bytes: &mut [u8], name: &[u8])
+    requires alike { length bytes.old ≡ length name.now }
+    requires long { N ≤ length name.now }
+    requires short { length name.now ≤ N + N }
+    ensures { bytes.new ≡ name.now }
+{
+    let last = name.len() - N;
+    bytes[..N].copy_from_slice(&name[..N]);
+    bytes[last..].copy_from_slice(&name[last..]);
+}

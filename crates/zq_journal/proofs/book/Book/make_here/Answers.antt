@@ -19,8 +19,8 @@ enter-requires-clause-over c =
       site = dot.site;
       n = n;
       seen = s.image.vector;
-      key = c.in_ok-copied.field-0;
-      member = c.in_ok-copied-2.field-0;
+      key = c.in_ok-copied.field-0.0;
+      member = c.in_ok-copied.field-0.1;
       act = act_of c.args.act;
     }))) next
-    ∙ next_over s dot.site c.in_ok-copied.field-0 c.in_ok-copied-2.field-0 (act_of c.args.act) (subst (λ t. t < SITES) (sym c.in_ok-dot.ensures.site) below)
+    ∙ next_over s dot.site c.in_ok-copied.field-0.0 c.in_ok-copied.field-0.1 (act_of c.args.act) (subst (λ t. t < SITES) (sym c.in_ok-dot.ensures.site) below)

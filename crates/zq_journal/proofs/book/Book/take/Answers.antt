@@ -18,7 +18,7 @@ pub returns-clause-book : goal.returns-clause-book
 returns-clause-book c =
     let new : taken_of c.args.self.now.state.vector c.args.op.now.operation ≡ New = first_of (search rules, grind arith) in
     c.in_ok-enter.ensures.recorded
-    ∙ ap (λ p. recorded c.args.self.now c.args.stamp (Took p.operation)) c.in_ok-op.ensures.same
+    ∙ ap (λ p. recorded c.args.self.now c.args.stamp (Took p.operation)) c.in_ok-copy.ensures.same
     ∙ ap (λ t. book_when t c.args.self.now c.args.stamp c.args.op.now.operation) (sym new)
 
 pub returns-clause-worked : goal.returns-clause-worked
@@ -26,15 +26,15 @@ returns-clause-worked c =
     let new : taken_of c.args.self.now.state.vector c.args.op.now.operation ≡ New = first_of (search rules, grind arith) in
     λ a steps is.
     subst (λ ss. IsWorked c.enter.new.self a c.args.stamp (steps ++ ss))
-    (ap (λ p. step_of c.args.stamp (Took p.operation) ∷ []) c.in_ok-op.ensures.same ∙ ap (λ t. steps_when t c.args.stamp c.args.op.now.operation) (sym new))
+    (ap (λ p. step_of c.args.stamp (Took p.operation) ∷ []) c.in_ok-copy.ensures.same ∙ ap (λ t. steps_when t c.args.stamp c.args.op.now.operation) (sym new))
     (c.in_ok-enter.ensures.worked a steps is)
 
 pub enter-requires-clause-recordable : goal.enter-requires-clause-recordable
 enter-requires-clause-recordable c =
     let here : IsOfHeap (state_of c.args.self.now) c.args.op.now = first_of (search rules, grind arith) in
     record {
-      heap = ap (λ (p : Placed). p.operation.heap) c.in_ok-op.ensures.same ∙ here.heap;
-      heaps = ap (λ (p : Placed). p.heaps) c.in_ok-op.ensures.same ∙ here.heaps;
-      placed = ap (λ (p : Placed). heap_of p.operation.key p.operation.member c.args.self.now.heaps) c.in_ok-op.ensures.same ∙ here.placed;
-      sound = c.in_ok-op.ensures.sound;
+      heap = ap (λ (p : Placed). p.operation.heap) c.in_ok-copy.ensures.same ∙ here.heap;
+      heaps = ap (λ (p : Placed). p.heaps) c.in_ok-copy.ensures.same ∙ here.heaps;
+      placed = ap (λ (p : Placed). heap_of p.operation.key p.operation.member c.args.self.now.heaps) c.in_ok-copy.ensures.same ∙ here.placed;
+      sound = c.in_ok-copy.ensures.sound;
     }
