@@ -168,6 +168,7 @@ impl Reader {
     ///
     /// One is kept for each number of words up to nine, where its list has at most 16 places and each word at most
     /// 128 bytes of memory. So a reader keeps at most 9,216 bytes of it. All else is given back.
+    #[inline(always)]
     pub fn give_back(&mut self, request: Request)
         ensures { self.new ≡ self.old }
     {
