@@ -123,6 +123,12 @@ ran_read site stamp (Zpopmin key count) lent bytes short reads says told = absur
 ran_read site stamp (Zpopnear key) lent bytes short reads says told = absurd (true≢false (sym reads))
 ran_read site stamp (Del keys) lent bytes short reads says told = absurd (true≢false (sym reads))
 
+-- the commands whose reply has what they made where they are cut
+abbrev pub is_pop : Command → Bool
+is_pop (Zpopmin key count) = true
+is_pop (Zpopnear key) = true
+is_pop command = false
+
 -- where want of memory is answered by an error, the reply says whether it is short
 pub ends_told : (site stamp : ℕ) (strict : Bool) (plan : Plan) (cut : ℕ → Want → Reply) (old new : Lending) (bytes : Word) (short : Bool) → ((k : ℕ) → cut k Memory ≡ cut_error k Memory) →
     ((k : ℕ) → bytes ≡ bytes_of (cut_error k Memory) → short ≡ true) → RunsOver site stamp strict plan cut old new bytes → EndsOver site stamp strict plan cut old new bytes short
@@ -135,6 +141,29 @@ pub run_told : (site stamp : ℕ) (command : Command) (old new : Lending) (reply
     IsRunOver site stamp command old new (reply_bytes ran.reply) ran.is_short
 run_told site stamp command old new reply ran error same told runs =
     subst (λ r. IsRunOver site stamp command old new (reply_bytes r) ran.is_short) (sym same) (ends_told site stamp _ _ _ old new (reply_bytes reply) ran.is_short error told runs)
+
+-- but for pops
+pub errors_told : (command : Command) (qs : Queues) → is_pop command ≡ false → (k : ℕ) → cut_reply command qs k Memory ≡ cut_error k Memory
+errors_told (Ping message) qs not k = refl
+errors_told (Zscore key member) qs not k = refl
+errors_told (Zcard key) qs not k = refl
+errors_told (Zcount key min max) qs not k = refl
+errors_told (Zrank key member) qs not k = refl
+errors_told (Zrevrank key member) qs not k = refl
+errors_told (Zrange key range is_turned with_scores) qs not k = refl
+errors_told (Zadd key flags pairs) qs not k = refl
+errors_told (ZaddIncr key flags increment member) qs not k = refl
+errors_told (Zincrby key increment member) qs not k = refl
+errors_told (Zrem key members) qs not k = refl
+errors_told (Zpopmin key count) qs not k = absurd (true≢false not)
+errors_told (Zpopnear key) qs not k = absurd (true≢false not)
+errors_told (Del keys) qs not k = refl
+
+-- over the books as they were foreseen it runs as over those before
+pub ran_foreseen : (site stamp : ℕ) (asked command : Command) (old seen new : Lending) (bytes : Word) (short : Bool) → asked ≡ command → seen ≡ old →
+    IsRunOver site stamp asked seen new bytes short → IsRunOver site stamp command old new bytes short
+ran_foreseen site stamp asked command old seen new bytes short is same runs =
+    subst (λ lent. IsRunOver site stamp command lent new bytes short) same (subst (λ q. IsRunOver site stamp q seen new bytes short) is runs)
 
 -- it runs, whether it is short or not
 pub ends_whole : (site stamp : ℕ) (strict : Bool) (plan : Plan) (cut : ℕ → Want → Reply) (old new : Lending) (bytes : Word) (short : Bool) →

@@ -50,8 +50,9 @@ pub fn run<B: Books>(
     ensures keeps { B.keeps books.old books.new }
     ensures writable { IsTrue (is_writable result) }
 {
-    let ran = run_told(books, alloc, site, stamp, command);
-    ran.reply
+    let kind = command.kind();
+    foresee(books, alloc, kind);
+    reply_to(books, alloc, site, stamp, kind)
 }
 
 /// The same, with whether memory was refused. What it made is told in the order of its moves, where the holder of the
@@ -77,7 +78,7 @@ pub fn run_told<B: Books>(
     run_kind(books, alloc, site, stamp, kind)
 }
 
-/// The same of what a command asks for.
+/// The same of what a command asks for. Only a pop is short without an error.
 fn run_kind<B: Books>(books: &mut B, alloc: Global, site: SiteNo, stamp: u64, kind: &Kind) -> Ran
     requires lent { IsLending (B.lent books.old) }
     requires dated { IsDated stamp (B.lent books.old) }
@@ -90,22 +91,6 @@ fn run_kind<B: Books>(books: &mut B, alloc: Global, site: SiteNo, stamp: u64, ki
     ensures writable { IsTrue (is_writable result.reply) }
 {
     match kind {
-        Kind::Zadd { key, pairs, flags } => Ran::of(put_pairs(
-            books,
-            alloc,
-            site,
-            stamp,
-            key,
-            *flags,
-            pairs.as_slice(),
-        )),
-        Kind::ZaddIncr { key, pair, flags } => {
-            Ran::of(raise_if(books, alloc, site, stamp, key, *flags, pair))
-        }
-        Kind::Zincrby { key, pair } => Ran::of(raise(books, alloc, site, stamp, key, pair)),
-        Kind::Zrem { key, members } => Ran::of(drop_members(
-            books, alloc, site, stamp, key, members,
-        )),
         Kind::Zpopmin { key, count } => pop(
             books,
             alloc,
@@ -115,8 +100,50 @@ fn run_kind<B: Books>(books: &mut B, alloc: Global, site: SiteNo, stamp: u64, ki
             from_zero(*count) as u64,
         ),
         Kind::Zpopnear { key } => pop(books, alloc, site, stamp, key, 1),
-        Kind::Del { keys } => Ran::of(clear_keys(books, alloc, site, stamp, keys)),
-        reading => Ran::of(read(books, alloc, reading)),
+        _ => Ran::of(reply_to(books, alloc, site, stamp, kind)),
+    }
+}
+
+/// The reply to what a command asks for.
+fn reply_to<B: Books>(
+    books: &mut B,
+    alloc: Global,
+    site: SiteNo,
+    stamp: u64,
+    kind: &Kind,
+) -> Reply
+    requires lent { IsLending (B.lent books.old) }
+    requires dated { IsDated stamp (B.lent books.old) }
+    requires homes { HasBooks (shown kind.now) (B.lent books.old) }
+    requires limits { IsWithinLimits (shown kind.now) }
+    ensures ran { IsRunOver site stamp (shown kind.now) (B.lent books.old) (B.lent books.new) (reply_bytes result) true }
+    ensures lent { IsLending (B.lent books.new) }
+    ensures dated { IsDated stamp (B.lent books.new) }
+    ensures keeps { B.keeps books.old books.new }
+    ensures writable { IsTrue (is_writable result) }
+{
+    match kind {
+        Kind::Zadd { key, pairs, flags } => put_pairs(
+            books,
+            alloc,
+            site,
+            stamp,
+            key,
+            *flags,
+            pairs.as_slice(),
+        ),
+        Kind::ZaddIncr { key, pair, flags } => {
+            raise_if(books, alloc, site, stamp, key, *flags, pair)
+        }
+        Kind::Zincrby { key, pair } => raise(books, alloc, site, stamp, key, pair),
+        Kind::Zrem { key, members } => drop_members(books, alloc, site, stamp, key, members),
+        Kind::Zpopmin { key, count } => {
+            let count = from_zero(*count) as u64;
+            pop(books, alloc, site, stamp, key, count).reply
+        }
+        Kind::Zpopnear { key } => pop(books, alloc, site, stamp, key, 1).reply,
+        Kind::Del { keys } => clear_keys(books, alloc, site, stamp, keys),
+        reading => read(books, alloc, reading),
     }
 }
 

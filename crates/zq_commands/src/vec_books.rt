@@ -28,6 +28,7 @@ impl Books for Vec<Book> {
         self.as_slice().len()
     }
 
+    #[inline(always)]
     fn home(&self, key: &[u8], member: &[u8]) -> usize {
         match self.as_slice() {
             [first, _, ..] => place_of(self, heap_of(key, member, first.shard().heaps())),
@@ -104,6 +105,10 @@ fn place_of(books: &[Book], heap: u8) -> usize
     ensures inside { result < length books.now }
     ensures heap { (book : Books) → slice_get books.now result ≡ Some book → book.heap ≡ heap }
 {
+    let first = heap as usize;
+    if first < books.len() && books[first].shard().heap() == heap {
+        return first;
+    }
     for (place, book) in books.iter().enumerate() {
         if book.shard().heap() == heap {
             return place;

@@ -1,14 +1,33 @@
-use Rattle.zq_commands.proofs.RanPlans.{ends_whole, ran_books, ran_heaps, ran_rule}
+use Rattle.std.proofs.Common.{subst, sym}
+use Rattle.zq_commands.proofs.RanPlans.{ran_books, ran_foreseen, ran_heaps, ran_rule}
+use Rattle.zq_commands.specs.Commands.{HasBooks}
+use Rattle.zq_commands.specs.Lending.{IsDated, IsLending}
+use Rattle.zq_words.specs.Shown.{shown}
 use Rattle.zq_commands.proofs.running.run.Goals as goal
 
-pub returns-clause-ran : goal.returns-clause-ran
-returns-clause-ran g c = ran_books c.args.site c.args.stamp _ _ _ _ _ _ _ c.run_told-ran.ensures.ran
+pub reply_to-requires-clause-lent : goal.reply_to-requires-clause-lent
+reply_to-requires-clause-lent g c = subst IsLending (sym c.foresee.ensures.same) c.requires.lent
 
-pub returns-clause-rule : goal.returns-clause-rule
-returns-clause-rule g c = ran_rule c.args.site c.args.stamp _ _ _ _ _ _ _ c.run_told-ran.ensures.ran
+pub reply_to-requires-clause-dated : goal.reply_to-requires-clause-dated
+reply_to-requires-clause-dated g c = subst (IsDated c.args.stamp) (sym c.foresee.ensures.same) c.requires.dated
 
-pub returns-clause-heaps : goal.returns-clause-heaps
-returns-clause-heaps g c = ran_heaps c.args.site c.args.stamp _ _ _ _ _ _ _ c.run_told-ran.ensures.ran
+pub reply_to-requires-clause-homes : goal.reply_to-requires-clause-homes
+reply_to-requires-clause-homes g c =
+    subst (HasBooks (shown c.kind-kind.result.now)) (sym c.foresee.ensures.same)
+    (subst (λ command. HasBooks command (g.B.Books.lent c.args.books.now)) (sym c.kind-kind.ensures.kind) c.requires.homes)
 
 pub returns-clause-told : goal.returns-clause-told
-returns-clause-told g c = ends_whole c.args.site c.args.stamp _ _ _ _ _ _ _ c.run_told-ran.ensures.ran
+returns-clause-told g c =
+    ran_foreseen c.args.site c.args.stamp _ _ _ _ _ _ _ c.kind-kind.ensures.kind c.foresee.ensures.same c.reply_to.ensures.ran
+
+pub returns-clause-ran : goal.returns-clause-ran
+returns-clause-ran g c = ran_books c.args.site c.args.stamp _ _ _ _ _ _ _ (returns-clause-told g c)
+
+pub returns-clause-rule : goal.returns-clause-rule
+returns-clause-rule g c = ran_rule c.args.site c.args.stamp _ _ _ _ _ _ _ (returns-clause-told g c)
+
+pub returns-clause-heaps : goal.returns-clause-heaps
+returns-clause-heaps g c = ran_heaps c.args.site c.args.stamp _ _ _ _ _ _ _ (returns-clause-told g c)
+
+pub returns-clause-keeps : goal.returns-clause-keeps
+returns-clause-keeps g c = g.met.B.Books.keeps_through _ _ _ c.foresee.ensures.keeps c.reply_to.ensures.keeps

@@ -1,68 +1,15 @@
-use Rattle.std.proofs.Common.{All, Some, arith, false, map, refl, rules, subst, sym, true, ◌≡◌}
+use Rattle.std.proofs.Common.{Some, arith, false, rules, subst, sym, ◌≡◌}
 use Rattle.std.proofs.lemmas.Int.{to_z-of_z}
-use Rattle.zq_commands.proofs.RanPlans.{ran_read, run_told}
-use Rattle.zq_commands.specs.Commands.{HasBooks, IsRunOver, is_reading}
-use Rattle.zq_commands.specs.Lending.{HasBook, queues_in}
-use Rattle.zq_commands.specs.Running.{EndsOver, RunsOver}
+use Rattle.zq_commands.proofs.RanPlans.{errors_told, is_pop, run_told}
+use Rattle.zq_commands.specs.Commands.{IsRunOver}
+use Rattle.zq_commands.specs.Lending.{queues_in}
+use Rattle.zq_commands.specs.Running.{EndsOver}
 use Rattle.zq_plans.specs.Plan as plan
 use Rattle.zq_plans.specs.Ranges.{from_zero}
-use Rattle.zq_plans.specs.Run.{cut_error, cut_pop}
+use Rattle.zq_plans.specs.Run.{cut_pop}
 use Rattle.zq_resp.specs.Reply.{reply_bytes}
-use Rattle.zq_words.specs.Command as command
-use Rattle.zq_words.specs.Shown.{pair_shown, pairs_shown, shown}
-use Rattle.zq_words.specs.Words.{views}
+use Rattle.zq_words.specs.Shown.{shown}
 use Rattle.zq_commands.proofs.running.run_kind.Goals as goal
-
-pub put_pairs-requires-clause-homes : goal.put_pairs-requires-clause-homes
-put_pairs-requires-clause-homes g c =
-    subst (λ pairs. All (λ pair. HasBook c.in-Zadd.key.now pair.1 (g.B.Books.lent c.args.books.now)) (map pair_shown pairs)) (sym c.as_slice.ensures)
-    (subst (λ kind. HasBooks (shown kind) (g.B.Books.lent c.args.books.now)) c.in-Zadd.is c.requires.homes)
-
-pub raise_if-requires-clause-home : goal.raise_if-requires-clause-home
-raise_if-requires-clause-home g c = subst (λ kind. HasBooks (shown kind) (g.B.Books.lent c.args.books.now)) c.in-ZaddIncr.is c.requires.homes
-
-pub raise-requires-clause-home : goal.raise-requires-clause-home
-raise-requires-clause-home g c = subst (λ kind. HasBooks (shown kind) (g.B.Books.lent c.args.books.now)) c.in-Zincrby.is c.requires.homes
-
-pub drop_members-requires-clause-homes : goal.drop_members-requires-clause-homes
-drop_members-requires-clause-homes g c = subst (λ kind. HasBooks (shown kind) (g.B.Books.lent c.args.books.now)) c.in-Zrem.is c.requires.homes
-
-pub returns-in-Zadd-clause-ran : goal.returns-in-Zadd-clause-ran
-returns-in-Zadd-clause-ran g c =
-    let old = g.B.Books.lent c.args.books.now in
-    let new = g.B.Books.lent c.put_pairs.new.books in
-    subst (λ kind. IsRunOver c.args.site c.args.stamp (shown kind) old new (reply_bytes c.of.result.reply) c.of.result.is_short) (sym c.in-Zadd.is)
-    (run_told c.args.site c.args.stamp (command.Zadd c.in-Zadd.key.now c.in-Zadd.flags (pairs_shown c.in-Zadd.pairs)) old new c.put_pairs.result c.of.result (λ k. refl) c.of.ensures.reply c.of.ensures.short
-    (subst (λ pairs. RunsOver c.args.site c.args.stamp true (plan.in_turn (plan.zadd_part c.in-Zadd.key.now c.in-Zadd.flags) (map pair_shown pairs) (queues_in old)) cut_error old new (reply_bytes c.put_pairs.result))
-    c.as_slice.ensures c.put_pairs.ensures.ran))
-
-pub returns-in-ZaddIncr-clause-ran : goal.returns-in-ZaddIncr-clause-ran
-returns-in-ZaddIncr-clause-ran g c =
-    let old = g.B.Books.lent c.args.books.now in
-    let new = g.B.Books.lent c.raise_if.new.books in
-    subst (λ kind. IsRunOver c.args.site c.args.stamp (shown kind) old new (reply_bytes c.of-in-ZaddIncr.result.reply) c.of-in-ZaddIncr.result.is_short) (sym c.in-ZaddIncr.is)
-    (run_told c.args.site c.args.stamp (command.ZaddIncr c.in-ZaddIncr.key.now c.in-ZaddIncr.flags c.in-ZaddIncr.pair.score c.in-ZaddIncr.pair.member.now) old new c.raise_if.result c.of-in-ZaddIncr.result (λ k. refl) c.of-in-ZaddIncr.ensures.reply c.of-in-ZaddIncr.ensures.short c.raise_if.ensures.ran)
-
-pub returns-in-Zincrby-clause-ran : goal.returns-in-Zincrby-clause-ran
-returns-in-Zincrby-clause-ran g c =
-    let old = g.B.Books.lent c.args.books.now in
-    let new = g.B.Books.lent c.raise.new.books in
-    subst (λ kind. IsRunOver c.args.site c.args.stamp (shown kind) old new (reply_bytes c.of-in-Zincrby.result.reply) c.of-in-Zincrby.result.is_short) (sym c.in-Zincrby.is)
-    (run_told c.args.site c.args.stamp (command.Zincrby c.in-Zincrby.key.now c.in-Zincrby.pair.score c.in-Zincrby.pair.member.now) old new c.raise.result c.of-in-Zincrby.result (λ k. refl) c.of-in-Zincrby.ensures.reply c.of-in-Zincrby.ensures.short c.raise.ensures.ran)
-
-pub returns-in-Zrem-clause-ran : goal.returns-in-Zrem-clause-ran
-returns-in-Zrem-clause-ran g c =
-    let old = g.B.Books.lent c.args.books.now in
-    let new = g.B.Books.lent c.drop_members.new.books in
-    subst (λ kind. IsRunOver c.args.site c.args.stamp (shown kind) old new (reply_bytes c.of-in-Zrem.result.reply) c.of-in-Zrem.result.is_short) (sym c.in-Zrem.is)
-    (run_told c.args.site c.args.stamp (command.Zrem c.in-Zrem.key.now (views c.in-Zrem.members.now)) old new c.drop_members.result c.of-in-Zrem.result (λ k. refl) c.of-in-Zrem.ensures.reply c.of-in-Zrem.ensures.short c.drop_members.ensures.ran)
-
-pub returns-in-Del-clause-ran : goal.returns-in-Del-clause-ran
-returns-in-Del-clause-ran g c =
-    let old = g.B.Books.lent c.args.books.now in
-    let new = g.B.Books.lent c.clear_keys.new.books in
-    subst (λ kind. IsRunOver c.args.site c.args.stamp (shown kind) old new (reply_bytes c.of-in-Del.result.reply) c.of-in-Del.result.is_short) (sym c.in-Del.is)
-    (run_told c.args.site c.args.stamp (command.Del (views c.in-Del.keys.now)) old new c.clear_keys.result c.of-in-Del.result (λ k. refl) c.of-in-Del.ensures.reply c.of-in-Del.ensures.short c.clear_keys.ensures.ran)
 
 pub returns-in-Zpopnear-clause-ran : goal.returns-in-Zpopnear-clause-ran
 returns-in-Zpopnear-clause-ran g c =
@@ -81,8 +28,7 @@ returns-in-Zpopmin-clause-ran g c =
 
 pub returns-in_default-clause-ran : goal.returns-in_default-clause-ran
 returns-in_default-clause-ran g c =
-    let reads : is_reading (shown c.args.kind.now) ≡ true = search rules in
-    let lent = g.B.Books.lent c.args.books.now in
-    let ran = c.of-in_default.result in
-    subst (λ r. IsRunOver c.args.site c.args.stamp (shown c.args.kind.now) lent lent (reply_bytes r) ran.is_short) (sym c.of-in_default.ensures.reply)
-    (ran_read c.args.site c.args.stamp (shown c.args.kind.now) lent (reply_bytes c.read.result) ran.is_short reads c.read.ensures.read (c.of-in_default.ensures.short 0))
+    let old = g.B.Books.lent c.args.books.now in
+    let other : is_pop (shown c.args.kind.now) ≡ false = search rules in
+    run_told c.args.site c.args.stamp (shown c.args.kind.now) old (g.B.Books.lent c.reply_to.new.books) c.reply_to.result c.of.result (errors_told (shown c.args.kind.now) (queues_in old) other)
+    c.of.ensures.reply c.of.ensures.short c.reply_to.ensures.ran
