@@ -71,20 +71,19 @@ impl Plain {
         ensures ran { RunsCommand self.old command.now self.new (reply_bytes result) }
         ensures writable { IsTrue (is_writable result) }
     {
-        match command.kind() {
-            Kind::Ping(message) => message_reply(alloc, *message),
-            _ => match self.books.next_stamp() {
-                Some(stamp) => {
-                    self.books.begin(stamp);
-                    self.books.run(alloc, site(), stamp, command)
-                }
-                None => {
-                    // It is in range, and no book's stamp is past it.
-                    let _last = self.books.stamp();
-                    cut_reply(Cut::Worn, 0)
-                }
-            },
+        if let Kind::Ping(message) = command.kind() {
+            return message_reply(alloc, *message);
         }
+        let stamp = match self.books.next_stamp() {
+            Some(stamp) => stamp,
+            None => {
+                // It is in range, and no book's stamp is past it.
+                let _last = self.books.stamp();
+                return cut_reply(Cut::Worn, 0);
+            }
+        };
+        self.books.begin(stamp);
+        self.books.run(alloc, site(), stamp, command)
     }
 }
 

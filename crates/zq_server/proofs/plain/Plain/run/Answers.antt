@@ -10,8 +10,8 @@ use Rattle.zq_server.proofs.plain.Plain.run.Goals as goal
 pub returns-in-Ping-clause-ran : goal.returns-in-Ping-clause-ran
 returns-in-Ping-clause-ran c = pings _ (sym c.kind.ensures.kind ∙ ap shown c.in-Ping.is) refl c.message_reply.ensures.read
 
-pub returns-in-Some-clause-ran : goal.returns-in-Some-clause-ran
-returns-in-Some-clause-ran c =
+pub returns-clause-ran : goal.returns-clause-ran
+returns-clause-ran c =
     let plain : is_ping (shown c.kind.result.now) ≡ false = search rules in
     let apart = subst (λ (command : Command). is_ping command ≡ false) c.kind.ensures.kind plain in
     let bytes = reply_bytes c.run.result in
