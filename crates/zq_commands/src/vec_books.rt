@@ -105,9 +105,10 @@ fn place_of(books: &[Book], heap: u8) -> usize
     ensures inside { result < length books.now }
     ensures heap { (book : Books) → slice_get books.now result ≡ Some book → book.heap ≡ heap }
 {
-    let first = heap as usize;
-    if first < books.len() && books[first].shard().heap() == heap {
-        return first;
+    // Where all heaps of a site are there, each book stands at its heap's number, and nothing is searched.
+    let number = heap as usize;
+    if number < books.len() && books[number].shard().heap() == heap {
+        return number;
     }
     for (place, book) in books.iter().enumerate() {
         if book.shard().heap() == heap {

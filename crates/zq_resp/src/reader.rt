@@ -105,7 +105,8 @@ impl Reader {
     /// the number of bytes taken. `None` where they end no request, or one of no words, which is left out: then all
     /// of the piece is taken, or what follows is to be taken next.
     ///
-    /// It does what [`Reader::feed`] does with the bytes taken, and at a fault what that does with the piece.
+    /// It does what [`Reader::feed`] does with the bytes taken, and at a fault, which is one of those named there, what that
+    /// does with the piece. Each later call answers `Over`.
     pub fn next_request(
         &mut self,
         alloc: Global,
