@@ -105,13 +105,7 @@ fn run_kind<B: Books>(books: &mut B, alloc: Global, site: SiteNo, stamp: u64, ki
 }
 
 /// The reply to what a command asks for.
-fn reply_to<B: Books>(
-    books: &mut B,
-    alloc: Global,
-    site: SiteNo,
-    stamp: u64,
-    kind: &Kind,
-) -> Reply
+fn reply_to<B: Books>(books: &mut B, alloc: Global, site: SiteNo, stamp: u64, kind: &Kind) -> Reply
     requires lent { IsLending (B.lent books.old) }
     requires dated { IsDated stamp (B.lent books.old) }
     requires homes { HasBooks (shown kind.now) (B.lent books.old) }
