@@ -4,18 +4,20 @@ mod clients;
 mod guests;
 mod places;
 
-use clients::{Step, serve_all};
+use clients::{Step, is_answered, serve_all};
 use guests::{Guests, greeting, is_logged, logged_with};
 use log::sink::Locked;
 use log::{LevelFilter, Logged};
-use places::{free_places, settings_of};
+use places::{free_places, reach, settings_at, settings_of};
 use std::alloc::Global;
-use std::net::{Net, TcpListener, TcpStream};
+use std::net::{IpAddr, Ipv4Addr, Net, SocketAddr, TcpListener, TcpStream};
 use std::random::RandomSource;
 use std::sync::Wait;
 use std::test::Fail;
+use std::thread;
 use std::thread::Threads;
 use std::time::Clock;
+use zq_apart::serve_site;
 
 const ADD_A: &[u8] = b"*4\r\n$4\r\nZADD\r\n$1\r\nq\r\n$1\r\n3\r\n$1\r\na\r\n";
 
@@ -145,5 +147,73 @@ fn a_peer_is_dialled_again_after_a_break(rt: HostRuntime) -> Result<(), Fail> {
         "site 1 drops a frame of site 0: it is no frame",
     ];
     assert!(rt; is_logged(&log, &words)?);
+    Ok(())
+}
+
+#[test]
+fn each_byte_of_a_nonce_is_drawn(rt: HostRuntime) -> Result<(), Fail> {
+    let alloc = rt.alloc();
+    let places = free_places(&rt, alloc, 2)?;
+    let [own, _] = places.as_slice() else {
+        return Err("two places".into());
+    };
+    let settings = settings_of(alloc, *own, &places, Some("a secret of sites"))?;
+    let guests = Guests::Curious(own.door());
+    let log = logged_with(&rt, alloc, &settings, &guests, own.clients)?;
+    let words = ["site 0 refuses a peer: it has no secret, and this site wants one"];
+    assert!(rt; is_logged(&log, &words)?);
+    Ok(())
+}
+
+#[test]
+fn no_loss_is_warned_of_where_a_newer_link_or_the_end_came(rt: HostRuntime) -> Result<(), Fail> {
+    let alloc = rt.alloc();
+    let places = free_places(&rt, alloc, 2)?;
+    let [own, _] = places.as_slice() else {
+        return Err("two places".into());
+    };
+    let settings = settings_of(alloc, *own, &places, None)?;
+    let guests = Guests::Twice(own.door());
+    let log = logged_with(&rt, alloc, &settings, &guests, own.clients)?;
+    assert_eq!(rt; log.as_slice(), b"".as_slice());
+    Ok(())
+}
+
+/// Whether a client is answered at 127.0.0.2, and at 127.0.0.1 finds nobody. Else the site is let end.
+fn is_heard_there<N: Net<Listener = TcpListener, Stream = TcpStream>, R: Clock>(
+    net: &N,
+    rt: &R,
+    alloc: Global,
+    port: u16,
+) -> Result<bool, Fail> {
+    let here = SocketAddr::from((IpAddr::V4(Ipv4Addr::LOCALHOST), port));
+    let there = SocketAddr::from((IpAddr::V4(Ipv4Addr::new(127, 0, 0, 2)), port));
+    let Some(client) = reach(net, rt, there) else {
+        drop(reach(net, rt, here));
+        return Ok(false);
+    };
+    let answered = is_answered(alloc, &client, b"*1\r\n$4\r\nPING\r\n", b"+PONG\r\n")?;
+    Ok(answered && TcpStream::connect(net, here).is_err())
+}
+
+#[test]
+fn clients_are_heard_at_the_address_of_bind(rt: HostRuntime) -> Result<(), Fail> {
+    let alloc = rt.alloc();
+    let places = free_places(&rt, alloc, 1)?;
+    let [own] = places.as_slice() else {
+        return Err("a place".into());
+    };
+    let (own, port) = (*own, own.clients);
+    let settings = settings_at(alloc, own, "127.0.0.2")?;
+    let log = Logged::new(&rt, LevelFilter::Warn, Locked::new(&rt, Vec::new(alloc)));
+    let mut written = Vec::new(alloc);
+    let (ended, heard) = thread::join(
+        &rt,
+        || serve_site(&rt, &log, alloc, &settings, &mut written),
+        || is_heard_there(&rt, &rt, alloc, port),
+    );
+    assert!(rt; heard? && ended.is_ok());
+    let line = format!(in alloc; "site 0 port {port} peers {}\n", own.door())?;
+    assert_eq!(rt; written.as_slice(), line.as_bytes());
     Ok(())
 }

@@ -1,5 +1,7 @@
 //! Sites that are served over loopback.
 
+mod meeting;
+
 use log::sink::Locked;
 use log::{LevelFilter, Logged};
 use std::alloc::Global;
@@ -72,20 +74,31 @@ fn replied<const N: usize>(stream: &mut TcpStream, bytes: &[u8]) -> Result<[u8; 
     Ok(reply)
 }
 
+/// Sends these bytes again and again, until this is the reply to them.
+fn await_reply<const N: usize, R: Clock>(
+    rt: &R,
+    stream: &mut TcpStream,
+    bytes: &[u8],
+    want: &[u8; N],
+) -> Result<(), Fail> {
+    for _try in 0..4000 {
+        let reply: [u8; N] = replied(stream, bytes)?;
+        if reply.as_slice() == want.as_slice() {
+            return Ok(());
+        }
+        let _ = thread::sleep(rt, Duration::from_millis(5));
+    }
+    Err("the sites do not meet".into())
+}
+
 /// The members of the key at the port's site, once it has one.
 fn awaited<R: Net<Listener = TcpListener, Stream = TcpStream> + Clock>(
     rt: &R,
     port: u16,
 ) -> Result<[u8; 11], Fail> {
     let mut stream = connect(rt, port)?;
-    for _try in 0..4000 {
-        let count: [u8; 4] = replied(&mut stream, CARD)?;
-        if count.as_slice() == b":1\r\n".as_slice() {
-            return replied(&mut stream, RANGE);
-        }
-        let _ = thread::sleep(rt, Duration::from_millis(5));
-    }
-    Err("the sites do not meet".into())
+    await_reply(rt, &mut stream, CARD, b":1\r\n")?;
+    replied(&mut stream, RANGE)
 }
 
 /// What clients are answered, each at the port of its site, while the sites are served, and what is written and logged.

@@ -5,6 +5,7 @@ ghost use Rattle.zq_model.specs.Sets.{IsHeaps};
 
 mod deep;
 mod drawn;
+mod many;
 
 use std::alloc::Global;
 use std::process::Abort;
@@ -33,7 +34,7 @@ enum Step {
 
 use Step::{A, B, Clear, Meet, Swap};
 
-const STEPS: [Step; 105] = [
+const STEPS: [Step; 107] = [
     // Scores as texts.
     A("ZADD q 3.0 b", ":1\r\n"),
     A("ZSCORE q b", "$1\r\n3\r\n"),
@@ -80,6 +81,11 @@ const STEPS: [Step; 105] = [
     A(
         "ZRANGE q 0 99",
         "*4\r\n$1\r\na\r\n$1\r\nb\r\n$1\r\nc\r\n$1\r\nd\r\n",
+    ),
+    A("ZRANGE q 2 1000000000000", "*2\r\n$1\r\nc\r\n$1\r\nd\r\n"),
+    A(
+        "ZRANGE q -inf +inf BYSCORE LIMIT 1 1000000000000",
+        "*3\r\n$1\r\nb\r\n$1\r\nc\r\n$1\r\nd\r\n",
     ),
     A("ZRANGE q 0 0 REV", "*1\r\n$1\r\nd\r\n"),
     A(

@@ -1,8 +1,13 @@
 //! Site 1 of four heaps and the rule Low hears what others say.
 
+use std::alloc::Global;
+use std::io;
+use std::io::Read;
 use std::test::Fail;
 use zq_dots::{Rule, SiteNo};
-use zq_greet::{NONCE, Opening, Refusal, Secret, Side, hear_opening, write_greeting};
+use zq_greet::{
+    NONCE, Opening, Refusal, Secret, Side, Unopened, hear_opening, open_over, write_greeting,
+};
 
 const KEY: &[u8] = b"sixteen letters!";
 
@@ -204,5 +209,84 @@ fn a_peer_without_the_secret_is_refused(rt: HostRuntime) -> Result<(), Fail> {
     assert_eq!(rt; here.as_str(), "it has no secret, and this site wants one");
     let wrong = format!(in rt.alloc(); "{}", Refusal::Answer)?;
     assert_eq!(rt; wrong.as_str(), "it does not know the secret");
+    Ok(())
+}
+
+/// Gives so many bytes at once.
+#[derive(Drop)]
+struct Drip<'a> {
+    rest: &'a [u8],
+    most: usize,
+}
+
+impl Read for Drip<'_> {
+    fn read(&mut self, buf: &mut [u8]) -> io::Result<usize> {
+        let count = self.most.min(self.rest.len()).min(buf.len());
+        buf[..count].copy_from_slice(&self.rest[..count]);
+        self.rest = &self.rest[count..];
+        Ok(count)
+    }
+}
+
+/// What site 1 of this secret makes of a peer whose bytes come so many at once, and what it writes.
+fn opened_by(
+    alloc: Global,
+    key: &[u8],
+    rest: &[u8],
+    most: usize,
+) -> Result<(Result<Vec<u8>, Unopened>, Vec<u8>), Fail> {
+    let peers = [site(2)?];
+    let side = Side {
+        site: site(1)?,
+        heaps: 4,
+        rule: Rule::Low,
+        peers: &peers,
+        secret: Some(Secret {
+            key,
+            nonce: NONCE_1,
+        }),
+    };
+    let mut written = Vec::new(alloc);
+    let mut drip = Drip { rest, most };
+    match open_over(alloc, &side, &mut drip, &mut written) {
+        Ok(opened) if opened.peer == site(2)? => Ok((Ok(opened.first), written)),
+        Ok(_) => Err("another peer".into()),
+        Err(why) => Ok((Err(why), written)),
+    }
+}
+
+#[test]
+fn the_answer_is_written_once_however_the_peer_is_cut(rt: HostRuntime) -> Result<(), Fail> {
+    // The bytes of site 2, which end in the front of a frame; how many come at once; what is left of them once it is welcome.
+    let all =
+        b"zq-peer\n\x01\x02\x04\x01\x01\xf0\xf1\xf2\xf3\xf4\xf5\xf6\xf7\xf8\xf9\xfa\xfb\xfc\xfd\xfe\xff\
+        \x5a\xcc\xd1\xdf\xc3\x69\x37\xc4\x34\xec\x06\x72\xea\x51\x70\x74\x69\x90\x7e\x03\x60\xdc\x14\x5c\xfc\x20\x4f\x5c\xa7\xfc\x99\xaa\
+        frame";
+    let owed =
+        b"zq-peer\n\x01\x01\x04\x01\x01\x00\x01\x02\x03\x04\x05\x06\x07\x08\x09\x0a\x0b\x0c\x0d\x0e\x0f\
+        \xcc\x31\x67\x06\xb1\x4e\xdf\x5c\xea\xd3\x04\x78\xfc\x8f\xdb\x78\x15\xbb\xa0\xf3\xdb\x97\xa4\x93\xd1\x82\x18\x79\x79\x81\xad\x20";
+    let greeting = &owed[..29];
+    let rows: [(&[u8], usize, Result<&[u8], Unopened>, &[u8]); 6] = [
+        (all, 1, Ok(b""), owed),
+        (all, 30, Ok(b"frame"), owed),
+        (all, 64, Ok(b"fra"), owed),
+        (&all[..60], 64, Err(Unopened::Lost), owed),
+        (&all[..28], 64, Err(Unopened::Lost), greeting),
+        (
+            b"zq-peer\n\x01\x02\x04\x01\x00",
+            5,
+            Err(Unopened::Refused(Refusal::SecretHere)),
+            greeting,
+        ),
+    ];
+    for (rest, most, want, write) in rows {
+        let (opened, written) = opened_by(rt.alloc(), KEY, rest, most)?;
+        assert_eq!(rt; written.as_slice(), write);
+        match (opened, want) {
+            (Ok(first), Ok(left)) => assert_eq!(rt; first.as_slice(), left),
+            (Err(why), Err(wanted)) => assert_eq!(rt; why, wanted),
+            _ => return Err("welcome, and not".into()),
+        }
+    }
     Ok(())
 }

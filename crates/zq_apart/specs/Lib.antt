@@ -1,2 +1,10 @@
 pub mod Pause
+pub mod Times
 pub mod Wire
+pub mod Words
+pub mod Carried
+pub mod Heard
+pub mod Lines
+pub mod Upkeep
+pub mod Site
+pub mod Written

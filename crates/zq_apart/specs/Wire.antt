@@ -1,6 +1,6 @@
 -- The link to a peer, and what waits for it.
 
-use Rattle.std.specs.Prelude.{Bool, List, None, Option, Some, [], false, if◌then◌else◌, is_some, nat_lt, true, ℕ, ◌%◌, ◌&&◌, ◌+◌, ◌==◌, ◌^◌}
+use Rattle.std.specs.Prelude.{Bool, List, None, Option, Some, [], false, if◌then◌else◌, is_some, nat_lt, true, ℕ, ◌%◌, ◌&&◌, ◌+◌, ◌==◌, ◌^◌, ◌∷◌, ◌≡◌}
 use Rattle.zq_apart.specs.declared.wire.Up.{Up}
 use Rattle.zq_apart.specs.declared.wire.Wire.{Wire}
 use Rattle.zq_outbox.specs.Outbox.{Waiting, put_in}
@@ -40,6 +40,19 @@ raised stream wire = record {
 abbrev pub lowered : {S : Type 0} → ℕ → Wire S → Wire S
 lowered number wire =
     if is_up number wire.link then record { outbox = cleared wire.outbox; link = None; last = wire.last; over = wire.over } else wire
+
+-- The frame that waited first goes over the link that is up, by its number and its stream, and waits no more.
+pub record IsTurn {S : Type 0} (number : ℕ) (IsStream : S → Type 0) (frame : List ℕ) (old new : Wire S) : Type 0 where
+  pub up : Up S
+  pub link : old.link ≡ Some up
+  pub number_is : number ≡ up.number
+  pub stream_is : IsStream up.stream
+  pub topic : Topic
+  pub first : old.outbox.parcels ≡ (topic, frame) ∷ new.outbox.parcels
+  pub heaps : new.outbox.heaps ≡ old.outbox.heaps
+  pub link_stays : new.link ≡ old.link
+  pub last_stays : new.last ≡ old.last
+  pub over_stays : new.over ≡ old.over
 
 -- the site ends
 abbrev pub halted : {S : Type 0} → Wire S → Wire S

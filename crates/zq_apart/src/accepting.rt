@@ -3,11 +3,11 @@
 use crate::attending::attend;
 use crate::doors::Doors;
 use crate::shared::Shared;
-use crate::times::NOT_ACCEPTED;
+use crate::times::not_accepted;
 use log::Log;
 use std::random::RandomSource;
 use std::sync::Wait;
-use std::time::{Clock, Duration};
+use std::time::Clock;
 
 /// Accepts connections, one after the other, and reads each until it ends, until the site ends.
 pub fn accept_peers<L>(log: &L, shared: Shared<'_>, doors: &Doors)
@@ -35,7 +35,7 @@ where
             }
         }
         Err(_) => {
-            shared.halt.wait(log, Duration::from_millis(NOT_ACCEPTED));
+            shared.halt.wait(log, not_accepted());
         }
     }
 }

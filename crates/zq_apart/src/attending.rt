@@ -1,18 +1,22 @@
-//! A link, from its opening to its end.
+//! A link over a stream, from its opening to its end.
 
+use crate::line::Line;
 use crate::lines::line_of;
-use crate::opening::{Opened, Unopened, open_link};
-use crate::reading::read_link;
+use crate::loss::Loss;
+use crate::opening::open_link;
+use crate::reading::{Ear, read_link};
 use crate::shared::Shared;
 use crate::teller::warn_of;
-use crate::times::SILENCE;
+use crate::times;
+use crate::upkeep::{Upkeep, keep_up};
 use crate::warning::Warning;
 use log::Log;
 use std::net::TcpStream;
 use std::random::RandomSource;
 use std::sync::{Arc, Wait};
-use std::time::{Clock, Duration};
+use std::time::Clock;
 use zq_dots::SiteNo;
+use zq_greet::{Opened, Unopened};
 
 /// Opens a link to one of these peers over the stream, and reads it until it ends. It says whether the peer was welcome;
 /// who was refused is warned of.
@@ -33,14 +37,13 @@ pub fn attend<L: Log + RandomSource + Clock + Wait>(
     }
 }
 
-/// Puts a link that was opened in the place of an older one, has the peer told what the site has, and reads the link
-/// until it ends. Where another thread or a newer link has not ended it before, its end is warned of.
+/// Puts a link that was opened in the place of an older one, and keeps it until it ends. It says whether it was up.
 fn follow<L: Log + Wait>(log: &L, shared: Shared<'_>, stream: TcpStream, opened: &Opened) -> bool {
     let peer = opened.peer;
     let Some(line) = line_of(shared.lines, peer) else {
         return false;
     };
-    let _ = stream.set_read_timeout(Some(Duration::from_secs(SILENCE)));
+    let _ = stream.set_read_timeout(Some(times::silence()));
     let Ok(stream) = Arc::new(shared.alloc, stream) else {
         return false;
     };
@@ -50,10 +53,55 @@ fn follow<L: Log + Wait>(log: &L, shared: Shared<'_>, stream: TcpStream, opened:
     let Some(number) = line.raise(log, other) else {
         return false;
     };
-    shared.mailbox.tick(log);
-    let loss = read_link(log, shared, peer, &stream, &opened.first);
-    if line.lower(log, number) {
-        warn_of(log, shared.settings.site, Warning::Loses(peer, loss));
-    }
+    let mut kept = Kept {
+        log,
+        shared,
+        line,
+        number,
+        stream: &stream,
+        opened,
+    };
+    keep_up(&mut kept);
     true
+}
+
+/// A link that is up.
+#[derive(Drop)]
+struct Kept<'a, L: Log + Wait> {
+    log: &'a L,
+    shared: Shared<'a>,
+    line: &'a Line,
+    number: u64,
+    stream: &'a TcpStream,
+    opened: &'a Opened,
+}
+
+impl<L: Log + Wait> Upkeep for Kept<'_, L> {
+    ghost use Rattle.std.specs.Prelude.{◌≡◌};
+
+    ghost does = { λ old deed new. new.number ≡ old.number };
+
+    fn tell(&mut self) {
+        self.shared.mailbox.tick(self.log);
+    }
+
+    fn hear(&mut self) -> Loss {
+        let mut reader = self.stream;
+        let mut ear = Ear {
+            rt: self.log,
+            mailbox: self.shared.mailbox,
+            peer: self.opened.peer,
+        };
+        let first = self.opened.first.as_slice();
+        read_link(self.log, self.shared.alloc, &mut reader, &mut ear, first)
+    }
+
+    fn lower(&mut self) -> bool {
+        self.line.lower(self.log, self.number)
+    }
+
+    fn warn(&mut self, loss: Loss) {
+        let warning = Warning::Loses(self.opened.peer, loss);
+        warn_of(self.log, self.shared.settings.site, warning);
+    }
 }

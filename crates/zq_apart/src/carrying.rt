@@ -1,39 +1,72 @@
 //! What carries frames to the lines of peers.
 
+ghost use Rattle.zq_apart.specs.Carried.{IsHanded};
+ghost use Rattle.std.specs.Prelude.{List, ℕ};
+ghost use Rattle.zq_outbox.specs.declared.topic.Topic.{Topic};
+
 use crate::line::Line;
 use crate::lines::line_of;
 use std::alloc::Global;
 use std::sync::Wait;
 use zq_dots::SiteNo;
 use zq_frames::topic_of;
+use zq_outbox::Topic;
 use zq_peers::Carry;
 
-/// Puts each frame into the line of its peer. A frame for a site that is no peer is dropped, and so is one that is about
-/// nothing.
-#[derive(Drop)]
-pub struct Outward<'a, R: Wait> {
-    rt: &'a R,
-    lines: &'a [Line],
+/// Where frames for peers wait.
+pub trait Post {
+    /// What stands before, the site of the peer, what the frame is about, its bytes, and what stands after.
+    ghost posts: { Self → ℕ → Topic → List ℕ → Self → Type 0 };
+
+    /// The frame waits for this peer.
+    fn post(&mut self, peer: SiteNo, topic: Topic, frame: Vec<u8>)
+        ensures { posts self.old peer topic frame.items self.new };
 }
 
-impl<'a, R: Wait> Outward<'a, R> {
-    /// Into these lines.
-    pub fn new(rt: &'a R, lines: &'a [Line]) -> Outward<'a, R> {
-        Outward { rt, lines }
+/// Hands each frame to where frames wait for its peer. A frame that is about nothing is dropped.
+#[derive(Drop)]
+pub struct Outward<P: Post> {
+    post: P,
+}
+
+impl<P: Post> Outward<P> {
+    /// To this post.
+    pub fn new(post: P) -> Outward<P> {
+        Outward { post }
     }
 }
 
-impl<'a, R: Wait> Carry for Outward<'a, R> {
-    ghost use Rattle.std.specs.Prelude.{◌≡◌};
+impl<P: Post> Carry for Outward<P> {
+    ghost use Rattle.std.specs.Prelude.{◌≡◌, true};
+    ghost use Rattle.zq_apart.specs.Carried.{IsHanded};
+    ghost use Rattle.zq_frames.specs.About.{topic_at};
 
-    ghost carries = { λ old to frame whole new. new.lines.now ≡ old.lines.now };
+    ghost carries = { λ old to frame whole new.
+        IsHanded P.posts old.post new.post to (topic_at frame) frame × (whole ≡ true) };
 
     fn carry(&mut self, _alloc: Global, to: SiteNo, frame: Vec<u8>) -> bool {
-        if let Some(line) = line_of(self.lines, to)
-            && let Some(topic) = topic_of(&frame)
-        {
-            line.put(self.rt, topic, frame);
+        if let Some(topic) = topic_of(&frame) {
+            self.post.post(to, topic, frame);
         }
         true
+    }
+}
+
+/// The lines of peers. A frame for a site that is no peer is dropped.
+#[derive(Drop)]
+pub struct Lines<'a, R: Wait> {
+    pub rt: &'a R,
+    pub lines: &'a [Line],
+}
+
+impl<R: Wait> Post for Lines<'_, R> {
+    ghost use Rattle.std.specs.Prelude.{◌≡◌};
+
+    ghost posts = { λ old peer topic frame new. new.lines.now ≡ old.lines.now };
+
+    fn post(&mut self, peer: SiteNo, topic: Topic, frame: Vec<u8>) {
+        if let Some(line) = line_of(self.lines, peer) {
+            line.put(self.rt, topic, frame);
+        }
     }
 }

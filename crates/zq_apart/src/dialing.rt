@@ -4,12 +4,12 @@ use crate::attending::attend;
 use crate::line::Line;
 use crate::pause::{Pause, pause_after};
 use crate::shared::Shared;
-use crate::times::CONNECTING;
+use crate::times::connecting;
 use log::Log;
 use std::net::{Net, TcpListener, TcpStream};
 use std::random::RandomSource;
 use std::sync::Wait;
-use std::time::{Clock, Duration};
+use std::time::Clock;
 
 /// Dials the peer of a line, and dials it again after each end of the link, until the site ends.
 pub fn dial_line<N, L>(net: &N, log: &L, shared: Shared<'_>, line: &Line)
@@ -37,7 +37,7 @@ where
     L: Log + RandomSource + Clock + Wait,
 {
     let peer = line.peer();
-    match TcpStream::connect_timeout(net, &peer.address, Duration::from_secs(CONNECTING)) {
+    match TcpStream::connect_timeout(net, &peer.address, connecting()) {
         Ok(stream) => attend(log, shared, stream, &[peer.site]),
         Err(_) => false,
     }

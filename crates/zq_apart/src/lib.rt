@@ -24,6 +24,7 @@ mod serving;
 mod shared;
 mod teller;
 mod times;
+mod upkeep;
 mod warning;
 mod wire;
 mod writing;

@@ -1,5 +1,9 @@
 //! The link to a peer, which threads share.
 
+ghost use Rattle.std.specs.Arc.{arc_value};
+ghost use Rattle.std.specs.Prelude.{IfOk, IfSome, IsNone, is_some, ◌≡◌};
+ghost use Rattle.zq_apart.specs.Wire.{IsTurn};
+
 use crate::wire::{Up, Wire};
 use std::alloc::{AllocError, Global};
 use std::net::{Shutdown, TcpStream};
@@ -10,7 +14,8 @@ use zq_settings::Peer;
 /// The link to a peer, and what waits for it.
 #[derive(Drop)]
 pub struct Line {
-    peer: Peer,
+    /// The peer.
+    pub peer: Peer,
     wire: Mutex<Wire<Arc<TcpStream>>>,
     changed: Condvar,
 }
@@ -28,7 +33,9 @@ pub struct Turn {
 
 impl Line {
     /// No link to this peer, of a site of so many heaps.
-    pub fn new(alloc: Global, peer: Peer, heaps: u8) -> Result<Line, AllocError> {
+    pub fn new(alloc: Global, peer: Peer, heaps: u8) -> Result<Line, AllocError>
+        ensures { IfOk result (λ line. line.peer ≡ peer) }
+    {
         Ok(Line {
             peer,
             wire: Mutex::new(Wire::new(alloc, heaps)?),
@@ -37,7 +44,9 @@ impl Line {
     }
 
     /// The peer.
-    pub fn peer(&self) -> Peer {
+    pub fn peer(&self) -> Peer
+        ensures { result ≡ self.now.peer }
+    {
         self.peer
     }
 
@@ -85,8 +94,13 @@ impl Line {
     }
 }
 
-/// The frame that waits first, and the link over which it goes.
-fn take_turn(wire: &mut Wire<Arc<TcpStream>>) -> Option<Turn> {
+/// The frame that waits first, and the link over which it goes. Where there is no link or nothing waits there is none, and
+/// nothing changes.
+fn take_turn(wire: &mut Wire<Arc<TcpStream>>) -> Option<Turn>
+    ensures turn { IfSome result (λ turn. IsTurn turn.number
+        (λ stream. arc_value stream ≡ arc_value turn.stream) turn.frame.items wire.old wire.new) }
+    ensures none { IsNone result → wire.new ≡ wire.old }
+{
     let Up { number, stream } = wire.link.as_ref()?;
     let (number, stream) = (*number, Arc::try_clone(stream).ok()?);
     let parcel = wire.take()?;
@@ -98,7 +112,9 @@ fn take_turn(wire: &mut Wire<Arc<TcpStream>>) -> Option<Turn> {
 }
 
 /// Shuts a stream down, so that who reads or writes it ends, and says whether there was one.
-fn shut(stream: Option<Arc<TcpStream>>) -> bool {
+fn shut(stream: Option<Arc<TcpStream>>) -> bool
+    ensures { result ≡ is_some stream }
+{
     match stream {
         Some(stream) => {
             let stream: &TcpStream = &stream;

@@ -19,6 +19,11 @@ pub enum Loss {
 }
 
 impl From<StreamFault> for Loss {
+    ghost use Rattle.std.specs.Prelude.{◌≡◌};
+    ghost use Rattle.zq_apart.specs.Heard.{loss_of};
+
+    ghost from_gives = { λ fault loss. loss ≡ loss_of fault };
+
     fn from(fault: StreamFault) -> Loss {
         match fault {
             StreamFault::TooLong => Loss::TooLong,
@@ -29,6 +34,11 @@ impl From<StreamFault> for Loss {
 }
 
 impl fmt::Display for Loss {
+    ghost use Rattle.std.specs.Prelude.{Some};
+    ghost use Rattle.zq_apart.specs.Words.{words_of_loss};
+
+    ghost output = { λ loss. Some (words_of_loss loss) };
+
     /// Why, on one line.
     fn fmt<W: fmt::Write>(&self, f: &mut fmt::Formatter<W>) -> fmt::Result {
         f.write_str(match self {

@@ -1,6 +1,7 @@
 //! How long a site waits before it dials again.
 
-ghost use Rattle.std.specs.Prelude.{◌≡◌, if◌then◌else◌};
+ghost use Rattle.std.specs.Duration.{as_nanos};
+ghost use Rattle.std.specs.Prelude.{◌≡◌, ◌*◌, if◌then◌else◌};
 ghost use Rattle.zq_apart.specs.Pause.{FIRST_PAUSE, longer_pause};
 
 use std::marker::Model;
@@ -43,7 +44,9 @@ impl Pause {
     }
 
     /// Its length.
-    pub fn duration(self) -> Duration {
+    pub fn duration(self) -> Duration
+        ensures { as_nanos result ≡ self * 1_000_000 }
+    {
         Duration::from_millis(self.millis)
     }
 }

@@ -1,13 +1,16 @@
 //! The threads of a site.
 
+ghost use Rattle.std.specs.Prelude.{◌≡◌};
+ghost use Rattle.zq_apart.specs.Site.{acceptors_for};
+
 use crate::accepting::accept_peers;
-use crate::carrying::Outward;
+use crate::carrying::{Lines, Outward};
 use crate::dialing::dial_line;
 use crate::doors::Doors;
-use crate::lines::dials;
+use crate::lines::is_dialled;
 use crate::shared::Shared;
 use crate::teller::Teller;
-use crate::times::TELLING;
+use crate::times::telling;
 use crate::writing::write_line;
 use log::Log;
 use std::net::{Net, TcpListener, TcpStream};
@@ -15,7 +18,7 @@ use std::random::RandomSource;
 use std::sync::Wait;
 use std::thread;
 use std::thread::Threads;
-use std::time::{Clock, Duration};
+use std::time::Clock;
 use zq_posheap::Seeded;
 use zq_serve::{Crew, Inboxes, Linker, ServeFault, Worker, run_workers};
 
@@ -59,8 +62,12 @@ where
 
 /// Links a site to its peers, until it is to stop.
 fn link_site<L: Log + Wait>(log: &L, shared: Shared<'_>, linker: Linker, hasher: Seeded) {
-    let mut carrier = Outward::new(log, shared.lines);
-    let teller = Teller {
+    let lines = Lines {
+        rt: log,
+        lines: shared.lines,
+    };
+    let mut carrier = Outward::new(lines);
+    let mut teller = Teller {
         log,
         site: shared.settings.site,
     };
@@ -70,7 +77,7 @@ fn link_site<L: Log + Wait>(log: &L, shared: Shared<'_>, linker: Linker, hasher:
         shared.mailbox,
         hasher,
         &mut carrier,
-        &teller,
+        &mut teller,
     );
 }
 
@@ -119,7 +126,7 @@ where
     thread::scope(thread::scope_env(), log, move |scope| {
         let mut ended = Ok(());
         for line in shared.lines {
-            if dials(shared.settings.site, line.peer().site)
+            if is_dialled(shared.settings, &line.peer())
                 && scope
                     .spawn(move || dial_line(net, log, shared, line))
                     .is_err()
@@ -141,7 +148,7 @@ where
 /// Has the peers told from time to time what the site has, until it ends.
 fn tell_peers<L: Wait + Clock>(rt: &L, shared: Shared<'_>) {
     for _ in rt.forever() {
-        if shared.halt.wait(rt, Duration::from_secs(TELLING)) {
+        if shared.halt.wait(rt, telling()) {
             break;
         }
         shared.mailbox.tick(rt);
@@ -185,6 +192,8 @@ where
 
 /// How many threads accept peers, of which so many dial: two for each, and at least one. So a peer comes in whose old link
 /// has not ended yet.
-fn acceptors(dialers: usize) -> usize {
+fn acceptors(dialers: usize) -> usize
+    ensures { result ≡ acceptors_for dialers }
+{
     dialers.saturating_mul(2).max(1)
 }

@@ -1,5 +1,8 @@
 //! Serving a site.
 
+ghost use Rattle.std.specs.Net.Socket.{socket_ip, socket_port};
+ghost use Rattle.std.specs.Prelude.{◌≡◌};
+
 use crate::announcing::announce;
 use crate::doors::Doors;
 use crate::halt::Halt;
@@ -9,14 +12,14 @@ use crate::shared::Shared;
 use log::Log;
 use std::alloc::Global;
 use std::io::Write;
-use std::net::{Net, TcpListener, TcpStream};
+use std::net::{Net, SocketAddr, TcpListener, TcpStream};
 use std::random::RandomSource;
 use std::sync::Wait;
 use std::thread::Threads;
 use std::time::Clock;
 use zq_peers::Mailbox;
 use zq_posheap::Seeded;
-use zq_serve::{Crew, Plan, ServeFault, address_of, draw_hasher, listen, most_waiting, open_site};
+use zq_serve::{Crew, Plan, ServeFault, draw_hasher, listen, most_waiting, open_site};
 use zq_settings::SiteSettings;
 
 /// Serves the site of the settings in this process: `workers` connections of its port at once, the others as these end.
@@ -76,18 +79,37 @@ fn open_crew<R: Net<Listener = TcpListener, Stream = TcpStream>>(
     settings: &SiteSettings,
     hasher: Seeded,
 ) -> Result<Crew, ServeFault> {
-    let plan = Plan {
+    let plan = plan_of(settings);
+    let address = clients_address(settings);
+    let mut crew = Crew::new(alloc);
+    let peers = peers_of(alloc, settings)?;
+    open_site(net, alloc, &plan, address, peers, hasher, &mut crew)?;
+    Ok(crew)
+}
+
+/// How the site is served.
+fn plan_of(settings: &SiteSettings) -> Plan
+    ensures number { result.number ≡ settings.now.site }
+    ensures heaps { result.heaps ≡ settings.now.heaps }
+    ensures rule { result.rule ≡ settings.now.rule }
+    ensures workers { result.workers ≡ settings.now.workers }
+    ensures connections { result.connections ≡ settings.now.connections }
+{
+    Plan {
         number: settings.site,
         heaps: settings.heaps,
         rule: settings.rule,
         workers: settings.workers,
         connections: settings.connections,
-    };
-    let address = address_of(settings.bind, settings.port);
-    let mut crew = Crew::new(alloc);
-    let peers = peers_of(alloc, settings)?;
-    open_site(net, alloc, &plan, address, peers, hasher, &mut crew)?;
-    Ok(crew)
+    }
+}
+
+/// Where clients connect: the port of the settings at the address of `bind`.
+fn clients_address(settings: &SiteSettings) -> SocketAddr
+    ensures ip { socket_ip result ≡ settings.now.bind }
+    ensures port { socket_port result ≡ settings.now.port }
+{
+    SocketAddr::new(settings.bind, settings.port.value() as u16)
 }
 
 /// Where frames wait for the site's link thread.

@@ -13,7 +13,11 @@ pub struct Teller<'a, L: Log> {
 }
 
 impl<L: Log> Witness for Teller<'_, L> {
-    fn drops(&self, from: SiteNo, why: Unheard) {
+    ghost use Rattle.std.specs.Prelude.{◌≡◌};
+
+    ghost tells = { λ old from why new. new.site ≡ old.site };
+
+    fn drops(&mut self, from: SiteNo, why: Unheard) {
         warn_of(self.log, self.site, Warning::Drops(from, why));
     }
 }

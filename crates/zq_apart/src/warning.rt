@@ -1,10 +1,15 @@
 //! What is said of peers and links.
 
+ghost use Rattle.std.specs.Prelude.{◌≡◌};
+ghost use Rattle.zq_apart.specs.Words.{is_memory, words_of_node, words_of_unheard};
+
 use crate::loss::Loss;
 use std::fmt;
+use zq_delta::OpFault;
 use zq_dots::SiteNo;
 use zq_frames::FrameFault;
 use zq_greet::Refusal;
+use zq_merge::StateFault;
 use zq_node::NodeFault;
 use zq_peers::Unheard;
 
@@ -57,14 +62,36 @@ impl fmt::Display for Words {
 }
 
 /// Why a frame was not heard, in words.
-fn unheard_words(why: Unheard) -> &'static str {
+fn unheard_words(why: Unheard) -> &'static str
+    ensures { result.now ≡ words_of_unheard why }
+{
     match why {
-        Unheard::Unread(FrameFault::NoMemory) | Unheard::Refused(NodeFault::NoMemory) => {
-            "there was no memory for it"
-        }
+        Unheard::Unread(fault) if wants_memory(fault) => "there was no memory for it",
         Unheard::Unread(_) => "it is no frame",
-        Unheard::Refused(NodeFault::WrongHeap) => "it names a heap that is not this site's",
-        Unheard::Refused(NodeFault::WrongRule) => "it has another rule",
-        Unheard::Refused(NodeFault::Worn) => "a number is at its last value",
+        Unheard::Refused(fault) => refused_words(fault),
+    }
+}
+
+/// Whether memory was refused for the frame, or for a part of it.
+fn wants_memory(fault: FrameFault) -> bool
+    ensures { result ≡ is_memory fault }
+{
+    matches!(
+        fault,
+        FrameFault::NoMemory
+            | FrameFault::Op(_, OpFault::NoMemory)
+            | FrameFault::State(StateFault::NoMemory)
+    )
+}
+
+/// Why a node refuses a frame, in words.
+fn refused_words(fault: NodeFault) -> &'static str
+    ensures { result.now ≡ words_of_node fault }
+{
+    match fault {
+        NodeFault::WrongHeap => "it names a heap that is not this site's",
+        NodeFault::WrongRule => "it has another rule",
+        NodeFault::Worn => "a number is at its last value",
+        NodeFault::NoMemory => "there was no memory for it",
     }
 }

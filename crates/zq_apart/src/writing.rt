@@ -1,6 +1,7 @@
 //! What sends frames to a peer.
 
 ghost use Rattle.std.specs.Prelude.{length, ◌<◌, ◌^◌};
+ghost use Rattle.zq_apart.specs.Written.{IsWritten};
 
 use crate::line::{Line, Turn};
 use crate::loss::Loss;
@@ -33,19 +34,35 @@ fn write_turn<L: Log + Wait>(log: &L, shared: Shared<'_>, line: &Line, turn: &Tu
         warn_of(log, site, Warning::Keeps(peer));
         return;
     }
-    if !write_frame(shared.alloc, &turn.stream, &turn.frame) && line.lower(log, turn.number) {
+    let mut stream: &TcpStream = &turn.stream;
+    let written = write_frame(shared.alloc, &mut stream, &turn.frame);
+    if written == Written::Broken && line.lower(log, turn.number) {
         warn_of(log, site, Warning::Loses(peer, Loss::Broken));
     }
 }
 
-/// Writes a frame behind its length, and says whether the stream took it. Where there is no memory nothing is written.
-fn write_frame(alloc: Global, stream: &TcpStream, frame: &[u8]) -> bool
+/// What became of a frame.
+#[derive(Clone, Copy, Debug, PartialEq, Eq)]
+enum Written {
+    /// It was written.
+    Whole,
+    /// There was no memory for it, and nothing was written.
+    Dropped,
+    /// The stream failed, and may have a part of it.
+    Broken,
+}
+
+/// Writes a frame behind its length.
+fn write_frame<W: Write>(alloc: Global, writer: &mut W, frame: &[u8]) -> Written
     requires { length frame.now < 2 ^ 32 }
+    ensures { IsWritten (W.contents writer.old) (W.contents writer.new) frame.now result }
 {
     let mut bytes = Vec::new(alloc);
     if write_framed(&mut bytes, frame).is_err() {
-        return true;
+        return Written::Dropped;
     }
-    let mut writer = stream;
-    writer.write_all(&bytes).is_ok()
+    match writer.write_all(&bytes) {
+        Ok(()) => Written::Whole,
+        Err(_) => Written::Broken,
+    }
 }

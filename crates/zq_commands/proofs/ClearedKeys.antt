@@ -1,11 +1,11 @@
 -- Where the clearing of a key stands, and what the clearing of several comes to.
 
-use Rattle.std.proofs.Common.{List, None, [], ap, arith, drop, length, map, option_map, refl, subst, suc, sym, zero, ℕ, ◌++◌, ◌+◌, ◌<◌, ◌∙◌, ◌∷◌, ◌≡◌, ◌≤◌, false}
+use Rattle.std.proofs.Common.{List, None, [], ap, arith, true, drop, length, map, option_map, refl, subst, suc, sym, zero, ℕ, ◌++◌, ◌+◌, ◌<◌, ◌∙◌, ◌∷◌, ◌≡◌, ◌≤◌, false}
 use Rattle.std.proofs.lemmas.List.{length-append, length-map, take-append-le, take_all}
 use Rattle.std.proofs.lemmas.Option.{slice_get-map}
 use Rattle.std.specs.Prelude.{Some, if◌then◌else◌, slice_get, take}
 use Rattle.zq_commands.proofs.InTurn.{StandsAfter, after_all-append, lent-append, moves_split, stands_next, take_next}
-use Rattle.zq_commands.proofs.Popped.{at_drop, below_drop, empty_drop, rest_drop}
+use Rattle.zq_commands.proofs.Popped.{at_drop, below_drop, empty_drop, rest_drop, why_first}
 use Rattle.zq_commands.proofs.RanPlans.{drop_at}
 use Rattle.zq_commands.specs.Clearing.{Clears, IsLeft}
 use Rattle.zq_commands.specs.Cut.{want_of}
@@ -21,7 +21,7 @@ use Rattle.zq_history.specs.Books.{Book}
 use Rattle.zq_moves.specs.Moves.{Move, Queue, after, after_all}
 use Rattle.zq_plans.specs.Plan.{del_part, drops, in_turn, is_there, moves_in_turn}
 use Rattle.zq_plans.specs.Replies.{bytes_of}
-use Rattle.zq_plans.specs.Run.{IsWhy, Number, cut_error}
+use Rattle.zq_plans.specs.Run.{ForCopies, IsWhy, IsWhyOf, Memory, Number, Want, cut_error}
 use Rattle.zq_words.specs.Words.{Word}
 
 -- ---- lists
@@ -44,10 +44,16 @@ at_rest f [] (suc i) = refl
 at_rest f (x ∷ xs) zero = refl
 at_rest f (x ∷ xs) (suc i) = at_rest f xs i
 
-why_longer : (site : ℕ) (books : List Book) (moves later : List Move) (k : ℕ) → IsWhy site (slice_get moves k) books Number → IsWhy site (slice_get (moves ++ later) k) books Number
-why_longer site books [] later k why = absurd why
-why_longer site books (move ∷ moves) later zero why = why
-why_longer site books (move ∷ moves) later (suc k) why = why_longer site books moves later k why
+-- why a drop was not made, with more behind it
+why_longer : (site : ℕ) (books : List Book) (moves later : List Move) (k : ℕ) (want : Want) → IsWhyOf ForCopies site (slice_get moves k) books want →
+    IsWhyOf ForCopies site (slice_get (moves ++ later) k) books want
+why_longer site books [] later k Number why = absurd why
+why_longer site books [] later k Memory why = absurd why
+why_longer site books (move ∷ moves) later zero want why = why
+why_longer site books (move ∷ moves) later (suc k) want why = why_longer site books moves later k want why
+
+apart : Worn ≡ NoMemory → ⊥
+apart e = cc
 
 -- ---- one key
 
@@ -92,15 +98,21 @@ module _ (site stamp : ℕ) (key : List ℕ) where
         let all : n ≡ length (queues_in s key) = let low = here.within in omega (arith, past, low) in
         cleared_with (subst (IsLeft site key s t n) (sym none) all)
 
-    why_cut : (cut : Cut) → (cut ≡ Worn → IsWhy site (slice_get (drops key (queues_in t key)) 0) t.books Number) →
-        IsWhy site (slice_get (drops key (queues_in s key)) n) t.books (want_of cut)
-    why_cut Worn why =
-        subst (λ o. IsWhy site o t.books Number) (ap (λ q. slice_get (drops key q) 0) here.left ∙ at_rest (drop_of key) (queues_in s key) n) (why refl)
-    why_cut NoMemory why = tt
-
     -- until a move was refused
-    pub cleared_cut : (cut : Cut) → cleared.cut ≡ Some cut → (cut ≡ Worn → IsWhy site (slice_get (drops key (queues_in t key)) 0) t.books Number) → Clears site stamp key before s t cleared
-    cleared_cut cut some why = cleared_with (subst (IsLeft site key s t n) (sym some) (why_cut cut why))
+    pub cleared_cut : (cut : Cut) → cleared.cut ≡ Some cut → (cut ≡ Worn → IsWhy site (slice_get (drops key (queues_in t key)) 0) t.books Number) → is_there (queues_in t key) ≡ true →
+        Clears site stamp key before s t cleared
+    cleared_cut cut some why there =
+        cleared_with (subst (IsLeft site key s t n) (sym some)
+        (subst (λ o. IsWhyOf ForCopies site o t.books (want_of cut)) (ap (λ q. slice_get (drops key q) 0) here.left ∙ at_rest (drop_of key) (queues_in s key) n)
+        (why_first site key (queues_in t key) t.books cut why there)))
+
+    -- or where no number counts one more
+    pub cleared_last : (cleared.cut ≡ None → queues_in t key ≡ []) → ((cut : Cut) → cleared.cut ≡ Some cut → cut ≡ NoMemory) →
+        ((cut : Cut) → cleared.cut ≡ Some cut → is_there (queues_in t key) ≡ true) → Clears site stamp key before s t cleared
+    cleared_last none some there = elim cleared.cut as (λ o. cleared.cut ≡ o → Clears site stamp key before s t cleared) [
+      | None ↦ λ is. cleared_out is (none is)
+      | Some cut ↦ λ is. cleared_cut cut is (λ worn. absurd (apart (sym worn ∙ some cut is))) (there cut is)
+    ] refl
 
 -- ---- several
 
@@ -108,10 +120,6 @@ module _ (site stamp : ℕ) (key : List ℕ) where
 counted_as : (q : Queue) (made before done more : ℕ) → made ≡ length q → done ≡ before + made → (before < done → more ≡ 1) → (done ≤ before → more ≡ 0) → more ≡ (if is_there q then 1 else 0)
 counted_as [] made before done more all sum some out = out (omega (arith, sum, all))
 counted_as (x ∷ q) made before done more all sum some out = some (omega (arith, sum, all))
-
-why_all : (site : ℕ) (books : List Book) (moves later : List Move) (k : ℕ) (cut : Cut) → IsWhy site (slice_get moves k) books (want_of cut) → IsWhy site (slice_get (moves ++ later) k) books (want_of cut)
-why_all site books moves later k Worn why = why_longer site books moves later k why
-why_all site books moves later k NoMemory why = tt
 
 module _ (site stamp : ℕ) (keys : List Word) (i : ℕ) (key : Word) (s t u : Lending) (counted done : ℕ)
     (here : StandsAfter del_part site stamp keys i s t counted done) (at : slice_get keys i ≡ Some key) (cleared : Cleared) (clears : Clears site stamp key done t u cleared) where
@@ -139,7 +147,7 @@ module _ (site stamp : ℕ) (keys : List Word) (i : ℕ) (key : Word) (s t u : L
 
   -- where a move of a key was refused
   pub keys_cut : (cut : Cut) → cleared.cut ≡ Some cut → (bytes : Word) → bytes ≡ bytes_of (cut_error cleared.done (want_of cut)) →
-      RunsOver site stamp false (in_turn del_part keys (queues_in s)) cut_error s u bytes
+      RunsOver site stamp ForCopies (in_turn del_part keys (queues_in s)) cut_error s u bytes
   keys_cut cut some bytes says =
       let front = moves_in_turn del_part (take i keys) (queues_in s) in
       let moves = drops key (queues_in t key) in
@@ -154,4 +162,4 @@ module _ (site stamp : ℕ) (keys : List Word) (i : ℕ) (key : Word) (s t u : L
       let next : slice_get (moves_in_turn del_part keys (queues_in s)) cleared.done ≡ slice_get (moves ++ later) k
       = ap (λ ms. slice_get ms cleared.done) whole_moves ∙ ap (slice_get (front ++ (moves ++ later))) at_k ∙ get_past front (moves ++ later) k in
       part cleared.done (want_of cut) (omega (arith, at_k, wide, ap length whole_moves, length-append front (moves ++ later), length-append moves later)) same
-      (subst (λ o. IsWhy site o u.books (want_of cut)) (sym next) (why_all site u.books moves later k cut (subst (IsLeft site key t u k) some clears.left))) says (λ _. refl)
+      (subst (λ o. IsWhyOf ForCopies site o u.books (want_of cut)) (sym next) (why_longer site u.books moves later k (want_of cut) (subst (IsLeft site key t u k) some clears.left))) says (λ _. refl)

@@ -1,8 +1,8 @@
 -- What is counted over the books, book by book.
 
-use Rattle.std.proofs.Common.{Bool, List, Some, [], ap, arith, length, sym, ℕ, ◌+◌, ◌<◌, ◌∙◌, ◌∷◌, ◌≡◌}
+use Rattle.std.proofs.Common.{Bool, List, Some, [], ap, arith, length, suc, sym, zero, ℕ, ◌+◌, ◌<◌, ◌∙◌, ◌∷◌, ◌≡◌, ◌≤◌}
 use Rattle.std.proofs.lemmas.List.{take_all}
-use Rattle.std.proofs.lemmas.List.Sums.{sum_by-append, sum_by-cons}
+use Rattle.std.proofs.lemmas.List.Sums.{count_by-le-length, sum_by-append, sum_by-cons}
 use Rattle.std.specs.Prelude.{count_by, slice_get, sum_by, take}
 use Rattle.zq_commands.proofs.InTurn.{take_next}
 use Rattle.zq_commands.specs.Lending.{IsLending, Lending, queues_in}
@@ -42,3 +42,22 @@ members_all lent key place are all = sym (measured lent.rule key lent.heaps lent
 pub pairs_all : (lent : Lending) (key : List ℕ) (passes : Scored → Bool) (place : ℕ) → IsLending lent → place ≡ length lent.books →
     upto (pairs_in lent key passes) lent.books place ≡ count_by passes (queues_in lent key)
 pairs_all lent key passes place are all = sym (counted lent.rule key lent.heaps passes lent.books are.books ∙ upto_all (pairs_in lent key passes) lent.books place all)
+
+-- what is counted in some of the books is no more than in all of them
+upto_most : (count : Book → ℕ) (books : List Book) (place : ℕ) → upto count books place ≤ sum_by count books
+upto_most count books zero = omega arith
+upto_most count [] (suc place) = omega arith
+upto_most count (book ∷ books) (suc place) =
+    omega (arith, sum_by-cons count book (take place books), sum_by-cons count book books, upto_most count books place)
+
+pub members_most : (lent : Lending) (key : List ℕ) (place : ℕ) → IsLending lent → upto (members_in lent key) lent.books place ≤ length (queues_in lent key)
+members_most lent key place are =
+    let all = measured lent.rule key lent.heaps lent.books are.books in
+    let most = upto_most (members_in lent key) lent.books place in
+    omega (arith, all, most)
+
+pub pairs_most : (lent : Lending) (key : List ℕ) (passes : Scored → Bool) (place : ℕ) → IsLending lent → upto (pairs_in lent key passes) lent.books place ≤ length (queues_in lent key)
+pairs_most lent key passes place are =
+    let all = counted lent.rule key lent.heaps passes lent.books are.books in
+    let most = upto_most (pairs_in lent key passes) lent.books place in
+    omega (arith, all, most, count_by-le-length passes (queues_in lent key))

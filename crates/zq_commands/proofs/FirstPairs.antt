@@ -26,7 +26,7 @@ use Rattle.zq_moves.proofs.Homes.{has_addition, lent_each}
 use Rattle.zq_moves.proofs.Read.{in_place}
 use Rattle.zq_moves.specs.Lent.{is_home_of, queues_of}
 use Rattle.zq_moves.specs.Moves.{Move, Queue, after, after_act}
-use Rattle.zq_plans.specs.Plan.{drops}
+use Rattle.zq_plans.specs.Plan.{drops, is_there}
 use Rattle.zq_plans.specs.Replies.{parts_of_pair}
 use Rattle.zq_plans.specs.Run.{IsWhy, Number}
 
@@ -138,6 +138,16 @@ no_queue rule K key = empty_of (queues_of rule [] key) (measured rule key K [] t
 pub none_copied : (q : Queue) (r : Option Copied) → r ≡ None → option_map copied_parts r ≡ option_map (parts_of_pair true) (slice_get q 0) → q ≡ []
 none_copied [] r none e = refl
 none_copied (x ∷ q) r none e = absurd (none-some (parts_of_pair true x) (ap (option_map copied_parts) (sym none) ∙ e))
+
+-- and something only of one that is not
+pub copied_there : (q : Queue) (r : Option Copied) (copied : Copied) → r ≡ Some copied → option_map copied_parts r ≡ option_map (parts_of_pair true) (slice_get q 0) → is_there q ≡ true
+copied_there [] r copied some e = absurd (none-some (copied_parts copied) (sym e ∙ ap (option_map copied_parts) some))
+copied_there (x ∷ q) r copied some e = refl
+
+-- the first pair of an empty queue is none
+pub first_there : {X : Type 0} (f : X → Scored) (q : Queue) (r : Option X) → option_map f r ≡ slice_get q 0 → (r ≡ None → q ≡ []) × ((x : X) → r ≡ Some x → is_there q ≡ true)
+first_there f [] r e = (λ _. refl, λ x some. absurd (none-some (f x) (sym e ∙ ap (option_map f) some)))
+first_there f (x ∷ q) r e = (λ none. absurd (none-some x (ap (option_map f) (sym none) ∙ e)), λ y some. refl)
 
 pub copied_first : (q rest : Queue) (x : Scored) (r : Option Copied) (copied : Copied) → r ≡ Some copied → q ≡ x ∷ rest →
     option_map copied_parts r ≡ option_map (parts_of_pair true) (slice_get q 0) → copied_parts copied ≡ parts_of_pair true x

@@ -13,9 +13,10 @@ use Rattle.zq_commands.specs.declared.cut.Cut.{Cut}
 use Rattle.zq_commands.specs.declared.cut.Cut.TheVariants.{NoMemory, Worn}
 use Rattle.zq_model.specs.Meaning.{Scored}
 use Rattle.zq_moves.specs.Moves.{Queue}
-use Rattle.zq_plans.specs.Plan.{drops, pop}
+use Rattle.zq_history.specs.Books.{Book}
+use Rattle.zq_plans.specs.Plan.{drops, is_there, pop}
 use Rattle.zq_plans.specs.Replies.{bytes_of, pairs_reply, parts_of_pair}
-use Rattle.zq_plans.specs.Run.{IsWhy, Memory, Number, cut_error, cut_pop}
+use Rattle.zq_plans.specs.Run.{ForCopies, IsWhy, IsWhyOf, Memory, Number, cut_error, cut_pop}
 use Rattle.zq_resp.specs.Reply.{bulk, joined, line}
 use Rattle.zq_words.specs.Words.{Word}
 
@@ -51,6 +52,13 @@ next_taken f [] zero (suc n) below = refl
 next_taken f [] (suc i) (suc n) below = refl
 next_taken f (x ∷ xs) zero (suc n) below = refl
 next_taken f (x ∷ xs) (suc i) (suc n) below = next_taken f xs i n (omega (arith, below))
+
+-- why the first of some pairs was not dropped
+pub why_first : (site : ℕ) (key : List ℕ) (q : Queue) (books : List Book) (cut : Cut) → (cut ≡ Worn → IsWhy site (slice_get (drops key q) 0) books Number) → is_there q ≡ true →
+    IsWhyOf ForCopies site (slice_get (drops key q) 0) books (want_of cut)
+why_first site key q books Worn why there = why refl
+why_first site key (x ∷ q) books NoMemory why there = tt
+why_first site key [] books NoMemory why there = absurd (cc)
 
 -- ---- pops
 
@@ -95,27 +103,27 @@ module _ (site stamp : ℕ) (key : List ℕ) where
 
   module _ (n : ℕ) (s t : Lending) (done : ℕ) (parts : List Word) (here : PoppedAfter s t done parts) (bytes : Word) where
     ran_taken : (short : Bool) → take done (queues_in s key) ≡ take n (queues_in s key) → bytes ≡ array_bytes parts →
-        EndsOver site stamp false (pop key n (queues_in s)) (cut_pop (Some (key, n)) (queues_in s)) s t bytes short
+        EndsOver site stamp ForCopies (pop key n (queues_in s)) (cut_pop (Some (key, n)) (queues_in s)) s t bytes short
     ran_taken short same is = whole (here.lent ∙ ap (λ pairs. lent_after_all site stamp (drops key pairs) s) same)
         (is ∙ ap array_bytes here.shown ∙ ap (λ pairs. array_bytes (shown_parts pairs)) same ∙ shown_bytes (take n (queues_in s key)))
 
     -- all that were asked for
-    pub popped_whole : (short : Bool) → done ≡ n → bytes ≡ array_bytes parts → EndsOver site stamp false (pop key n (queues_in s)) (cut_pop (Some (key, n)) (queues_in s)) s t bytes short
+    pub popped_whole : (short : Bool) → done ≡ n → bytes ≡ array_bytes parts → EndsOver site stamp ForCopies (pop key n (queues_in s)) (cut_pop (Some (key, n)) (queues_in s)) s t bytes short
     popped_whole short all is = ran_taken short (ap (λ k. take k (queues_in s key)) all) is
 
     -- and all that were there
     pub popped_out : (short : Bool) → done ≤ n → queues_in t key ≡ [] → bytes ≡ array_bytes parts →
-        EndsOver site stamp false (pop key n (queues_in s)) (cut_pop (Some (key, n)) (queues_in s)) s t bytes short
+        EndsOver site stamp ForCopies (pop key n (queues_in s)) (cut_pop (Some (key, n)) (queues_in s)) s t bytes short
     popped_out short low none is =
         let q = queues_in s key in
         let past = empty_drop q done (sym here.left ∙ none) in
         ran_taken short (take_all done q past ∙ sym (take_all n q (omega (arith, past, low)))) is
 
-    why_next : (cut : Cut) → done < n → (cut ≡ Worn → IsWhy site (slice_get (drops key (queues_in t key)) 0) t.books Number) →
-        IsWhy site (slice_get (drops key (take n (queues_in s key))) done) t.books (want_of cut)
-    why_next Worn below why =
-        subst (λ o. IsWhy site o t.books Number) (ap (λ q. slice_get (drops key q) 0) here.left ∙ next_taken (drop_of key) (queues_in s key) done n below) (why refl)
-    why_next NoMemory below why = tt
+    why_next : (cut : Cut) → done < n → (cut ≡ Worn → IsWhy site (slice_get (drops key (queues_in t key)) 0) t.books Number) → is_there (queues_in t key) ≡ true →
+        IsWhyOf ForCopies site (slice_get (drops key (take n (queues_in s key))) done) t.books (want_of cut)
+    why_next cut below why there =
+        subst (λ o. IsWhyOf ForCopies site o t.books (want_of cut)) (ap (λ q. slice_get (drops key q) 0) here.left ∙ next_taken (drop_of key) (queues_in s key) done n below)
+        (why_first site key (queues_in t key) t.books cut why there)
 
     said : (cut : Cut) → (0 < done → bytes ≡ array_bytes parts) → (done ≡ 0 → bytes ≡ bytes_of (cut_error 0 (want_of cut))) →
         bytes ≡ bytes_of (cut_pop (Some (key, n)) (queues_in s) done (want_of cut))
@@ -126,16 +134,16 @@ module _ (site stamp : ℕ) (key : List ℕ) where
         ] refl
 
     -- those before the one that was refused
-    pub popped_cut : (cut : Cut) (short : Bool) → done < n → (cut ≡ Worn → IsWhy site (slice_get (drops key (queues_in t key)) 0) t.books Number) → (0 < done → bytes ≡ array_bytes parts) →
+    pub popped_cut : (cut : Cut) (short : Bool) → done < n → (cut ≡ Worn → IsWhy site (slice_get (drops key (queues_in t key)) 0) t.books Number) → is_there (queues_in t key) ≡ true → (0 < done → bytes ≡ array_bytes parts) →
         (done ≡ 0 → bytes ≡ bytes_of (cut_error 0 (want_of cut))) → (want_of cut ≡ Memory → short ≡ true) →
-        EndsOver site stamp false (pop key n (queues_in s)) (cut_pop (Some (key, n)) (queues_in s)) s t bytes short
-    popped_cut cut short below why some none memory =
+        EndsOver site stamp ForCopies (pop key n (queues_in s)) (cut_pop (Some (key, n)) (queues_in s)) s t bytes short
+    popped_cut cut short below why there some none memory =
         let q = queues_in s key in
         let moves : take done (drops key (take n q)) ≡ drops key (take done q) = take-map (drop_of key) done (take n q) ∙ ap (drops key) (take-take done n q (omega (arith, below))) in
         part done (want_of cut) (let within = here.within in omega (arith, within, below, length-map (take n q) (drop_of key), length-take n q))
-        (here.lent ∙ ap (λ ms. lent_after_all site stamp ms s) (sym moves)) (why_next cut below why) (said cut some none) memory
+        (here.lent ∙ ap (λ ms. lent_after_all site stamp ms s) (sym moves)) (why_next cut below why there) (said cut some none) memory
 
   -- not even the first one
-  pub popped_none : (s : Lending) (bytes : Word) (cut : Cut) (short : Bool) → (cut ≡ Worn → IsWhy site (slice_get (drops key (queues_in s key)) 0) s.books Number) →
-      bytes ≡ bytes_of (cut_error 0 (want_of cut)) → (want_of cut ≡ Memory → short ≡ true) → EndsOver site stamp false (pop key 1 (queues_in s)) (cut_pop (Some (key, 1)) (queues_in s)) s s bytes short
-  popped_none s bytes cut short why is memory = popped_cut 1 s s 0 [] (popped_first s) bytes cut short (omega arith) why (λ some. absurd (omega (arith, some))) (λ _. is) memory
+  pub popped_none : (s : Lending) (bytes : Word) (cut : Cut) (short : Bool) → (cut ≡ Worn → IsWhy site (slice_get (drops key (queues_in s key)) 0) s.books Number) → is_there (queues_in s key) ≡ true →
+      bytes ≡ bytes_of (cut_error 0 (want_of cut)) → (want_of cut ≡ Memory → short ≡ true) → EndsOver site stamp ForCopies (pop key 1 (queues_in s)) (cut_pop (Some (key, 1)) (queues_in s)) s s bytes short
+  popped_none s bytes cut short why there is memory = popped_cut 1 s s 0 [] (popped_first s) bytes cut short (omega arith) why there (λ some. absurd (omega (arith, some))) (λ _. is) memory

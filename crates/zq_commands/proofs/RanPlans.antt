@@ -16,7 +16,7 @@ use Rattle.zq_history.specs.Books.{Book}
 use Rattle.zq_plans.specs.Plan.{Part, Plan, in_turn, lets, moves_in_turn, one, plan_of, raise, raise_if, raising, reading, sum_of}
 use Rattle.zq_plans.specs.Replies.{Error, NullBulk, Reply, bytes_of, count_reply, number_text}
 use Rattle.zq_plans.specs.Run as run
-use Rattle.zq_plans.specs.Run.{IsStrictlyWhy, IsWhy, Memory, Number, Runs, Want, cut_error, cut_reply}
+use Rattle.zq_plans.specs.Run.{ForMoves, ForReply, IsWhy, IsWhyOf, Memory, Number, Runs, Takes, Want, cut_error, cut_pop, cut_reply, popped_of, takes_of}
 use Rattle.zq_resp.specs.Reply.{reply_bytes}
 use Rattle.zq_resp.specs.declared.reply.Reply as resp
 use Rattle.zq_words.specs.Command.{Command, Del, Ping, Zadd, ZaddIncr, Zcard, Zcount, Zincrby, Zpopmin, Zpopnear, Zrange, Zrank, Zrem, Zrevrank, Zscore}
@@ -32,22 +32,16 @@ after_front : {X : Type 0} (front rest : List X) (x : X) → slice_get (front ++
 after_front [] rest x = refl
 after_front (y ∷ front) rest x = after_front front rest x
 
--- why the next of some moves was not made
-why_first : (site : ℕ) (books : List Book) (moves : List Move) (next : Option Move) (cut : Cut) → slice_get moves 0 ≡ next → (cut ≡ Worn → IsWhy site (slice_get moves 0) books Number) →
-    IsWhy site next books (want_of cut)
-why_first site books moves next Worn at why = subst (λ o. IsWhy site o books Number) at (why refl)
-why_first site books moves next NoMemory at why = tt
-
--- and where no memory was asked for before it
-why_strictly : (site : ℕ) (books : List Book) (move : Move) (cut : Cut) → (cut ≡ Worn → IsWhy site (Some move) books Number) → (cut ≡ NoMemory → IsWhy site (Some move) books Number → ⊥) →
-    IsStrictlyWhy site (Some move) books (want_of cut)
-why_strictly site books move Worn worn memory = worn refl
-why_strictly site books move NoMemory worn memory = memory refl
+-- why a move that takes memory alone was not made
+why_made : (site : ℕ) (books : List Book) (move : Move) (cut : Cut) → (cut ≡ Worn → IsWhy site (Some move) books Number) → (cut ≡ NoMemory → IsWhy site (Some move) books Number → ⊥) →
+    IsWhyOf ForMoves site (Some move) books (want_of cut)
+why_made site books move Worn worn memory = worn refl
+why_made site books move NoMemory worn memory = memory refl
 
 module _ {X : Type 0} (f : Queues → X → Part) (site stamp : ℕ) (xs : List X) (s t : Lending) (counted done : ℕ) where
-  pub ran_whole : (strict : Bool) → StandsAfter f site stamp xs (length xs) s t counted done → (bytes : Word) → bytes ≡ bytes_of (count_reply counted) →
-      RunsOver site stamp strict (in_turn f xs (queues_in s)) cut_error s t bytes
-  ran_whole strict here bytes is =
+  pub ran_whole : (takes : Takes) → StandsAfter f site stamp xs (length xs) s t counted done → (bytes : Word) → bytes ≡ bytes_of (count_reply counted) →
+      RunsOver site stamp takes (in_turn f xs (queues_in s)) cut_error s t bytes
+  ran_whole takes here bytes is =
       let all = stands_whole f site stamp xs s t counted done here in
       whole all.0 (is ∙ ap (λ n. bytes_of (count_reply n)) all.1)
 
@@ -65,27 +59,19 @@ module _ {X : Type 0} (f : Queues → X → Part) (site stamp : ℕ) (xs : List 
   -- where the part at i, which was to make this move, was refused
   pub ran_cut : (cut : Cut) (i : ℕ) (x : X) (move : Move) → StandsAfter f site stamp xs i s t counted done → slice_get xs i ≡ Some x → (f (queues_in t) x).moves ≡ move ∷ [] →
       (cut ≡ Worn → IsWhy site (Some move) t.books Number) → (cut ≡ NoMemory → IsWhy site (Some move) t.books Number → ⊥) → (bytes : Word) → bytes ≡ bytes_of (cut_error done (want_of cut)) →
-      RunsOver site stamp true (in_turn f xs (queues_in s)) cut_error s t bytes
+      RunsOver site stamp ForMoves (in_turn f xs (queues_in s)) cut_error s t bytes
   ran_cut cut i x move here at is worn memory bytes says =
       let stands = stands_cut f site stamp xs i s t counted done here in
       part done (want_of cut) stands.0 stands.1
-      (subst (λ o. IsStrictlyWhy site o t.books (want_of cut)) (sym (next_move i x move here at is)) (why_strictly site t.books move cut worn memory)) says (λ _. refl)
-
--- a plan of which nothing was made for want of memory
-pub ran_none : (site stamp : ℕ) (plan : Plan) (lent : Lending) (bytes : Word) → bytes ≡ bytes_of (cut_error 0 Memory) → RunsOver site stamp false plan cut_error lent lent bytes
-ran_none site stamp plan lent bytes says = part 0 Memory (omega arith) refl tt says (λ _. refl)
+      (subst (λ o. IsWhyOf ForMoves site o t.books (want_of cut)) (sym (next_move i x move here at is)) (why_made site t.books move cut worn memory)) says (λ _. refl)
 
 -- a plan of one move, which was not made
 pub ran_refused : (site stamp : ℕ) (plan : Plan) (move : Move) (cut : Cut) (old new : Lending) (bytes : Word) → plan.moves ≡ move ∷ [] → new ≡ old →
-    (cut ≡ Worn → IsWhy site (Some move) old.books Number) → bytes ≡ bytes_of (cut_error 0 (want_of cut)) → RunsOver site stamp false plan cut_error old new bytes
-ran_refused site stamp plan move cut old new bytes is same why says =
-    subst (λ l. RunsOver site stamp false plan cut_error old l bytes) (sym same)
-    (part 0 (want_of cut) (omega arith) refl (subst (λ moves. IsWhy site (slice_get moves 0) old.books (want_of cut)) (sym is) (why_first site old.books (move ∷ []) (Some move) cut refl why)) says (λ _. refl))
-
--- a plan of one move, which was made
-pub ran_one : (site stamp : ℕ) (plan : Plan) (move : Move) (old new : Lending) (bytes : Word) → plan.moves ≡ move ∷ [] → new ≡ lent_after site stamp move old →
-    bytes ≡ bytes_of plan.reply → RunsOver site stamp false plan cut_error old new bytes
-ran_one site stamp plan move old new bytes is same says = whole (same ∙ ap (λ moves. lent_after_all site stamp moves old) (sym is)) says
+    (cut ≡ Worn → IsWhy site (Some move) old.books Number) → (cut ≡ NoMemory → IsWhy site (Some move) old.books Number → ⊥) → bytes ≡ bytes_of (cut_error 0 (want_of cut)) →
+    RunsOver site stamp ForMoves plan cut_error old new bytes
+ran_refused site stamp plan move cut old new bytes is same worn memory says =
+    subst (λ l. RunsOver site stamp ForMoves plan cut_error old l bytes) (sym same)
+    (part 0 (want_of cut) (omega arith) refl (subst (λ moves. IsWhyOf ForMoves site (slice_get moves 0) old.books (want_of cut)) (sym is) (why_made site old.books move cut worn memory)) says (λ _. refl))
 
 -- the plan of a sum in range
 pub raise_in : (key member : Word) (old : Option ℤ) (increment : ℤ) → is_in_range (sum_of old increment) ≡ true →
@@ -100,21 +86,29 @@ pub raise_let : (flags : Flags) (key member : Word) (old : Option ℤ) (incremen
 raise_let flags key member old increment passes = cond-true (lets flags old (sum_of old increment)) (raise key member old increment) (reading NullBulk) passes
 
 -- a plan that only reads, whole or without its reply for want of memory
-reading_ran : (site stamp : ℕ) (reply : Reply) (cut : ℕ → Want → Reply) (lent : Lending) (bytes : Word) (short : Bool) → cut 0 Memory ≡ cut_error 0 Memory → IsRead reply bytes →
-    (bytes ≡ bytes_of (cut_error 0 Memory) → short ≡ true) → EndsOver site stamp false (reading reply) cut lent lent bytes short
-reading_ran site stamp reply cut lent bytes short error (inl says) told = whole refl says
-reading_ran site stamp reply cut lent bytes short error (inr says) told = part 0 Memory (omega arith) refl tt (says ∙ sym (ap bytes_of error)) (λ _. told says)
+reading_ran : (site stamp : ℕ) (is_long : Bool) (counted : ℕ) (reply : Reply) (cut : ℕ → Want → Reply) (lent : Lending) (bytes : Word) (short : Bool) → cut 0 Memory ≡ cut_error 0 Memory →
+    IsRead (ForReply is_long counted) reply bytes → (bytes ≡ bytes_of (cut_error 0 Memory) → short ≡ true) →
+    EndsOver site stamp (ForReply is_long counted) (reading reply) cut lent lent bytes short
+reading_ran site stamp is_long counted reply cut lent bytes short error (inl says) told = whole refl says
+reading_ran site stamp is_long counted reply cut lent bytes short error (inr (lacks, says)) told = part 0 Memory (omega arith) refl lacks (says ∙ sym (ap bytes_of error)) (λ _. told says)
+
+-- one that counts none before may find no memory where it counts some
+pub read_wider : (is_long : Bool) (counted : ℕ) (reply : Reply) (bytes : Word) → IsRead (ForReply is_long 0) reply bytes → IsRead (ForReply is_long counted) reply bytes
+read_wider is_long counted reply bytes (inl says) = inl says
+read_wider is_long counted reply bytes (inr (inl long, says)) = inr (inl long, says)
+read_wider is_long counted reply bytes (inr (inr many, says)) = absurd (omega (arith, many))
 
 -- a command that only reads
-pub ran_read : (site stamp : ℕ) (command : Command) (lent : Lending) (bytes : Word) (short : Bool) → is_reading command ≡ true → IsRead (plan_of command (queues_in lent)).reply bytes →
+pub ran_read : (site stamp : ℕ) (command : Command) (lent : Lending) (bytes : Word) (short : Bool) → is_reading command ≡ true →
+    IsRead (takes_of command (queues_in lent)) (plan_of command (queues_in lent)).reply bytes →
     (bytes ≡ bytes_of (cut_error 0 Memory) → short ≡ true) → IsRunOver site stamp command lent lent bytes short
-ran_read site stamp (Ping message) lent bytes short reads says told = reading_ran site stamp _ _ lent bytes short refl says told
-ran_read site stamp (Zscore key member) lent bytes short reads says told = reading_ran site stamp _ _ lent bytes short refl says told
-ran_read site stamp (Zcard key) lent bytes short reads says told = reading_ran site stamp _ _ lent bytes short refl says told
-ran_read site stamp (Zcount key min max) lent bytes short reads says told = reading_ran site stamp _ _ lent bytes short refl says told
-ran_read site stamp (Zrank key member) lent bytes short reads says told = reading_ran site stamp _ _ lent bytes short refl says told
-ran_read site stamp (Zrevrank key member) lent bytes short reads says told = reading_ran site stamp _ _ lent bytes short refl says told
-ran_read site stamp (Zrange key range is_turned with_scores) lent bytes short reads says told = reading_ran site stamp _ _ lent bytes short refl says told
+ran_read site stamp (Ping message) lent bytes short reads says told = reading_ran site stamp _ _ _ _ lent bytes short refl says told
+ran_read site stamp (Zscore key member) lent bytes short reads says told = reading_ran site stamp _ _ _ _ lent bytes short refl says told
+ran_read site stamp (Zcard key) lent bytes short reads says told = reading_ran site stamp _ _ _ _ lent bytes short refl says told
+ran_read site stamp (Zcount key min max) lent bytes short reads says told = reading_ran site stamp _ _ _ _ lent bytes short refl says told
+ran_read site stamp (Zrank key member) lent bytes short reads says told = reading_ran site stamp _ _ _ _ lent bytes short refl says told
+ran_read site stamp (Zrevrank key member) lent bytes short reads says told = reading_ran site stamp _ _ _ _ lent bytes short refl says told
+ran_read site stamp (Zrange key range is_turned with_scores) lent bytes short reads says told = reading_ran site stamp _ _ _ _ lent bytes short refl says told
 ran_read site stamp (Zadd key flags pairs) lent bytes short reads says told = absurd (true≢false (sym reads))
 ran_read site stamp (ZaddIncr key flags increment member) lent bytes short reads says told = absurd (true≢false (sym reads))
 ran_read site stamp (Zincrby key increment member) lent bytes short reads says told = absurd (true≢false (sym reads))
@@ -123,41 +117,26 @@ ran_read site stamp (Zpopmin key count) lent bytes short reads says told = absur
 ran_read site stamp (Zpopnear key) lent bytes short reads says told = absurd (true≢false (sym reads))
 ran_read site stamp (Del keys) lent bytes short reads says told = absurd (true≢false (sym reads))
 
--- the commands whose reply has what they made where they are cut
-abbrev pub is_pop : Command → Bool
-is_pop (Zpopmin key count) = true
-is_pop (Zpopnear key) = true
-is_pop command = false
-
 -- where want of memory is answered by an error, the reply says whether it is short
-pub ends_told : (site stamp : ℕ) (strict : Bool) (plan : Plan) (cut : ℕ → Want → Reply) (old new : Lending) (bytes : Word) (short : Bool) → ((k : ℕ) → cut k Memory ≡ cut_error k Memory) →
-    ((k : ℕ) → bytes ≡ bytes_of (cut_error k Memory) → short ≡ true) → RunsOver site stamp strict plan cut old new bytes → EndsOver site stamp strict plan cut old new bytes short
-ends_told site stamp strict plan cut old new bytes short error told (whole lent says) = whole lent says
-ends_told site stamp strict plan cut old new bytes short error told (part k Memory low lent why says memory) = part k Memory low lent why says (λ _. told k (says ∙ ap bytes_of (error k)))
-ends_told site stamp strict plan cut old new bytes short error told (part k Number low lent why says memory) = part k Number low lent why says (λ e. absurd (cc))
+pub ends_told : (site stamp : ℕ) (takes : Takes) (plan : Plan) (cut : ℕ → Want → Reply) (old new : Lending) (bytes : Word) (short : Bool) → ((k : ℕ) → cut k Memory ≡ cut_error k Memory) →
+    ((k : ℕ) → bytes ≡ bytes_of (cut_error k Memory) → short ≡ true) → RunsOver site stamp takes plan cut old new bytes → EndsOver site stamp takes plan cut old new bytes short
+ends_told site stamp takes plan cut old new bytes short error told (whole lent says) = whole lent says
+ends_told site stamp takes plan cut old new bytes short error told (part k Memory low lent why says memory) = part k Memory low lent why says (λ _. told k (says ∙ ap bytes_of (error k)))
+ends_told site stamp takes plan cut old new bytes short error told (part k Number low lent why says memory) = part k Number low lent why says (λ e. absurd (cc))
 
-pub run_told : (site stamp : ℕ) (command : Command) (old new : Lending) (reply : resp.Reply) (ran : Ran) → ((k : ℕ) → cut_reply command (queues_in old) k Memory ≡ cut_error k Memory) →
-    ran.reply ≡ reply → ((k : ℕ) → reply_bytes reply ≡ bytes_of (cut_error k Memory) → ran.is_short ≡ true) → IsRunOver site stamp command old new (reply_bytes reply) true →
-    IsRunOver site stamp command old new (reply_bytes ran.reply) ran.is_short
-run_told site stamp command old new reply ran error same told runs =
-    subst (λ r. IsRunOver site stamp command old new (reply_bytes r) ran.is_short) (sym same) (ends_told site stamp _ _ _ old new (reply_bytes reply) ran.is_short error told runs)
+pub run_told : (site stamp : ℕ) (command : Command) (old new : Lending) (reply told : resp.Reply) (short : Bool) → popped_of command ≡ None →
+    told ≡ reply → ((k : ℕ) → reply_bytes reply ≡ bytes_of (cut_error k Memory) → short ≡ true) → IsRunOver site stamp command old new (reply_bytes reply) true →
+    IsRunOver site stamp command old new (reply_bytes told) short
+run_told site stamp command old new reply told short other same says runs =
+    subst (λ r. IsRunOver site stamp command old new (reply_bytes r) short) (sym same)
+    (ends_told site stamp _ _ _ old new (reply_bytes reply) short (λ k. ap (λ popped. cut_pop popped (queues_in old) k Memory) other) says runs)
 
--- but for pops
-pub errors_told : (command : Command) (qs : Queues) → is_pop command ≡ false → (k : ℕ) → cut_reply command qs k Memory ≡ cut_error k Memory
-errors_told (Ping message) qs not k = refl
-errors_told (Zscore key member) qs not k = refl
-errors_told (Zcard key) qs not k = refl
-errors_told (Zcount key min max) qs not k = refl
-errors_told (Zrank key member) qs not k = refl
-errors_told (Zrevrank key member) qs not k = refl
-errors_told (Zrange key range is_turned with_scores) qs not k = refl
-errors_told (Zadd key flags pairs) qs not k = refl
-errors_told (ZaddIncr key flags increment member) qs not k = refl
-errors_told (Zincrby key increment member) qs not k = refl
-errors_told (Zrem key members) qs not k = refl
-errors_told (Zpopmin key count) qs not k = absurd (true≢false not)
-errors_told (Zpopnear key) qs not k = absurd (true≢false not)
-errors_told (Del keys) qs not k = refl
+-- what is short is not less so
+pub ends_shorter : (site stamp : ℕ) (takes : Takes) (plan : Plan) (cut : ℕ → Want → Reply) (old new : Lending) (reply told : resp.Reply) (less short : Bool) → told ≡ reply →
+    (less ≡ true → short ≡ true) → EndsOver site stamp takes plan cut old new (reply_bytes reply) less → EndsOver site stamp takes plan cut old new (reply_bytes told) short
+ends_shorter site stamp takes plan cut old new reply told less short same more (whole lent says) = whole lent (ap reply_bytes same ∙ says)
+ends_shorter site stamp takes plan cut old new reply told less short same more (part k want low lent why says memory) =
+    part k want low lent why (ap reply_bytes same ∙ says) (λ e. more (memory e))
 
 -- over the books as they were foreseen it runs as over those before
 pub ran_foreseen : (site stamp : ℕ) (asked command : Command) (old seen new : Lending) (bytes : Word) (short : Bool) → asked ≡ command → seen ≡ old →
@@ -165,30 +144,24 @@ pub ran_foreseen : (site stamp : ℕ) (asked command : Command) (old seen new : 
 ran_foreseen site stamp asked command old seen new bytes short is same runs =
     subst (λ lent. IsRunOver site stamp command lent new bytes short) same (subst (λ q. IsRunOver site stamp q seen new bytes short) is runs)
 
--- it runs, whether it is short or not
-pub ends_whole : (site stamp : ℕ) (strict : Bool) (plan : Plan) (cut : ℕ → Want → Reply) (old new : Lending) (bytes : Word) (short : Bool) →
-    EndsOver site stamp strict plan cut old new bytes short → RunsOver site stamp strict plan cut old new bytes
-ends_whole site stamp strict plan cut old new bytes short (whole lent says) = whole lent says
-ends_whole site stamp strict plan cut old new bytes short (part k want low lent why says memory) = part k want low lent why says (λ _. refl)
-
 -- a reply that is read off, where it is not short
-pub read_whole : (reply : Reply) (read : resp.Reply) (ran : Ran) → ran.reply ≡ read → ((k : ℕ) → reply_bytes read ≡ bytes_of (cut_error k Memory) → ran.is_short ≡ true) →
-    IsRead reply (reply_bytes read) → ran.is_short ≡ false → reply_bytes ran.reply ≡ bytes_of reply
-read_whole reply read ran same told (inl says) not = ap reply_bytes same ∙ says
-read_whole reply read ran same told (inr says) not = absurd (true≢false (sym (told 0 says) ∙ not))
+pub read_whole : (takes : Takes) (reply : Reply) (read : resp.Reply) (ran : Ran) → ran.reply ≡ read → ((k : ℕ) → reply_bytes read ≡ bytes_of (cut_error k Memory) → ran.is_short ≡ true) →
+    IsRead takes reply (reply_bytes read) → ran.is_short ≡ false → reply_bytes ran.reply ≡ bytes_of reply
+read_whole takes reply read ran same told (inl says) not = ap reply_bytes same ∙ says
+read_whole takes reply read ran same told (inr (lacks, says)) not = absurd (true≢false (sym (told 0 says) ∙ not))
 
 -- it runs over the books alone
-pub ran_books : (site stamp : ℕ) (strict : Bool) (plan : Plan) (cut : ℕ → Want → Reply) (old new : Lending) (bytes : Word) (short : Bool) →
-    EndsOver site stamp strict plan cut old new bytes short → Runs site stamp strict plan cut old.books new.books bytes
-ran_books site stamp strict plan cut old new bytes short (whole lent says) = run.whole (ap (λ (l : Lending). l.books) lent) says
-ran_books site stamp strict plan cut old new bytes short (part k want low lent why says memory) = run.part k want low (ap (λ (l : Lending). l.books) lent) why says
+pub ran_books : (site stamp : ℕ) (takes : Takes) (plan : Plan) (cut : ℕ → Want → Reply) (old new : Lending) (bytes : Word) (short : Bool) →
+    EndsOver site stamp takes plan cut old new bytes short → Runs site stamp takes plan cut old.books new.books bytes
+ran_books site stamp takes plan cut old new bytes short (whole lent says) = run.whole (ap (λ (l : Lending). l.books) lent) says
+ran_books site stamp takes plan cut old new bytes short (part k want low lent why says memory) = run.part k want low (ap (λ (l : Lending). l.books) lent) why says
 
-pub ran_rule : (site stamp : ℕ) (strict : Bool) (plan : Plan) (cut : ℕ → Want → Reply) (old new : Lending) (bytes : Word) (short : Bool) →
-    EndsOver site stamp strict plan cut old new bytes short → new.rule ≡ old.rule
-ran_rule site stamp strict plan cut old new bytes short (whole lent says) = ap (λ (l : Lending). l.rule) lent
-ran_rule site stamp strict plan cut old new bytes short (part k want low lent why says memory) = ap (λ (l : Lending). l.rule) lent
+pub ran_rule : (site stamp : ℕ) (takes : Takes) (plan : Plan) (cut : ℕ → Want → Reply) (old new : Lending) (bytes : Word) (short : Bool) →
+    EndsOver site stamp takes plan cut old new bytes short → new.rule ≡ old.rule
+ran_rule site stamp takes plan cut old new bytes short (whole lent says) = ap (λ (l : Lending). l.rule) lent
+ran_rule site stamp takes plan cut old new bytes short (part k want low lent why says memory) = ap (λ (l : Lending). l.rule) lent
 
-pub ran_heaps : (site stamp : ℕ) (strict : Bool) (plan : Plan) (cut : ℕ → Want → Reply) (old new : Lending) (bytes : Word) (short : Bool) →
-    EndsOver site stamp strict plan cut old new bytes short → new.heaps ≡ old.heaps
-ran_heaps site stamp strict plan cut old new bytes short (whole lent says) = ap (λ (l : Lending). l.heaps) lent
-ran_heaps site stamp strict plan cut old new bytes short (part k want low lent why says memory) = ap (λ (l : Lending). l.heaps) lent
+pub ran_heaps : (site stamp : ℕ) (takes : Takes) (plan : Plan) (cut : ℕ → Want → Reply) (old new : Lending) (bytes : Word) (short : Bool) →
+    EndsOver site stamp takes plan cut old new bytes short → new.heaps ≡ old.heaps
+ran_heaps site stamp takes plan cut old new bytes short (whole lent says) = ap (λ (l : Lending). l.heaps) lent
+ran_heaps site stamp takes plan cut old new bytes short (part k want low lent why says memory) = ap (λ (l : Lending). l.heaps) lent

@@ -1,6 +1,6 @@
 -- Reading that starts at a pair, whatever pair it is: the pairs before it are counted and left out.
 
-use Rattle.std.proofs.Common.{Bool, List, None, Option, Some, [], ap, arith, drop, false, inl, inr, length, min, max, not, refl, subst, sym, take, true, true≢false, ℕ, ◌&&◌, ◌+◌, ◌-◌, ◌∙◌, ◌∷◌, ◌≡◌, ◌≤◌}
+use Rattle.std.proofs.Common.{Bool, List, None, Option, Some, [], ap, arith, drop, false, inl, inr, length, min, max, not, refl, subst, suc, sym, take, true, true≢false, zero, ℕ, ◌&&◌, ◌+◌, ◌-◌, ◌<◌, ◌∙◌, ◌∷◌, ◌≡◌, ◌≤◌}
 use Rattle.std.proofs.lemmas.Bool.{and_from, and_parts, cases_lt, false_from_ne_true}
 use Rattle.std.proofs.lemmas.List.{drop-drop, drop_all}
 use Rattle.std.proofs.lemmas.List.Sums.{length-filter, sum_by-cons}
@@ -13,6 +13,7 @@ use Rattle.zq_commands.specs.Starts.{is_from, is_left, is_reached, is_read}
 use Rattle.zq_commands.specs.Weaving.{goes_before}
 use Rattle.zq_model.specs.Meaning.{IsRising, Scored}
 use Rattle.zq_moves.specs.Moves.{Queue}
+use Rattle.zq_plans.specs.Plan.{is_there}
 use Rattle.zq_plans.specs.Ranges.{is_within, turned_if}
 use Rattle.zq_words.specs.declared.bound.Bound.{Bound}
 
@@ -164,3 +165,17 @@ module _ (t : Bool) (low high : Bound) where
 
     pub count_until : (q : Queue) → max (count_by (is_ahead t low high) q) (count_by is_early q) ≡ count_by (is_away t (Some p) low high) q
     count_until q = let all = count_away t (Some p) low high q in let left = count_early q in omega (arith, all, left)
+
+-- some are taken from a place inside on
+some_taken : (xs : Queue) (from to : ℕ) → from < length xs → from < to → is_there (slice_range xs from to) ≡ true
+some_taken [] from to low wide = absurd (omega (arith, low))
+some_taken (x ∷ xs) zero to low wide = let more : to - 0 ≡ suc (to - 1) = omega (arith, wide) in ap (λ n. is_there (take n (x ∷ xs))) more
+some_taken (x ∷ xs) (suc from) to low wide =
+    let same : to - suc from ≡ to - 1 - from = omega arith in
+    ap (λ n. is_there (take n (drop from xs))) same ∙ some_taken xs from (to - 1) (omega (arith, low)) (omega (arith, wide))
+
+pub some_there : (t : Bool) (low high : Bound) (q : Queue) (within from to : ℕ) → within ≡ count_by (is_within low high) q → from < within → from < to →
+    is_there (slice_range (filter (is_within low high) (turned_if t q)) from to) ≡ true
+some_there t low high q within from to all inside wide =
+    let r = turned_if t q in
+    some_taken (filter (is_within low high) r) from to (omega (arith, all, inside, count_turned t (is_within low high) q, length-filter (is_within low high) r)) wide

@@ -14,7 +14,7 @@ use Rattle.zq_moves.specs.Lent.{books_after, is_home, made, made_in}
 use Rattle.zq_moves.specs.Moves.{Move}
 use Rattle.zq_plans.specs.Plan.{Plan}
 use Rattle.zq_plans.specs.Replies.{Reply}
-use Rattle.zq_plans.specs.Run.{Runs, Want, part, whole}
+use Rattle.zq_plans.specs.Run.{Runs, Takes, Want, part, whole}
 use Rattle.zq_words.specs.Words.{Word}
 
 -- the book is of the heap that the one before it was of
@@ -43,16 +43,16 @@ module _ (site stamp : ℕ) where
       let first = made_alike move books i last.0 last.1 in
       (first.0, first.1, record { heap = last.2.heap ∙ first.2.heap; heaps = last.2.heaps ∙ first.2.heaps })
 
-  run_alike : (strict : Bool) (plan : Plan) (cut : ℕ → Want → Reply) (old new : List Book) (reply : Word) → Runs site stamp strict plan cut old new reply → AreAlike old new
-  run_alike strict plan cut old new reply (whole books _) = subst (AreAlike old) (sym books) (after_alike plan.moves old)
-  run_alike strict plan cut old new reply (part k want _ books _ _) = subst (AreAlike old) (sym books) (after_alike (take k plan.moves) old)
+  run_alike : (takes : Takes) (plan : Plan) (cut : ℕ → Want → Reply) (old new : List Book) (reply : Word) → Runs site stamp takes plan cut old new reply → AreAlike old new
+  run_alike takes plan cut old new reply (whole books _) = subst (AreAlike old) (sym books) (after_alike plan.moves old)
+  run_alike takes plan cut old new reply (part k want _ books _ _) = subst (AreAlike old) (sym books) (after_alike (take k plan.moves) old)
 
-  pub of_site_run : (strict : Bool) (plan : Plan) (cut : ℕ → Want → Reply) (old new : List Book) (reply : Word) → Runs site stamp strict plan cut old new reply →
+  pub of_site_run : (takes : Takes) (plan : Plan) (cut : ℕ → Want → Reply) (old new : List Book) (reply : Word) → Runs site stamp takes plan cut old new reply →
       AreOfSite old → length new ≡ length old → IsLending (lending_of new) → AreOfSite new
-  of_site_run strict plan cut old new reply runs are number lent = record {
+  of_site_run takes plan cut old new reply runs are number lent = record {
     number = subst (λ n. (1 ≤ n) × (n ≤ 16)) (sym number) are.number;
     each = λ i b at.
-        let was = run_alike strict plan cut old new reply runs i b at in
+        let was = run_alike takes plan cut old new reply runs i b at in
         let before = are.each i was.0 was.1 in
         let here = in_place new i b at in
         let its = lent_each (heaps_in new) new b lent.books here in

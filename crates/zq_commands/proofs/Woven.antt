@@ -1,6 +1,6 @@
 -- Lists of pairs in order, or in the order turned round, put together.
 
-use Rattle.std.proofs.Common.{Bool, Equal, Greater, Less, List, [], ap, arith, drop, false, inl, inr, refl, reverse, subst, suc, sym, take, true, true≢false, zero, ℕ, ◌++◌, ◌+◌, ◌∙◌, ◌∷◌, ◌≡◌, ◌≤◌, ◌⊎◌, cond}
+use Rattle.std.proofs.Common.{Bool, Equal, Greater, Less, List, [], ap, arith, drop, false, inl, inr, min, refl, reverse, subst, suc, sym, take, true, true≢false, zero, ℕ, ◌++◌, ◌+◌, ◌-◌, ◌∙◌, ◌∷◌, ◌≡◌, ◌≤◌, ◌⊎◌, cond}
 use Rattle.std.proofs.lemmas.Bool.{cond-false, cond-true}
 use Rattle.std.proofs.lemmas.Grind.{reverse_onto}
 use Rattle.std.proofs.lemmas.List.{append-nil, append_assoc, drop_all}
@@ -271,3 +271,20 @@ module _ (t : Bool) where
   pub woven_first : (n : ℕ) (a b c : Queue) → AreInOrder t a → AreInOrder t b → AreInOrder t c → ((y : Scored) → IsIn y a → IsIn y b → ⊥) → AreOf c a b →
       take n c ≡ woven t n (take n a) (take n b)
   woven_first n a b c oa ob oc apart of = take_woven n a b c oa ob oc apart of ∙ sym (woven_takes n n n (omega arith) (omega arith) a b)
+
+-- the first so many are no more than there are
+pub woven_most : (t : Bool) (n : ℕ) (first second : Queue) (m : ℕ) → m ≡ min n (length first + length second) → woven t m first second ≡ woven t n first second
+woven_most t zero first second m is = let none : m ≡ 0 = omega (arith, is) in ap (λ k. woven t k first second) none
+woven_most t (suc n) [] [] m is = let none : m ≡ 0 = omega (arith, is) in ap (λ k. woven t k [] []) none
+woven_most t (suc n) [] (q ∷ second) m is =
+    let more : m ≡ suc (m - 1) = omega (arith, is) in
+    ap (λ k. woven t k [] (q ∷ second)) more ∙ ap (λ r. q ∷ r) (woven_most t n [] second (m - 1) (omega (arith, is)))
+woven_most t (suc n) (p ∷ first) [] m is =
+    let more : m ≡ suc (m - 1) = omega (arith, is) in
+    ap (λ k. woven t k (p ∷ first) []) more ∙ ap (λ r. p ∷ r) (woven_most t n first [] (m - 1) (omega (arith, is)))
+woven_most t (suc n) (p ∷ first) (q ∷ second) m is =
+    let more : m ≡ suc (m - 1) = omega (arith, is) in
+    let left = woven_most t n first (q ∷ second) (m - 1) (omega (arith, is)) in
+    let right = woven_most t n (p ∷ first) second (m - 1) (omega (arith, is)) in
+    ap (λ k. woven t k (p ∷ first) (q ∷ second)) more
+    ∙ (λ i. if goes_before t p q then p ∷ left i else q ∷ right i)

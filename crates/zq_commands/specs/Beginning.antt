@@ -1,15 +1,11 @@
 -- How a call begins with the books of a site.
 
-use Rattle.std.specs.Prelude.{List, length, ℕ, ◌+◌, ◌<◌, ◌≡◌}
+use Rattle.std.specs.Prelude.{List, ℕ, ◌+◌, ◌<◌, ◌≡◌}
 use Rattle.zq_commands.specs.Lending.{IsDated}
 use Rattle.zq_commands.specs.VecBooks.{lending_of}
-use Rattle.zq_history.specs.Books.{Book, advanced, touched}
-use Rattle.zq_history.specs.Reach.{cut_of}
+use Rattle.zq_history.specs.Books.{Book}
+pub use Rattle.zq_history.specs.Reach.{begun}
 use Rattle.zq_model.specs.Sets.{IsIn}
-
--- the book as a call of this stamp begins with it: the tail is cut where it is long, and the stamp is the call's
-abbrev pub begun : ℕ → Book → Book
-begun stamp book = touched (advanced (cut_of (length book.tail)) book) stamp
 
 -- the stamp after the greatest of the books'
 pub record IsNextStamp (books : List Book) (next : ℕ) : Type 0 where

@@ -8,12 +8,12 @@ use Rattle.zq_commands.specs.declared.cleared.Cleared.{Cleared}
 use Rattle.zq_commands.specs.declared.cut.Cut.{Cut}
 use Rattle.zq_moves.specs.Moves.{after_all}
 use Rattle.zq_plans.specs.Plan.{drops}
-use Rattle.zq_plans.specs.Run.{IsWhy}
+use Rattle.zq_plans.specs.Run.{ForCopies, IsWhyOf}
 
 -- all of them where there was no cut, and else why the next was not made
 abbrev pub IsLeft : ℕ → List ℕ → Lending → Lending → ℕ → Option Cut → Type 0
 IsLeft site key old new made None = made ≡ length (queues_in old key)
-IsLeft site key old new made (Some cut) = IsWhy site (slice_get (drops key (queues_in old key)) made) new.books (want_of cut)
+IsLeft site key old new made (Some cut) = IsWhyOf ForCopies site (slice_get (drops key (queues_in old key)) made) new.books (want_of cut)
 
 -- the first pairs were dropped, so many as are counted
 pub record Clears (site stamp : ℕ) (key : List ℕ) (before : ℕ) (old new : Lending) (cleared : Cleared) : Type 0 where

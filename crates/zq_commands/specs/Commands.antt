@@ -4,7 +4,7 @@ use Rattle.std.specs.Prelude.{All, Bool, false, true, ℕ}
 use Rattle.zq_commands.specs.Lending.{HasBook, Lending, queues_in}
 use Rattle.zq_commands.specs.Running.{EndsOver}
 use Rattle.zq_plans.specs.Plan.{plan_of}
-use Rattle.zq_plans.specs.Run.{cut_reply, is_strict}
+use Rattle.zq_plans.specs.Run.{cut_reply, takes_of}
 use Rattle.zq_words.specs.Command.{Command, Ping, Zadd, ZaddIncr, Zcard, Zcount, Zincrby, Zrange, Zrank, Zrem, Zrevrank, Zscore}
 use Rattle.zq_words.specs.Words.{Word}
 
@@ -33,4 +33,4 @@ is_reading command = false
 -- the command's plan runs over the books, whole or in part, and only what is short was cut for want of memory
 abbrev pub IsRunOver : ℕ → ℕ → Command → Lending → Lending → Word → Bool → Type 0
 IsRunOver site stamp command old new reply short =
-    EndsOver site stamp (is_strict command) (plan_of command (queues_in old)) (cut_reply command (queues_in old)) old new reply short
+    EndsOver site stamp (takes_of command (queues_in old)) (plan_of command (queues_in old)) (cut_reply command (queues_in old)) old new reply short

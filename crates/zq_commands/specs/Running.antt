@@ -1,6 +1,6 @@
 -- How a plan runs over the books that are lent.
 
-use Rattle.std.specs.Prelude.{Bool, List, Option, [], length, slice_get, take, true, ℕ, ◌∷◌, ◌≡◌, ◌≤◌, ◌⊎◌}
+use Rattle.std.specs.Prelude.{Bool, List, None, Option, [], length, slice_get, take, true, ℕ, ◌∷◌, ◌≡◌, ◌≤◌, ◌⊎◌}
 use Rattle.zq_commands.specs.Lending.{Lending, told_by}
 use Rattle.zq_history.specs.Books.{Book}
 use Rattle.zq_model.specs.Operation.{Operation}
@@ -8,7 +8,7 @@ use Rattle.zq_moves.specs.Lent.{books_after, made}
 use Rattle.zq_moves.specs.Moves.{Move}
 use Rattle.zq_plans.specs.Plan.{Plan}
 use Rattle.zq_plans.specs.Replies.{Reply, bytes_of}
-use Rattle.zq_plans.specs.Run.{IsWhyOf, Memory, Want, cut_error}
+use Rattle.zq_plans.specs.Run.{IsWhyOf, MayLack, Memory, Takes, Want, cut_error}
 use Rattle.zq_words.specs.Words.{Word}
 
 -- what is told after moves over books, one after the other
@@ -21,16 +21,17 @@ abbrev pub lent_after_all : ℕ → ℕ → List Move → Lending → Lending
 lent_after_all site stamp moves lent = record lent { books = books_after site stamp moves lent.books; told = told_after site stamp moves lent.books lent.told }
 
 -- the plan runs, whole or in part, and only what is short was cut for want of memory
-pub data EndsOver (site stamp : ℕ) (strict : Bool) (plan : Plan) (cut : ℕ → Want → Reply) (old new : Lending) (reply : Word) (short : Bool) : Type 0 where
-  whole : new ≡ lent_after_all site stamp plan.moves old → reply ≡ bytes_of plan.reply → EndsOver site stamp strict plan cut old new reply short
+pub data EndsOver (site stamp : ℕ) (takes : Takes) (plan : Plan) (cut : ℕ → Want → Reply) (old new : Lending) (reply : Word) (short : Bool) : Type 0 where
+  whole : new ≡ lent_after_all site stamp plan.moves old → reply ≡ bytes_of plan.reply → EndsOver site stamp takes plan cut old new reply short
   part : (k : ℕ) → (want : Want) → k ≤ length plan.moves → new ≡ lent_after_all site stamp (take k plan.moves) old →
-      IsWhyOf strict site (slice_get plan.moves k) new.books want → reply ≡ bytes_of (cut k want) → (want ≡ Memory → short ≡ true) →
-      EndsOver site stamp strict plan cut old new reply short
+      IsWhyOf takes site (slice_get plan.moves k) new.books want → reply ≡ bytes_of (cut k want) → (want ≡ Memory → short ≡ true) →
+      EndsOver site stamp takes plan cut old new reply short
 
 -- the plan runs, whole or in part
-abbrev pub RunsOver : ℕ → ℕ → Bool → Plan → (ℕ → Want → Reply) → Lending → Lending → Word → Type 0
-RunsOver site stamp strict plan cut old new reply = EndsOver site stamp strict plan cut old new reply true
+abbrev pub RunsOver : ℕ → ℕ → Takes → Plan → (ℕ → Want → Reply) → Lending → Lending → Word → Type 0
+RunsOver site stamp takes plan cut old new reply = EndsOver site stamp takes plan cut old new reply true
 
--- the bytes of a reply that is read off, or of the error for want of memory
-abbrev pub IsRead : Reply → Word → Type 0
-IsRead reply bytes = (bytes ≡ bytes_of reply) ⊎ (bytes ≡ bytes_of (cut_error 0 Memory))
+-- the bytes of a reply that is read off, or of the error for want of memory, where there may be none
+abbrev pub IsRead : Takes → Reply → Word → Type 0
+IsRead takes reply bytes =
+    (bytes ≡ bytes_of reply) ⊎ (MayLack takes 0 None [] × (bytes ≡ bytes_of (cut_error 0 Memory)))

@@ -13,12 +13,6 @@ use zq_journal::Book;
 /// The last stamp.
 const LAST: u64 = 4_611_686_018_427_387_904;
 
-/// From this length on a tail is cut.
-const LONG: usize = 4096;
-
-/// How many records a cut leaves.
-const KEPT: usize = 2048;
-
 impl SiteBooks {
     /// The stamp of the next call: the one after the greatest of the books', and `None` where that is the last.
     #[tactic(auto, unfolding(zq_journal::specs::Books::LAST_STAMP))]
@@ -30,8 +24,8 @@ impl SiteBooks {
         if stamp < LAST { Some(stamp + 1) } else { None }
     }
 
-    /// Begins a call of this stamp, which is no less than the books': cuts each tail of 4,096 records or more to its
-    /// newest 2,048, and raises each book's stamp to the call's. It takes no memory.
+    /// Begins a call of this stamp, which is no less than the books': cuts each tail to its limits, and raises each book's
+    /// stamp to the call's. It takes no memory.
     pub fn begin(&mut self, stamp: u64)
         requires dated { IsDated stamp (lending_of self.old) }
         ensures begun { self.new ≡ map (begun stamp) self.old }
@@ -53,15 +47,11 @@ fn begin_all(books: &mut [Book], stamp: u64)
 }
 
 /// Begins a call in a book.
-#[tactic(auto, unfolding(zq_history::specs::Reach::LONG, zq_history::specs::Reach::KEPT))]
 fn begin_in(book: &mut Book, stamp: u64)
     requires stamp { book.old.stamp ≤ stamp }
     requires bounded { stamp ≤ LAST_STAMP }
     ensures { book.new ≡ begun stamp book.old }
 {
-    let length = book.tail_len();
-    if length >= LONG {
-        let _ = book.advance(length - KEPT);
-    }
+    book.cut();
     book.touch(stamp);
 }

@@ -1,13 +1,14 @@
 //! DEL.
 
-ghost use Rattle.std.specs.Prelude.{All, IsErrOf, IsTrue, Ok, OnErr, [], false, length, slice_get, true, ◌<◌, ◌≡◌, ◌≤◌};
+ghost use Rattle.std.specs.Prelude.{All, IsErrOf, IsTrue, None, Ok, OnErr, Some, [], false, length, slice_get, true, ◌<◌, ◌≡◌, ◌≤◌};
 ghost use Rattle.zq_commands.specs.Clearing.{Clears};
 ghost use Rattle.zq_commands.specs.FirstPairs.{DropsFirst};
 ghost use Rattle.zq_commands.specs.Lending.{IsDated, IsLending, queues_in};
 ghost use Rattle.zq_commands.specs.Running.{RunsOver};
+ghost use Rattle.zq_commands.specs.declared.cut.Cut.{Cut as Cuts};
 ghost use Rattle.zq_model.specs.Operation.{LONGEST};
 ghost use Rattle.zq_plans.specs.Plan as plan;
-ghost use Rattle.zq_plans.specs.Run.{IsWhy, Number, cut_error};
+ghost use Rattle.zq_plans.specs.Run.{ForCopies, IsWhy, Number, cut_error};
 ghost use Rattle.zq_resp.specs.Reply.{is_writable, reply_bytes};
 ghost use Rattle.zq_words.specs.Limits.{IsShort};
 ghost use Rattle.zq_words.specs.Words.{views};
@@ -17,6 +18,7 @@ use crate::cleared::Cleared;
 use crate::cut::Cut;
 use crate::dropping::{copy_top, drop_top};
 use crate::replies::{count_reply, cut_reply};
+use crate::tops::top_of;
 use std::alloc::Global;
 use zq_dots::SiteNo;
 use zq_resp::Reply;
@@ -33,7 +35,7 @@ pub fn clear_keys<B: Books>(
     requires dated { IsDated stamp (B.lent books.old) }
     requires keys { All IsShort (views keys.now) }
     requires few { length keys.now ≤ 65536 }
-    ensures ran { RunsOver site stamp false (plan.in_turn plan.del_part (views keys.now) (queues_in (B.lent books.old))) cut_error
+    ensures ran { RunsOver site stamp ForCopies (plan.in_turn plan.del_part (views keys.now) (queues_in (B.lent books.old))) cut_error
         (B.lent books.old) (B.lent books.new) (reply_bytes result) }
     ensures lent { IsLending (B.lent books.new) }
     ensures dated { IsDated stamp (B.lent books.new) }
@@ -93,7 +95,20 @@ fn clear_key<B: Books>(
     }
     Cleared {
         done,
-        cut: Some(Cut::NoMemory),
+        cut: cut_at_last(books, key),
+    }
+}
+
+/// Where no number counts one more move: why it is not made, if there is one to make.
+fn cut_at_last<B: Books>(books: &B, key: &[u8]) -> Option<Cut>
+    requires { IsLending (B.lent books.now) }
+    ensures none { result ≡ None → queues_in (B.lent books.now) key.now ≡ [] }
+    ensures some { (cut : Cuts) → result ≡ Some cut → cut ≡ Cut.NoMemory }
+    ensures there { (cut : Cuts) → result ≡ Some cut → IsTrue (plan.is_there (queues_in (B.lent books.now) key.now)) }
+{
+    match top_of(books, key) {
+        None => None,
+        Some(_) => Some(Cut::NoMemory),
     }
 }
 
@@ -113,6 +128,7 @@ fn drop_first<B: Books>(
     ensures idle { result ≡ Ok false → B.lent books.new ≡ B.lent books.old }
     ensures refused { OnErr result (B.lent books.new ≡ B.lent books.old) }
     ensures worn { IsErrOf result Cut.Worn → IsWhy site (slice_get (plan.drops key.now (queues_in (B.lent books.old) key.now)) 0) (B.lent books.old).books Number }
+    ensures there { OnErr result (IsTrue (plan.is_there (queues_in (B.lent books.old) key.now))) }
     ensures lent { IsLending (B.lent books.new) }
     ensures dated { IsDated stamp (B.lent books.new) }
     ensures keeps { B.keeps books.old books.new }

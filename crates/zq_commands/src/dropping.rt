@@ -1,11 +1,11 @@
 //! The first pair of a key, copied and dropped.
 
-ghost use Rattle.std.specs.Prelude.{IfOk, IfSome, IsErrOf, OnErr, OnOk, Some, length, option_map, slice_get, true, ◌≡◌, ◌≤◌};
+ghost use Rattle.std.specs.Prelude.{IfOk, IfSome, IsErrOf, IsTrue, OnErr, OnOk, Some, length, option_map, slice_get, true, ◌≡◌, ◌≤◌};
 ghost use Rattle.zq_commands.specs.Arrays.{copied_parts};
 ghost use Rattle.zq_commands.specs.Lending.{IsDated, IsHomeAt, IsLending, queues_in};
 ghost use Rattle.zq_commands.specs.FirstPairs.{DropsFirst, top_in};
 ghost use Rattle.zq_model.specs.Operation.{LONGEST};
-ghost use Rattle.zq_plans.specs.Plan.{drops};
+ghost use Rattle.zq_plans.specs.Plan.{drops, is_there};
 ghost use Rattle.zq_plans.specs.Replies.{parts_of_pair};
 ghost use Rattle.zq_plans.specs.Run.{IsWhy, Number};
 
@@ -32,6 +32,7 @@ pub fn copy_top<B: Books>(books: &B, alloc: Global, key: &[u8]) -> Result<Option
     ensures copied { IfOk result (λ copied. option_map copied_parts copied ≡ option_map (parts_of_pair true) (top_in (B.lent books.now) key.now)) }
     ensures home { IfOk result (λ copied. IfSome copied (λ pair. IsHomeAt key.now pair.member.items pair.place (B.lent books.now))) }
     ensures refused { IsErrOf result Cut.Worn → ⊥ }
+    ensures there { OnErr result (IsTrue (is_there (queues_in (B.lent books.now) key.now))) }
 {
     let Some(top) = top_of(books, key) else {
         return Ok(None);

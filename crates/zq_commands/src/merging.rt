@@ -1,6 +1,6 @@
 //! Two lists of pairs put together.
 
-ghost use Rattle.std.specs.Prelude.{IfOk, IsTrue, is_some, length, map, option_map, ◌≡◌, ◌≤◌};
+ghost use Rattle.std.specs.Prelude.{IfOk, IsTrue, is_some, length, map, option_map, ◌+◌, ◌≡◌, ◌≤◌};
 ghost use Rattle.zq_commands.specs.FirstPairs.{lent_pair};
 ghost use Rattle.zq_commands.specs.Weaving.{goes_before, is_next, woven};
 
@@ -21,10 +21,11 @@ pub fn merge<'a>(
     if second.is_empty() {
         return Ok(first);
     }
-    weave(alloc, &first, &second, is_turned, most)
+    let few = most.min(first.len() + second.len());
+    weave(alloc, &first, &second, is_turned, few)
 }
 
-/// The same into memory of its own.
+/// The same into memory of its own, of which there is room first for all of them.
 fn weave<'a>(
     alloc: Global,
     first: &[(i128, &'a [u8])],
@@ -32,9 +33,10 @@ fn weave<'a>(
     is_turned: bool,
     most: usize,
 ) -> Result<Vec<(i128, &'a [u8])>, AllocError>
+    requires few { most ≤ length first.now + length second.now }
     ensures { IfOk result (λ pairs. map lent_pair pairs.items ≡ woven is_turned most (map lent_pair first.now) (map lent_pair second.now)) }
 {
-    let mut pairs = Vec::new(alloc);
+    let mut pairs = Vec::with_capacity(alloc, most)?;
     let mut left = 0;
     let mut right = 0;
     let mut rest = most;

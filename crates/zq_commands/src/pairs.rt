@@ -1,10 +1,12 @@
 //! Pairs as the parts of a reply.
 
-ghost use Rattle.std.specs.Prelude.{IfOk, IsTrue, OnOk, [], drop, flat_map, map, ◌++◌, ◌∷◌, ◌≡◌};
+ghost use Rattle.std.specs.Prelude.{IfOk, IsTrue, OnErr, OnOk, [], drop, flat_map, map, ◌++◌, ◌∷◌, ◌≡◌};
 ghost use Rattle.zq_commands.specs.Arrays.{are_writable};
 ghost use Rattle.zq_commands.specs.FirstPairs.{lent_pair};
 ghost use Rattle.zq_commands.specs.Running.{IsRead};
+ghost use Rattle.zq_plans.specs.Plan.{is_there};
 ghost use Rattle.zq_plans.specs.Replies as plan;
+ghost use Rattle.zq_plans.specs.Run.{ForReply};
 ghost use Rattle.zq_resp.specs.Reply.{bulk, is_writable, reply_bytes};
 
 use crate::cut::Cut;
@@ -14,7 +16,8 @@ use zq_resp::{Reply, Text};
 
 /// The members of these pairs from a place on, each with its score behind it where scores are asked for.
 pub fn pairs_reply(alloc: Global, pairs: &[(i128, &[u8])], from: usize, with_scores: bool) -> Reply
-    ensures read { IsRead (plan.pairs_reply with_scores (drop from (map lent_pair pairs.now))) (reply_bytes result) }
+    ensures read { IsRead (ForReply (is_there (drop from (map lent_pair pairs.now))) 0)
+        (plan.pairs_reply with_scores (drop from (map lent_pair pairs.now))) (reply_bytes result) }
     ensures writable { IsTrue (is_writable result) }
 {
     match copy_parts(alloc, pairs, from, with_scores) {
@@ -30,6 +33,7 @@ fn copy_parts(
     with_scores: bool,
 ) -> Result<Vec<Reply>, AllocError>
     ensures parts { IfOk result (λ parts. map reply_bytes parts.items ≡ map bulk (flat_map (plan.parts_of_pair with_scores) (drop from (map lent_pair pairs.now)))) }
+    ensures some { OnErr result (IsTrue (is_there (drop from (map lent_pair pairs.now)))) }
     ensures writable { IfOk result (λ parts. IsTrue (are_writable parts.items)) }
 {
     let mut parts = Vec::new(alloc);

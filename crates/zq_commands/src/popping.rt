@@ -9,7 +9,7 @@ ghost use Rattle.zq_commands.specs.FirstPairs.{PopsFirst};
 ghost use Rattle.zq_model.specs.Operation.{LONGEST};
 ghost use Rattle.zq_plans.specs.Plan as plan;
 ghost use Rattle.zq_plans.specs.Replies as replies;
-ghost use Rattle.zq_plans.specs.Run.{IsWhy, Memory, Number, cut_pop, cut_text};
+ghost use Rattle.zq_plans.specs.Run.{ForCopies, IsWhy, Memory, Number, cut_pop, cut_text};
 ghost use Rattle.zq_resp.specs.Reply.{is_writable, reply_bytes};
 
 use crate::books::Books;
@@ -34,7 +34,7 @@ pub fn pop<B: Books>(
     requires lent { IsLending (B.lent books.old) }
     requires dated { IsDated stamp (B.lent books.old) }
     requires key { length key.now ≤ LONGEST }
-    ensures ran { EndsOver site stamp false (plan.pop key.now (count) (queues_in (B.lent books.old))) (cut_pop (Some (key.now, count)) (queues_in (B.lent books.old)))
+    ensures ran { EndsOver site stamp ForCopies (plan.pop key.now (count) (queues_in (B.lent books.old))) (cut_pop (Some (key.now, count)) (queues_in (B.lent books.old)))
         (B.lent books.old) (B.lent books.new) (reply_bytes result.reply) result.is_short }
     ensures lent { IsLending (B.lent books.new) }
     ensures dated { IsDated stamp (B.lent books.new) }
@@ -66,7 +66,7 @@ fn pop_first<B: Books>(books: &mut B, alloc: Global, site: SiteNo, stamp: u64, k
     requires lent { IsLending (B.lent books.old) }
     requires dated { IsDated stamp (B.lent books.old) }
     requires key { length key.now ≤ LONGEST }
-    ensures ran { EndsOver site stamp false (plan.pop key.now 1 (queues_in (B.lent books.old))) (cut_pop (Some (key.now, 1)) (queues_in (B.lent books.old)))
+    ensures ran { EndsOver site stamp ForCopies (plan.pop key.now 1 (queues_in (B.lent books.old))) (cut_pop (Some (key.now, 1)) (queues_in (B.lent books.old)))
         (B.lent books.old) (B.lent books.new) (reply_bytes result.reply) result.is_short }
     ensures lent { IsLending (B.lent books.new) }
     ensures dated { IsDated stamp (B.lent books.new) }
@@ -150,6 +150,7 @@ fn pop_one<B: Books>(
     ensures refused { OnErr result (B.lent books.new ≡ B.lent books.old) }
     ensures kept { OnErr result (parts.new.items ≡ parts.old.items) }
     ensures worn { IsErrOf result Cut.Worn → IsWhy site (slice_get (plan.drops key.now (queues_in (B.lent books.old) key.now)) 0) (B.lent books.old).books Number }
+    ensures there { OnErr result (IsTrue (plan.is_there (queues_in (B.lent books.old) key.now))) }
     ensures lent { IsLending (B.lent books.new) }
     ensures dated { IsDated stamp (B.lent books.new) }
     ensures keeps { B.keeps books.old books.new }

@@ -6,7 +6,7 @@ ghost use Rattle.zq_commands.specs.Running.{RunsOver};
 ghost use Rattle.zq_commands.specs.Stepping.{Steps};
 ghost use Rattle.zq_model.specs.Operation.{LONGEST, Put as Putting};
 ghost use Rattle.zq_plans.specs.Plan.{in_turn, one, zadd_part};
-ghost use Rattle.zq_plans.specs.Run.{IsWhy, Number, cut_error};
+ghost use Rattle.zq_plans.specs.Run.{ForMoves, IsWhy, Number, cut_error};
 ghost use Rattle.zq_resp.specs.Reply.{is_writable, reply_bytes};
 ghost use Rattle.zq_words.specs.Limits.{IsPair};
 ghost use Rattle.zq_words.specs.Shown.{pair_shown};
@@ -40,7 +40,7 @@ pub fn put_pairs<B: Books>(
     requires key { length key.now ≤ LONGEST }
     requires pairs { All IsPair (map pair_shown pairs.now) }
     requires few { length pairs.now ≤ 65536 }
-    ensures ran { RunsOver site stamp true (in_turn (zadd_part key.now flags) (map pair_shown pairs.now) (queues_in (B.lent books.old))) cut_error
+    ensures ran { RunsOver site stamp ForMoves (in_turn (zadd_part key.now flags) (map pair_shown pairs.now) (queues_in (B.lent books.old))) cut_error
         (B.lent books.old) (B.lent books.new) (reply_bytes result) }
     ensures lent { IsLending (B.lent books.new) }
     ensures dated { IsDated stamp (B.lent books.new) }

@@ -6,7 +6,7 @@ ghost use Rattle.zq_commands.specs.Running.{RunsOver};
 ghost use Rattle.zq_model.specs.Operation.{LONGEST};
 ghost use Rattle.zq_moves.specs.Moves.{score_in};
 ghost use Rattle.zq_plans.specs.Plan as plan;
-ghost use Rattle.zq_plans.specs.Run.{IsWhy, Number, cut_error};
+ghost use Rattle.zq_plans.specs.Run.{ForMoves, IsWhy, Number, cut_error};
 ghost use Rattle.zq_commands.specs.Wide.{IsWide};
 ghost use Rattle.zq_resp.specs.Reply.{is_writable, reply_bytes};
 ghost use Rattle.zq_words.specs.Limits.{IsPair};
@@ -37,7 +37,7 @@ pub fn raise<B: Books>(
     requires home { HasBook key.now pair.now.member.now (B.lent books.old) }
     requires key { length key.now ≤ LONGEST }
     requires pair { IsPair (pair_shown pair.now) }
-    ensures ran { RunsOver site stamp false (plan.raise key.now pair.now.member.now (score_in (queues_in (B.lent books.old) key.now) pair.now.member.now) pair.now.score) cut_error
+    ensures ran { RunsOver site stamp ForMoves (plan.raise key.now pair.now.member.now (score_in (queues_in (B.lent books.old) key.now) pair.now.member.now) pair.now.score) cut_error
         (B.lent books.old) (B.lent books.new) (reply_bytes result) }
     ensures lent { IsLending (B.lent books.new) }
     ensures dated { IsDated stamp (B.lent books.new) }
@@ -63,7 +63,7 @@ pub fn raise_if<B: Books>(
     requires home { HasBook key.now pair.now.member.now (B.lent books.old) }
     requires key { length key.now ≤ LONGEST }
     requires pair { IsPair (pair_shown pair.now) }
-    ensures ran { RunsOver site stamp false (plan.raise_if flags key.now pair.now.member.now (score_in (queues_in (B.lent books.old) key.now) pair.now.member.now) pair.now.score) cut_error
+    ensures ran { RunsOver site stamp ForMoves (plan.raise_if flags key.now pair.now.member.now (score_in (queues_in (B.lent books.old) key.now) pair.now.member.now) pair.now.score) cut_error
         (B.lent books.old) (B.lent books.new) (reply_bytes result) }
     ensures lent { IsLending (B.lent books.new) }
     ensures dated { IsDated stamp (B.lent books.new) }
@@ -93,7 +93,7 @@ fn raise_from<B: Books>(
     requires key { length key.now ≤ LONGEST }
     requires pair { IsPair (pair_shown pair.now) }
     requires wide { IfSome found.score IsWide }
-    ensures ran { RunsOver site stamp false (plan.raise key.now pair.now.member.now found.score pair.now.score) cut_error (B.lent books.old) (B.lent books.new) (reply_bytes result) }
+    ensures ran { RunsOver site stamp ForMoves (plan.raise key.now pair.now.member.now found.score pair.now.score) cut_error (B.lent books.old) (B.lent books.new) (reply_bytes result) }
     ensures lent { IsLending (B.lent books.new) }
     ensures dated { IsDated stamp (B.lent books.new) }
     ensures keeps { B.keeps books.old books.new }
@@ -130,6 +130,7 @@ fn raise_member<B: Books>(
     ensures made { OnOk result (B.lent books.new ≡ lent_after site stamp (record { key = key.now; member = pair.now.member.now; act = plan.raising found.score pair.now.score }) (B.lent books.old)) }
     ensures refused { OnErr result (B.lent books.new ≡ B.lent books.old) }
     ensures worn { IsErrOf result Cut.Worn → IsWhy site (Some (record { key = key.now; member = pair.now.member.now; act = plan.raising found.score pair.now.score })) (B.lent books.old).books Number }
+    ensures memory { IsErrOf result Cut.NoMemory → IsWhy site (Some (record { key = key.now; member = pair.now.member.now; act = plan.raising found.score pair.now.score })) (B.lent books.old).books Number → ⊥ }
     ensures lent { IsLending (B.lent books.new) }
     ensures dated { IsDated stamp (B.lent books.new) }
     ensures keeps { B.keeps books.old books.new }

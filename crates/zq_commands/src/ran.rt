@@ -1,9 +1,10 @@
 //! What running a command gives.
 
-ghost use Rattle.std.specs.Prelude.{ℕ, true, ◌≡◌};
+ghost use Rattle.std.specs.Prelude.{Bool, true, ℕ, ◌≡◌};
 ghost use Rattle.zq_plans.specs.Replies.{bytes_of};
 ghost use Rattle.zq_plans.specs.Run.{Memory, cut_error};
 ghost use Rattle.zq_resp.specs.Reply.{reply_bytes};
+ghost use Rattle.zq_resp.specs.declared.reply.Reply.{Reply as Replies};
 
 use zq_resp::Reply;
 
@@ -15,14 +16,56 @@ pub struct Ran {
     pub is_short: bool,
 }
 
-impl Ran {
-    /// The reply of a command that answers an error where memory is refused.
-    pub(crate) fn of(reply: Reply) -> Ran
-        ensures reply { result.reply ≡ reply }
-        ensures short { (k : ℕ) → reply_bytes reply ≡ bytes_of (cut_error k Memory) → result.is_short ≡ true }
-    {
-        let is_short = is_memory_error(&reply);
-        Ran { reply, is_short }
+/// What a run is handed back as: its reply alone, or with whether memory was refused.
+pub trait Outcome: Sized {
+    /// The reply.
+    ghost reply: { Self → Replies };
+
+    /// Whether memory may have been refused.
+    ghost is_short: { Self → Bool };
+
+    /// That of a command that answers an error where memory is refused.
+    fn of_reply(given: Reply) -> Self
+        ensures reply { reply result ≡ given }
+        ensures short { (k : ℕ) → reply_bytes given ≡ bytes_of (cut_error k Memory) → is_short result ≡ true };
+
+    /// That of one that may answer what it did until then.
+    fn of_ran(ran: Ran) -> Self
+        ensures reply { reply result ≡ ran.reply }
+        ensures short { ran.is_short ≡ true → is_short result ≡ true };
+}
+
+impl Outcome for Reply {
+    ghost reply = { λ given. given };
+
+    ghost is_short = { λ given. true };
+
+    #[inline(always)]
+    fn of_reply(given: Reply) -> Reply {
+        given
+    }
+
+    #[inline(always)]
+    fn of_ran(ran: Ran) -> Reply {
+        ran.reply
+    }
+}
+
+impl Outcome for Ran {
+    ghost reply = { λ ran. ran.reply };
+
+    ghost is_short = { λ ran. ran.is_short };
+
+    fn of_reply(given: Reply) -> Ran {
+        let is_short = is_memory_error(&given);
+        Ran {
+            reply: given,
+            is_short,
+        }
+    }
+
+    fn of_ran(ran: Ran) -> Ran {
+        ran
     }
 }
 

@@ -1,14 +1,16 @@
 //! ZRANGE.
 
-ghost use Rattle.std.specs.Prelude.{IfOk, IsTrue, Some, [], count_by, drop, filter, length, map, option_map, slice_get, slice_range, take, ◌∷◌, ◌<◌, ◌≡◌};
+ghost use Rattle.std.specs.Prelude.{IfOk, IsTrue, OnErr, Some, [], count_by, drop, filter, length, map, option_map, slice_get, slice_range, take, ◌∷◌, ◌<◌, ◌≡◌};
 ghost use Rattle.zq_commands.specs.FirstPairs.{lent_pair};
 ghost use Rattle.zq_commands.specs.Lending.{IsLending, queues_in};
 ghost use Rattle.zq_commands.specs.Running.{IsRead};
 ghost use Rattle.zq_commands.specs.Starts.{is_read};
 ghost use Rattle.zq_history.specs.Books.{Book};
 ghost use Rattle.zq_moves.specs.Lent.{queues_of};
+ghost use Rattle.zq_plans.specs.Plan.{is_there};
 ghost use Rattle.zq_plans.specs.Ranges.{is_within, ranged, turned_if};
 ghost use Rattle.zq_plans.specs.Replies as plan;
+ghost use Rattle.zq_plans.specs.Run.{ForReply};
 ghost use Rattle.zq_resp.specs.Reply.{is_writable, reply_bytes};
 
 use crate::ahead::{count_ahead, first_place};
@@ -34,7 +36,8 @@ pub fn read_range<B: Books>(
     with_scores: bool,
 ) -> Reply
     requires { IsLending (B.lent books.now) }
-    ensures read { IsRead (plan.pairs_reply with_scores (ranged range.now (turned_if is_turned (queues_in (B.lent books.now) key.now)))) (reply_bytes result) }
+    ensures read { IsRead (ForReply (is_there (ranged range.now (turned_if is_turned (queues_in (B.lent books.now) key.now)))) (length (queues_in (B.lent books.now) key.now)))
+        (plan.pairs_reply with_scores (ranged range.now (turned_if is_turned (queues_in (B.lent books.now) key.now)))) (reply_bytes result) }
     ensures writable { IsTrue (is_writable result) }
 {
     let Some(size) = total_members(books, key) else {
@@ -61,7 +64,9 @@ fn section_pairs<'a, B: Books>(
 ) -> Result<(Vec<(i128, &'a [u8])>, usize), AllocError>
     requires lent { IsLending (B.lent books.now) }
     requires within { within ≡ count_by (is_within section.now.min section.now.max) (queues_in (B.lent books.now) key.now) }
-    ensures { IfOk result (λ found. drop found.1 (map lent_pair found.0.items) ≡
+    ensures some { OnErr result (IsTrue (is_there
+        (slice_range (filter (is_within section.now.min section.now.max) (turned_if is_turned (queues_in (B.lent books.now) key.now))) section.now.from section.now.to))) }
+    ensures pairs { IfOk result (λ found. drop found.1 (map lent_pair found.0.items) ≡
         slice_range (filter (is_within section.now.min section.now.max) (turned_if is_turned (queues_in (B.lent books.now) key.now))) section.now.from section.now.to) }
 {
     if section.to <= section.from || within <= section.from as u64 {

@@ -1,6 +1,6 @@
 //! The commands that only read.
 
-ghost use Rattle.std.specs.Prelude.{IsTrue, count_by, length, ◌≡◌, ◌≤◌};
+ghost use Rattle.std.specs.Prelude.{IsTrue, count_by, false, length, ◌≡◌, ◌≤◌};
 ghost use Rattle.zq_commands.specs.Lending.{HasBook, IsLending, queues_in};
 ghost use Rattle.zq_commands.specs.Running.{IsRead};
 ghost use Rattle.zq_model.specs.Operation.{LONGEST};
@@ -8,6 +8,7 @@ ghost use Rattle.zq_moves.specs.Moves.{score_in};
 ghost use Rattle.zq_moves.specs.Readings.{rank_in, turned_rank_in};
 ghost use Rattle.zq_plans.specs.Ranges.{is_within};
 ghost use Rattle.zq_plans.specs.Replies as plan;
+ghost use Rattle.zq_plans.specs.Run.{ForReply};
 ghost use Rattle.zq_resp.specs.Reply.{is_writable, reply_bytes};
 
 use crate::books::Books;
@@ -33,7 +34,8 @@ pub fn read_score<B: Books>(books: &B, key: &[u8], member: &[u8]) -> Reply
 /// ZCARD: the number of members of a key. One that no reply holds is answered as want of memory is.
 pub fn read_count<B: Books>(books: &B, key: &[u8]) -> Reply
     requires { IsLending (B.lent books.now) }
-    ensures read { IsRead (plan.count_reply (length (queues_in (B.lent books.now) key.now))) (reply_bytes result) }
+    ensures read { IsRead (ForReply false (length (queues_in (B.lent books.now) key.now)))
+        (plan.count_reply (length (queues_in (B.lent books.now) key.now))) (reply_bytes result) }
     ensures writable { IsTrue (is_writable result) }
 {
     match total_members(books, key) {
@@ -45,7 +47,8 @@ pub fn read_count<B: Books>(books: &B, key: &[u8]) -> Reply
 /// ZCOUNT: the number of pairs within two bounds. One that no reply holds is answered as want of memory is.
 pub fn read_within<B: Books>(books: &B, key: &[u8], min: &Bound, max: &Bound) -> Reply
     requires { IsLending (B.lent books.now) }
-    ensures read { IsRead (plan.count_reply (count_by (is_within min.now max.now) (queues_in (B.lent books.now) key.now))) (reply_bytes result) }
+    ensures read { IsRead (ForReply false (length (queues_in (B.lent books.now) key.now)))
+        (plan.count_reply (count_by (is_within min.now max.now) (queues_in (B.lent books.now) key.now))) (reply_bytes result) }
     ensures writable { IsTrue (is_writable result) }
 {
     match total_within(books, key, min, max) {
@@ -59,7 +62,8 @@ pub fn read_rank<B: Books>(books: &B, key: &[u8], member: &[u8]) -> Reply
     requires lent { IsLending (B.lent books.now) }
     requires home { HasBook key.now member.now (B.lent books.now) }
     requires key { length key.now ≤ LONGEST }
-    ensures read { IsRead (plan.place_reply (rank_in (queues_in (B.lent books.now) key.now) member.now)) (reply_bytes result) }
+    ensures read { IsRead (ForReply false (length (queues_in (B.lent books.now) key.now)))
+        (plan.place_reply (rank_in (queues_in (B.lent books.now) key.now) member.now)) (reply_bytes result) }
     ensures writable { IsTrue (is_writable result) }
 {
     let Some(score) = score_of(books, key, member) else {
@@ -76,7 +80,8 @@ pub fn read_turned_rank<B: Books>(books: &B, key: &[u8], member: &[u8]) -> Reply
     requires lent { IsLending (B.lent books.now) }
     requires home { HasBook key.now member.now (B.lent books.now) }
     requires key { length key.now ≤ LONGEST }
-    ensures read { IsRead (plan.place_reply (turned_rank_in (queues_in (B.lent books.now) key.now) member.now)) (reply_bytes result) }
+    ensures read { IsRead (ForReply false (length (queues_in (B.lent books.now) key.now)))
+        (plan.place_reply (turned_rank_in (queues_in (B.lent books.now) key.now) member.now)) (reply_bytes result) }
     ensures writable { IsTrue (is_writable result) }
 {
     let Some(score) = score_of(books, key, member) else {

@@ -6,7 +6,7 @@ ghost use Rattle.zq_commands.specs.Running.{RunsOver};
 ghost use Rattle.zq_commands.specs.Stepping.{Steps};
 ghost use Rattle.zq_model.specs.Operation.{Drop as Removal, LONGEST};
 ghost use Rattle.zq_plans.specs.Plan.{in_turn, one, zrem_part};
-ghost use Rattle.zq_plans.specs.Run.{IsWhy, Number, cut_error};
+ghost use Rattle.zq_plans.specs.Run.{ForMoves, IsWhy, Number, cut_error};
 ghost use Rattle.zq_resp.specs.Reply.{is_writable, reply_bytes};
 ghost use Rattle.zq_words.specs.Limits.{IsShort};
 ghost use Rattle.zq_words.specs.Words.{views};
@@ -36,7 +36,7 @@ pub fn drop_members<B: Books>(
     requires key { length key.now ≤ LONGEST }
     requires members { All IsShort (views members.now) }
     requires few { length members.now ≤ 65536 }
-    ensures ran { RunsOver site stamp true (in_turn (zrem_part key.now) (views members.now) (queues_in (B.lent books.old))) cut_error
+    ensures ran { RunsOver site stamp ForMoves (in_turn (zrem_part key.now) (views members.now) (queues_in (B.lent books.old))) cut_error
         (B.lent books.old) (B.lent books.new) (reply_bytes result) }
     ensures lent { IsLending (B.lent books.new) }
     ensures dated { IsDated stamp (B.lent books.new) }

@@ -5,7 +5,7 @@ ghost use Rattle.zq_commands.specs.Arrays.{are_writable, array_bytes};
 ghost use Rattle.zq_commands.specs.Cut.{want_of};
 ghost use Rattle.zq_commands.specs.Running.{IsRead};
 ghost use Rattle.zq_plans.specs.Replies as plan;
-ghost use Rattle.zq_plans.specs.Run.{Memory, cut_text};
+ghost use Rattle.zq_plans.specs.Run.{ForReply, Memory, cut_text, is_long};
 ghost use Rattle.zq_resp.specs.Reply.{is_writable, reply_bytes};
 
 use crate::cut::Cut;
@@ -23,7 +23,8 @@ pub fn count_reply(count: u64) -> Reply
 
 /// PING: its message, and PONG where it has none.
 pub fn message_reply(alloc: Global, message: Option<&[u8]>) -> Reply
-    ensures read { IsRead (plan.ping_reply (option_map (λ m. m.now) message.entry)) (reply_bytes result) }
+    ensures read { IsRead (ForReply (is_long (option_map (λ m. m.now) message.entry)) 0)
+        (plan.ping_reply (option_map (λ m. m.now) message.entry)) (reply_bytes result) }
     ensures writable { IsTrue (is_writable result) }
 {
     match message {

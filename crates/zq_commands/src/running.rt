@@ -1,12 +1,12 @@
 //! Commands over the books that are lent to them.
 
-ghost use Rattle.std.specs.Prelude.{IsTrue, false, true, ◌≡◌};
+ghost use Rattle.std.specs.Prelude.{IsTrue, None, false, true, ◌≡◌};
 ghost use Rattle.zq_commands.specs.Commands.{HasBooks, IsRunOver, is_reading};
 ghost use Rattle.zq_commands.specs.Lending.{IsDated, IsLending, queues_in};
 ghost use Rattle.zq_commands.specs.Running.{IsRead};
 ghost use Rattle.zq_plans.specs.Plan.{plan_of};
 ghost use Rattle.zq_plans.specs.Replies.{bytes_of};
-ghost use Rattle.zq_plans.specs.Run.{IsRun};
+ghost use Rattle.zq_plans.specs.Run.{IsRun, popped_of, takes_of};
 ghost use Rattle.zq_resp.specs.Reply.{is_writable, reply_bytes};
 ghost use Rattle.zq_words.specs.Limits.{IsWithinLimits};
 ghost use Rattle.zq_words.specs.Shown.{shown};
@@ -17,7 +17,7 @@ use crate::indexing::foresee;
 use crate::popping::pop;
 use crate::putting::put_pairs;
 use crate::raising::{raise, raise_if};
-use crate::ran::Ran;
+use crate::ran::{Outcome, Ran};
 use crate::ranging::read_range;
 use crate::reading::{read_count, read_rank, read_score, read_turned_rank, read_within};
 use crate::removing::drop_members;
@@ -52,7 +52,7 @@ pub fn run<B: Books>(
 {
     let kind = command.kind();
     foresee(books, alloc, kind);
-    reply_to(books, alloc, site, stamp, kind)
+    run_kind(books, alloc, site, stamp, kind)
 }
 
 /// The same, with whether memory was refused. What it made is told in the order of its moves, where the holder of the
@@ -79,37 +79,42 @@ pub fn run_told<B: Books>(
 }
 
 /// The same of what a command asks for. Only a pop is short without an error.
-fn run_kind<B: Books>(books: &mut B, alloc: Global, site: SiteNo, stamp: u64, kind: &Kind) -> Ran
+fn run_kind<B: Books, O: Outcome>(
+    books: &mut B,
+    alloc: Global,
+    site: SiteNo,
+    stamp: u64,
+    kind: &Kind,
+) -> O
     requires lent { IsLending (B.lent books.old) }
     requires dated { IsDated stamp (B.lent books.old) }
     requires homes { HasBooks (shown kind.now) (B.lent books.old) }
     requires limits { IsWithinLimits (shown kind.now) }
-    ensures ran { IsRunOver site stamp (shown kind.now) (B.lent books.old) (B.lent books.new) (reply_bytes result.reply) result.is_short }
+    ensures ran { IsRunOver site stamp (shown kind.now) (B.lent books.old) (B.lent books.new)
+        (reply_bytes (O.reply result)) (O.is_short result) }
     ensures lent { IsLending (B.lent books.new) }
     ensures dated { IsDated stamp (B.lent books.new) }
     ensures keeps { B.keeps books.old books.new }
-    ensures writable { IsTrue (is_writable result.reply) }
+    ensures writable { IsTrue (is_writable (O.reply result)) }
 {
     match kind {
-        Kind::Zpopmin { key, count } => pop(
-            books,
-            alloc,
-            site,
-            stamp,
-            key,
-            from_zero(*count) as u64,
-        ),
-        Kind::Zpopnear { key } => pop(books, alloc, site, stamp, key, 1),
-        _ => Ran::of(reply_to(books, alloc, site, stamp, kind)),
+        Kind::Zpopmin { key, count } => {
+            let count = from_zero(*count) as u64;
+            O::of_ran(pop(books, alloc, site, stamp, key, count))
+        }
+        Kind::Zpopnear { key } => O::of_ran(pop(books, alloc, site, stamp, key, 1)),
+        _ => O::of_reply(reply_to(books, alloc, site, stamp, kind)),
     }
 }
 
-/// The reply to what a command asks for.
+/// The reply to what a command asks for that pops nothing.
+#[inline(always)]
 fn reply_to<B: Books>(books: &mut B, alloc: Global, site: SiteNo, stamp: u64, kind: &Kind) -> Reply
     requires lent { IsLending (B.lent books.old) }
     requires dated { IsDated stamp (B.lent books.old) }
     requires homes { HasBooks (shown kind.now) (B.lent books.old) }
     requires limits { IsWithinLimits (shown kind.now) }
+    requires other { popped_of (shown kind.now) ≡ None }
     ensures ran { IsRunOver site stamp (shown kind.now) (B.lent books.old) (B.lent books.new) (reply_bytes result) true }
     ensures lent { IsLending (B.lent books.new) }
     ensures dated { IsDated stamp (B.lent books.new) }
@@ -131,11 +136,6 @@ fn reply_to<B: Books>(books: &mut B, alloc: Global, site: SiteNo, stamp: u64, ki
         }
         Kind::Zincrby { key, pair } => raise(books, alloc, site, stamp, key, pair),
         Kind::Zrem { key, members } => drop_members(books, alloc, site, stamp, key, members),
-        Kind::Zpopmin { key, count } => {
-            let count = from_zero(*count) as u64;
-            pop(books, alloc, site, stamp, key, count).reply
-        }
-        Kind::Zpopnear { key } => pop(books, alloc, site, stamp, key, 1).reply,
         Kind::Del { keys } => clear_keys(books, alloc, site, stamp, keys),
         reading => read(books, alloc, reading),
     }
@@ -149,7 +149,7 @@ pub fn read_told<B: Books>(books: &B, alloc: Global, command: &Command) -> Ran
     ensures read { result.is_short ≡ false → reply_bytes result.reply ≡ bytes_of (plan_of command.now (queues_in (B.lent books.now))).reply }
     ensures writable { IsTrue (is_writable result.reply) }
 {
-    Ran::of(read(books, alloc, command.kind()))
+    Ran::of_reply(read(books, alloc, command.kind()))
 }
 
 /// The same reply, or an error for want of memory.
@@ -158,7 +158,8 @@ fn read<B: Books>(books: &B, alloc: Global, kind: &Kind) -> Reply
     requires homes { HasBooks (shown kind.now) (B.lent books.now) }
     requires limits { IsWithinLimits (shown kind.now) }
     requires reads { IsTrue (is_reading (shown kind.now)) }
-    ensures read { IsRead (plan_of (shown kind.now) (queues_in (B.lent books.now))).reply (reply_bytes result) }
+    ensures read { IsRead (takes_of (shown kind.now) (queues_in (B.lent books.now)))
+        (plan_of (shown kind.now) (queues_in (B.lent books.now))).reply (reply_bytes result) }
     ensures writable { IsTrue (is_writable result) }
 {
     match kind {

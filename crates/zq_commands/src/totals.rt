@@ -1,11 +1,12 @@
 //! Counts over the books, each book's added to those before.
 
-ghost use Rattle.std.specs.Prelude.{IfSome, count_by, length, option_map, ◌+◌, ◌<◌, ◌^◌, ◌≡◌};
+ghost use Rattle.std.specs.Prelude.{IfSome, None, count_by, length, option_map, ◌+◌, ◌<◌, ◌^◌, ◌≡◌, ◌≤◌};
 ghost use Rattle.zq_commands.specs.FirstPairs.{lent_pair};
 ghost use Rattle.zq_commands.specs.Lending.{IsLending, queues_in};
 ghost use Rattle.zq_commands.specs.Starts.{is_left};
 ghost use Rattle.zq_moves.specs.Readings.{is_before};
 ghost use Rattle.zq_plans.specs.Ranges.{is_within};
+ghost use Rattle.zq_plans.specs.Run.{UNCOUNTED};
 
 use crate::ahead::count_left;
 use crate::books::Books;
@@ -16,6 +17,7 @@ use zq_words::Bound;
 pub fn total_members<B: Books>(books: &B, key: &[u8]) -> Option<u64>
     requires { IsLending (B.lent books.now) }
     ensures total { IfSome result (λ total. total ≡ length (queues_in (B.lent books.now) key.now)) }
+    ensures past { result ≡ None → UNCOUNTED ≤ length (queues_in (B.lent books.now) key.now) }
     ensures small { IfSome result (λ total. total < 2 ^ 63) }
 {
     let mut total = 0;
@@ -29,6 +31,7 @@ pub fn total_members<B: Books>(books: &B, key: &[u8]) -> Option<u64>
 pub fn total_before<B: Books>(books: &B, key: &[u8], score: &i128, member: &[u8]) -> Option<u64>
     requires { IsLending (B.lent books.now) }
     ensures total { IfSome result (λ total. total ≡ count_by (λ pair. is_before pair (score.now, member.now)) (queues_in (B.lent books.now) key.now)) }
+    ensures past { result ≡ None → UNCOUNTED ≤ length (queues_in (B.lent books.now) key.now) }
     ensures small { IfSome result (λ total. total < 2 ^ 63) }
 {
     let mut total = 0;
@@ -42,6 +45,7 @@ pub fn total_before<B: Books>(books: &B, key: &[u8], score: &i128, member: &[u8]
 pub fn total_after<B: Books>(books: &B, key: &[u8], score: &i128, member: &[u8]) -> Option<u64>
     requires { IsLending (B.lent books.now) }
     ensures total { IfSome result (λ total. total ≡ count_by (λ pair. is_before (score.now, member.now) pair) (queues_in (B.lent books.now) key.now)) }
+    ensures past { result ≡ None → UNCOUNTED ≤ length (queues_in (B.lent books.now) key.now) }
     ensures small { IfSome result (λ total. total < 2 ^ 63) }
 {
     let mut total = 0;
@@ -76,6 +80,7 @@ pub fn total_left<B: Books>(
 pub fn total_within<B: Books>(books: &B, key: &[u8], min: &Bound, max: &Bound) -> Option<u64>
     requires { IsLending (B.lent books.now) }
     ensures total { IfSome result (λ total. total ≡ count_by (is_within min.now max.now) (queues_in (B.lent books.now) key.now)) }
+    ensures past { result ≡ None → UNCOUNTED ≤ length (queues_in (B.lent books.now) key.now) }
     ensures small { IfSome result (λ total. total < 2 ^ 63) }
 {
     let mut total = 0;
@@ -89,6 +94,7 @@ pub fn total_within<B: Books>(books: &B, key: &[u8], min: &Bound, max: &Bound) -
 fn add_count(total: u64, more: usize) -> Option<u64>
     requires { total < 2 ^ 63 }
     ensures sum { IfSome result (λ sum. sum ≡ total + more) }
+    ensures past { result ≡ None → UNCOUNTED ≤ total + more }
     ensures small { IfSome result (λ sum. sum < 2 ^ 63) }
 {
     let most = i64::MAX as u64 - total;

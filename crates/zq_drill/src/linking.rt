@@ -48,6 +48,6 @@ pub fn attend<R: Wait>(
         hasher: Seeded::new(0),
     };
     let mut node = Node::new(alloc, &station.site, number, HEAPS, Rule::High, pass);
-    link.attend(rt, alloc, &mut node, &mut carrier, &Silent);
+    link.attend(rt, alloc, &mut node, &mut carrier, &mut Silent);
     Ok(())
 }

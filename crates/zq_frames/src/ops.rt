@@ -1,7 +1,7 @@
 //! Operations, one after the other.
 
-ghost use Rattle.std.specs.Prelude.{◌≡◌, ◌<◌, ◌^◌, ◌++◌, IfOk, OnOk, [], flat_map, length, map};
-ghost use Rattle.zq_frames.specs.Answer.{Answers};
+ghost use Rattle.std.specs.Prelude.{◌≡◌, ◌<◌, ◌≤◌, ◌^◌, ◌++◌, ◌∷◌, IfOk, OnErr, OnOk, [], flat_map, length, map, vec_capacity};
+ghost use Rattle.zq_frames.specs.Answer.{Answers, IsOfMemoryAmong, IsOfMemoryFor, IsOfMemoryInOps};
 ghost use Rattle.zq_frames.specs.Ops.{AreSpelled, IsOpSpelled, AreEachSpelled};
 ghost use Rattle.zq_frames.specs.Reading as read;
 ghost use Rattle.zq_frames.specs.Spelling.{newest_op, op_bytes, ops_bytes};
@@ -15,7 +15,8 @@ use zq_fields::{read_u32, write_u32};
 /// Takes the number of operations, and as many.
 #[tactic(auto, unfolding(crate::specs::Reading::ops_at))]
 pub(crate) fn read_ops(alloc: Global, bytes: &mut &[u8]) -> Result<Vec<Op>, FrameFault>
-    ensures exact { Answers (λ ops. (ops.items, bytes.new.now)) result (read.ops_at bytes.old.now) }
+    ensures exact { Answers (IsOfMemoryInOps bytes.old.now)
+        (λ ops. (ops.items, bytes.new.now)) result (read.ops_at bytes.old.now) }
     ensures found { IfOk result (λ ops. AreSpelled ops.items bytes.old.now bytes.new.now) }
     ensures few { IfOk result (λ ops. length ops.items < 2 ^ 32) }
 {
@@ -27,24 +28,35 @@ pub(crate) fn read_ops(alloc: Global, bytes: &mut &[u8]) -> Result<Vec<Op>, Fram
     Ok(ops)
 }
 
-/// Takes so many operations. No memory is asked for what the number only declares.
+/// Takes so many operations. No memory is asked for what the number only declares: an operation is read before there is a
+/// place for it in the list.
 fn read_each(alloc: Global, count: u32, bytes: &mut &[u8]) -> Result<Vec<Op>, FrameFault>
-    ensures exact { Answers (λ ops. (ops.items, bytes.new.now)) result (read.more_ops_at count [] bytes.old.now) }
+    ensures exact { Answers (IsOfMemoryAmong count bytes.old.now)
+        (λ ops. (ops.items, bytes.new.now)) result (read.more_ops_at count [] bytes.old.now) }
     ensures found { IfOk result (λ ops. AreEachSpelled ops.items bytes.old.now bytes.new.now) }
     ensures count { IfOk result (λ ops. length ops.items ≡ count) }
 {
     let mut ops = Vec::new(alloc);
     for number in 0..count {
-        ops.reserve(1)?;
         let op = read_one(alloc, number, bytes)?;
-        ops.push_reserved(op);
+        append(&mut ops, op)?;
     }
     Ok(ops)
 }
 
+/// Puts an operation at the end. Memory is asked for only where the list has no place for one more.
+fn append(ops: &mut Vec<Op>, op: Op) -> Result<(), AllocError>
+    ensures items { OnOk result (ops.new.items ≡ ops.old.items ++ op ∷ []) }
+    ensures full { OnErr result (vec_capacity ops.old ≤ length ops.old.items) }
+{
+    ops.push(op)?;
+    Ok(())
+}
+
 /// Takes the operation of this number.
 fn read_one(alloc: Global, number: u32, bytes: &mut &[u8]) -> Result<Op, FrameFault>
-    ensures exact { Answers (λ op. (op, bytes.new.now)) result (read.op_in number bytes.old.now) }
+    ensures exact { Answers (IsOfMemoryFor number bytes.old.now)
+        (λ op. (op, bytes.new.now)) result (read.op_in number bytes.old.now) }
     ensures found { IfOk result (λ op. IsOpSpelled op bytes.old.now bytes.new.now) }
 {
     match read_op(alloc, bytes) {

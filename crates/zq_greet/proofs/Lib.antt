@@ -2,3 +2,5 @@ mod Follows
 mod Stays
 mod Parts
 mod Exactly
+mod Known
+mod Paid

@@ -1,9 +1,9 @@
 -- What was decided of a peer stays where more is heard.
 
-use Rattle.std.proofs.Common.{ap, arith, Err, length, List, None, Ok, Option, Result, Some, refl, ℕ, ◌++◌, ◌-◌, ◌+◌, ◌≡◌}
+use Rattle.std.proofs.Common.{ap, arith, Err, length, List, None, Ok, Option, Result, Some, refl, subst, ℕ, ◌++◌, ◌-◌, ◌+◌, ◌≡◌}
 use Rattle.std.proofs.lemmas.List.{length-append}
 use Rattle.zq_greet.proofs.Follows.{Follows, answer_follows, nonce_follows, open_follows, peer_follows}
-use Rattle.zq_greet.specs.Laws.{RefusalStays, WelcomeStays}
+use Rattle.zq_greet.specs.Laws.{AnswerStays, RefusalStays, StillOwes, WelcomeStays}
 use Rattle.zq_greet.specs.Opened.{answered, opened_at, secret_at, told}
 use Rattle.zq_greet.specs.Reading.{answer_at, nonce_at, open_at, peer_at, ◌>>=◌}
 use Rattle.zq_greet.specs.Said.{answer}
@@ -15,10 +15,10 @@ use Rattle.zq_greet.specs.declared.side.Side.{Side}
 use Rattle.zq_greet.specs.declared.stop.Stop.{Stop}
 use Rattle.zq_greet.specs.declared.stop.Stop.TheVariants.{Refused, Short}
 
--- a welcome and a refusal stay
+-- a welcome, a refusal and an answer that is due stay
 abbrev pub Stays : Result Opening Stop → Result Opening Stop → Type 0
 Stays (Ok Waits) again = Unit {0}
-Stays (Ok (Answers own)) again = Unit {0}
+Stays (Ok (Answers own)) again = StillOwes own (told again)
 Stays (Ok (Welcome peer own used)) again = again ≡ Ok (Welcome peer own used)
 Stays (Err Short) again = Unit {0}
 Stays (Err (Refused why)) again = again ≡ Err (Refused why)
@@ -36,7 +36,9 @@ used_again whole rest more = rw (length-append rest more) (omega arith)
 answered_stays : (peer : ℕ) (own : List ℕ) (whole : ℕ) (more : List ℕ) (r again : Result (List ℕ) Stop)
     → Follows (λ rest. rest ++ more) r again → Stays (answered peer own whole r) (answered peer own (whole + length more) again)
 answered_stays peer own whole more (Ok rest) again h = rw (h, used_again whole rest more) refl
-answered_stays peer own whole more (Err Short) again h = tt
+answered_stays peer own whole more (Err Short) (Ok rest) h = refl
+answered_stays peer own whole more (Err Short) (Err Short) h = refl
+answered_stays peer own whole more (Err Short) (Err (Refused why)) h = tt
 answered_stays peer own whole more (Err (Refused why)) again h = rw h refl
 
 secret_stays : (secret : Option Secret) (site peer whole : ℕ) (bytes more : List ℕ)
@@ -69,8 +71,18 @@ refusal_told (Ok opening) again refusal h is = cc
 refusal_told (Err Short) again refusal h is = cc
 refusal_told (Err (Refused why)) again refusal h is = rw h is
 
+answer_told : (r again : Result Opening Stop) (own : List ℕ) → Stays r again → told r ≡ Ok (Answers own) → StillOwes own (told again)
+answer_told (Ok Waits) again own h is = cc
+answer_told (Ok (Answers a)) again own h is = let same : a ≡ own = cc in subst (λ b. StillOwes b (told again)) same h
+answer_told (Ok (Welcome p o u)) again own h is = cc
+answer_told (Err Short) again own h is = cc
+answer_told (Err (Refused why)) again own h is = cc
+
 pub welcome_stays : WelcomeStays
 welcome_stays side heard more peer own used is = welcome_told (opened_at side heard) (opened_at side (heard ++ more)) peer own used (opened_stays side heard more) is
 
 pub refusal_stays : RefusalStays
 refusal_stays side heard more refusal is = refusal_told (opened_at side heard) (opened_at side (heard ++ more)) refusal (opened_stays side heard more) is
+
+pub answer_stays : AnswerStays
+answer_stays side heard more own is = answer_told (opened_at side heard) (opened_at side (heard ++ more)) own (opened_stays side heard more) is

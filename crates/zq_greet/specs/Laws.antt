@@ -1,10 +1,11 @@
 -- When a peer is welcome, in the words of what it says.
 
 use Rattle.std.specs.List.{Contains}
-use Rattle.std.specs.Prelude.{Err, List, None, Ok, Option, Some, length, ℕ, ◌++◌, ◌≡◌, ◌≢◌, ◌↔◌}
+use Rattle.std.specs.Prelude.{Err, List, None, Ok, Option, Result, Some, length, ℕ, ◌++◌, ◌≡◌, ◌≢◌, ◌↔◌}
 use Rattle.zq_greet.specs.Opened.{opening_of}
 use Rattle.zq_greet.specs.Said.{answer, claim, greeting}
-use Rattle.zq_greet.specs.declared.opening.Opening.TheVariants.{Welcome}
+use Rattle.zq_greet.specs.declared.opening.Opening.{Opening}
+use Rattle.zq_greet.specs.declared.opening.Opening.TheVariants.{Answers, Waits, Welcome}
 use Rattle.zq_greet.specs.declared.refusal.Refusal.{Refusal}
 use Rattle.zq_greet.specs.declared.side.Secret.{Secret}
 use Rattle.zq_greet.specs.declared.side.Side.{Side}
@@ -58,6 +59,17 @@ WelcomeStays = (side : Side) (heard more : List ℕ) (peer : ℕ) (own : Option 
 -- A refusal stays where more is heard.
 abbrev pub RefusalStays : Type 0
 RefusalStays = (side : Side) (heard more : List ℕ) (refusal : Refusal) → opening_of side heard ≡ Err refusal → opening_of side (heard ++ more) ≡ Err refusal
+
+-- what may become of an answer that is due: it is due still, or the peer is welcome with it, or the peer is refused
+abbrev pub StillOwes : List ℕ → Result Opening Refusal → Type 0
+StillOwes own (Ok (Answers again)) = again ≡ own
+StillOwes own (Ok (Welcome peer again used)) = again ≡ Some own
+StillOwes own (Err refusal) = Unit {0}
+StillOwes own (Ok Waits) = ⊥
+
+-- An answer that is due stays the same where more is heard.
+abbrev pub AnswerStays : Type 0
+AnswerStays = (side : Side) (heard more : List ℕ) (own : List ℕ) → opening_of side heard ≡ Ok (Answers own) → StillOwes own (opening_of side (heard ++ more))
 
 -- What one site answers for is never what the other answers for.
 abbrev pub ClaimsDiffer : Type 0

@@ -1,9 +1,10 @@
 -- What the two sites of a link say, as bytes.
 
-use Rattle.std.specs.Prelude.{List, None, Option, Some, [], ℕ, ◌++◌, ◌∷◌}
+use Rattle.std.specs.Prelude.{List, None, Option, Some, [], option_map, ℕ, ◌++◌, ◌∷◌}
 use Rattle.zq_dots.specs.Rule.{rule_of}
 use Rattle.zq_dots.specs.declared.rule.Rule.{Rule}
 use Rattle.zq_mac.specs.Hmac.{hmac}
+use Rattle.zq_greet.specs.declared.side.Side.{Side}
 use Rattle.zq_parts.specs.Spelling.{rule_byte}
 
 -- "zq-peer" and a line feed
@@ -21,6 +22,10 @@ nonce_bytes (Some nonce) = 1 ∷ nonce
 -- the greeting of a site with so many heaps and this rule
 abbrev pub greeting : ℕ → ℕ → Rule → Option (List ℕ) → List ℕ
 greeting site heaps rule nonce = magic ++ version ∷ site ∷ heaps ∷ rule_byte (rule_of rule) ∷ nonce_bytes nonce
+
+-- the greeting of this site, with its nonce where it has a secret
+abbrev pub said_by : Side → List ℕ
+said_by side = greeting side.site side.heaps side.rule (option_map (λ secret. secret.nonce) side.secret)
 
 -- what is answered for: the version, the number of the site that answers, the other's, and their nonces in this order
 abbrev pub claim : ℕ → ℕ → List ℕ → List ℕ → List ℕ

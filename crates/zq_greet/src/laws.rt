@@ -10,9 +10,11 @@ pub fn welcome_exactly()
     ensures by_secret { law.WelcomeBySecret }
 {}
 
-/// What was said of a peer is not changed by bytes that follow: so it does not matter how its bytes are cut.
+/// What was said of a peer is not changed by bytes that follow: so it does not matter how its bytes are cut. An answer
+/// that is due is the one with which the peer is welcome.
 pub fn decided_stays()
     ensures welcome { law.WelcomeStays }
+    ensures answer { law.AnswerStays }
     ensures refusal { law.RefusalStays }
 {}
 

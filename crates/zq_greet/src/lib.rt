@@ -9,10 +9,12 @@
 //!
 //! `hear_opening` says of all bytes that were heard whether more have to come, an answer is due, or the peer is welcome, and it
 //! refuses a peer by the first thing that does not agree. What it has said of a peer is not changed by bytes that follow.
+//! `open_over` opens a link so, over anything that is read and written.
 #![tactic(auto)]
 
 mod answer;
 mod laws;
+mod link;
 mod nonce;
 mod opening;
 mod peer;
@@ -22,6 +24,7 @@ mod stop;
 mod write;
 
 pub use laws::{answers_differ, decided_stays, welcome_exactly};
+pub use link::{Opened, Unopened, open_over};
 pub use opening::{Opening, hear_opening};
 pub use refusal::Refusal;
 pub use side::{MAGIC, NONCE, Secret, Side, VERSION};

@@ -26,6 +26,11 @@ pub enum Refusal {
 }
 
 impl fmt::Display for Refusal {
+    ghost use Rattle.std.specs.Prelude.{Some};
+    ghost use Rattle.zq_greet.specs.Words.{words_of};
+
+    ghost output = { λ refusal. Some (words_of refusal) };
+
     /// What does not agree, on one line.
     fn fmt<W: fmt::Write>(&self, f: &mut fmt::Formatter<W>) -> fmt::Result {
         match self {

@@ -1,18 +1,25 @@
 //! The greeting that a site sends.
 
-ghost use Rattle.std.specs.Prelude.{◌≡◌, ◌++◌, OnErr, OnOk, option_map};
-ghost use Rattle.zq_greet.specs.Said as said;
+ghost use Rattle.std.specs.Prelude.{◌≡◌, ◌<◌, ◌+◌, ◌++◌, OnErr, OnOk, vec_len};
+ghost use Rattle.std.specs.Vec.{vec_capacity};
+ghost use Rattle.zq_greet.specs.Said.{said_by};
 
 use crate::side::{MAGIC, Side, VERSION};
 use std::alloc::AllocError;
 use zq_fields::{write_byte, write_bytes};
 use zq_parts::rule_byte;
 
-/// Appends the greeting of this site. Where memory is refused a part of it may stand behind what stood there.
+/// The most bytes of a greeting: the magic word, four terms, a byte that says whether there is a secret, and a nonce.
+const MOST_GREETING: usize = 29;
+
+/// Appends the greeting of this site. Where memory is refused nothing is written; it is refused only where there was no
+/// room for the 29 bytes of the longest greeting.
 pub fn write_greeting(out: &mut Vec<u8>, side: &Side<'_>) -> Result<(), AllocError>
-    ensures { OnOk result (out.new.items ≡ out.old.items
-        ++ said.greeting side.now.site side.now.heaps side.now.rule (option_map (λ secret. secret.nonce) side.now.secret)) }
+    ensures written { OnOk result (out.new.items ≡ out.old.items ++ said_by side.now) }
+    ensures refused { OnErr result (out.new.items ≡ out.old.items) }
+    ensures full { OnErr result (vec_capacity out.old < vec_len out.old + 29) }
 {
+    out.reserve(MOST_GREETING)?;
     let terms = [VERSION, side.site.value(), side.heaps, rule_byte(side.rule)];
     write_bytes(out, &MAGIC)?;
     write_bytes(out, &terms)?;

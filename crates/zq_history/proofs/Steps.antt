@@ -12,12 +12,12 @@ pub steps_image-append : (xs ys : List Step) (a : Image) → steps_image (xs ++ 
 steps_image-append [] ys a = refl
 steps_image-append (x ∷ xs) ys a = steps_image-append xs ys (image_step x a)
 
-pub are_steps_over-append : (h : ℕ) (xs ys : List Step) (a : Image) →
-    are_steps_over h a xs ≡ true → are_steps_over h (steps_image xs a) ys ≡ true → are_steps_over h a (xs ++ ys) ≡ true
-are_steps_over-append h [] ys a p q = q
-are_steps_over-append h (x ∷ xs) ys a p q =
-    let both : (is_step_over h a x ≡ true) × (are_steps_over h (image_step x a) xs ≡ true) = and_parts _ _ p in
-    rw (both.0, are_steps_over-append h xs ys (image_step x a) both.1 q) refl
+pub are_steps_over-append : (K h : ℕ) (xs ys : List Step) (a : Image) →
+    are_steps_over K h a xs ≡ true → are_steps_over K h (steps_image xs a) ys ≡ true → are_steps_over K h a (xs ++ ys) ≡ true
+are_steps_over-append K h [] ys a p q = q
+are_steps_over-append K h (x ∷ xs) ys a p q =
+    let both : (is_step_over K h a x ≡ true) × (are_steps_over K h (image_step x a) xs ≡ true) = and_parts _ _ p in
+    rw (both.0, are_steps_over-append K h xs ys (image_step x a) both.1 q) refl
 
 -- stamps within a bound are within a greater one
 pub are_rising-raised : (low high top : ℕ) (xs : List Step) → high ≤ top → are_rising low high xs ≡ true → are_rising low top xs ≡ true
@@ -41,11 +41,11 @@ are_rising-append low high (y ∷ xs) x le e p =
     rw (first.0, rest.0, are_rising-append (stamp_of y) high xs x below e rest.1) refl
 
 -- steps of which the first ones can come, and the others behind them
-pub are_steps_over-rest : (h : ℕ) (xs ys : List Step) (a : Image) → are_steps_over h a (xs ++ ys) ≡ true → are_steps_over h (steps_image xs a) ys ≡ true
-are_steps_over-rest h [] ys a p = p
-are_steps_over-rest h (x ∷ xs) ys a p =
-    let both : (is_step_over h a x ≡ true) × (are_steps_over h (image_step x a) (xs ++ ys) ≡ true) = and_parts _ _ p in
-    are_steps_over-rest h xs ys (image_step x a) both.1
+pub are_steps_over-rest : (K h : ℕ) (xs ys : List Step) (a : Image) → are_steps_over K h a (xs ++ ys) ≡ true → are_steps_over K h (steps_image xs a) ys ≡ true
+are_steps_over-rest K h [] ys a p = p
+are_steps_over-rest K h (x ∷ xs) ys a p =
+    let both : (is_step_over K h a x ≡ true) × (are_steps_over K h (image_step x a) (xs ++ ys) ≡ true) = and_parts _ _ p in
+    are_steps_over-rest K h xs ys (image_step x a) both.1
 
 -- stamps from a bound on are from a lower one on
 pub are_rising-lowered : (low least high : ℕ) (xs : List Step) → least ≤ low → are_rising low high xs ≡ true → are_rising least high xs ≡ true

@@ -1,4 +1,4 @@
+pub mod Limits
 pub mod Books
 pub mod Reach
 pub mod Undoing
-pub mod Gathered

@@ -1,17 +1,16 @@
 //! Laws of a book's records.
 
 ghost use Rattle.std.specs.Prelude.{List, true, ℕ, ◌++◌, ◌≡◌, ◌≤◌};
-ghost use Rattle.zq_history.specs.Books.{Book, Change, IsBook, Step, advanced, are_steps_over, is_change_over, merged, operations_of, recorded, steps_image, touched};
-ghost use Rattle.zq_history.specs.Gathered.{Gathers};
+ghost use Rattle.zq_history.specs.Books.{Book, Change, IsBook, advanced, is_change_over, merged, operations_of, recorded, touched};
 ghost use Rattle.zq_model.specs.Image.{Image, image_of, join};
 ghost use Rattle.zq_model.specs.Operation.{Operation};
-ghost use Rattle.zq_model.specs.Sets.{IsClosed, IsIn, IsWorld, covers, vector_of};
+ghost use Rattle.zq_model.specs.Sets.{IsClosed, IsWorld, covers, vector_of};
 ghost use Rattle.zq_model.specs.Tail.{AreNew, image_after_all, lacking, tail_set};
 
 /// What each call of a book keeps.
 pub fn keeping()
     ensures touch { (b : Book) (stamp : ℕ) → b.stamp ≤ stamp → IsBook b → IsBook (touched b stamp) }
-    ensures recording { (b : Book) (stamp : ℕ) (c : Change) → b.stamp ≤ stamp → is_change_over b.heap b.state.vector c ≡ true → IsBook b → IsBook (recorded b stamp c) }
+    ensures recording { (b : Book) (stamp : ℕ) (c : Change) → b.stamp ≤ stamp → is_change_over b.heaps b.heap b.state.vector c ≡ true → IsBook b → IsBook (recorded b stamp c) }
     ensures merge { (b : Book) (stamp : ℕ) (other : Image) → IsBook (merged b stamp other) }
     ensures advance { (n : ℕ) (b : Book) → IsBook b → IsBook (advanced n b) }
 {}
@@ -27,15 +26,4 @@ pub fn telling()
     ensures merges { (K : ℕ) (b : Book) (S T : List Operation) → IsBook b → IsWorld K (tail_set S (operations_of b.tail) ++ T) → IsClosed S → IsClosed T →
         b.base ≡ image_of S b.heap → covers (vector_of T b.heap) b.base.vector ≡ true →
         image_after_all (lacking (vector_of T b.heap) (operations_of b.tail)) (image_of T b.heap) ≡ join (image_of T b.heap) b.state }
-{}
-
-/// Steps that record and merge what lies in one world lead from the image of a closed set to the image of what they gather, which is
-/// a closed set of that world again.
-pub fn gathering()
-    ensures image { (K heap : ℕ) (W S T : List Operation) (steps : List Step) → IsWorld K W → ((o : Operation) → IsIn o S → IsIn o W) → IsClosed S →
-        are_steps_over heap (image_of S heap) steps ≡ true → Gathers W heap S steps T → steps_image steps (image_of S heap) ≡ image_of T heap }
-    ensures closed { (K heap : ℕ) (W S T : List Operation) (steps : List Step) → IsWorld K W → ((o : Operation) → IsIn o S → IsIn o W) → IsClosed S →
-        are_steps_over heap (image_of S heap) steps ≡ true → Gathers W heap S steps T → IsClosed T }
-    ensures within { (K heap : ℕ) (W S T : List Operation) (steps : List Step) → IsWorld K W → ((o : Operation) → IsIn o S → IsIn o W) → IsClosed S →
-        are_steps_over heap (image_of S heap) steps ≡ true → Gathers W heap S steps T → (o : Operation) → IsIn o T → IsIn o W }
 {}

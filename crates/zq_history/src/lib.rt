@@ -9,7 +9,7 @@ mod reach;
 mod stamps;
 mod undo;
 
-pub use books::{gathering, keeping, telling};
-pub use reach::{reaching, working};
+pub use books::{keeping, telling};
+pub use reach::{cutting, growing, reaching, working};
 pub use stamps::dating;
 pub use undo::undoing;

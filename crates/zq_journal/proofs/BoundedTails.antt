@@ -1,6 +1,6 @@
 -- The records of a book keep the bounds of its images.
 
-use Rattle.std.proofs.Common.{List, [], ap, arith, drop, get_or-set_other, get_or-set_same, inl, inr, le_of_eq, length, map, subst, suc, sym, take, zero, ℕ, ◌+◌, ◌∙◌, ◌∷◌, ◌≡◌, ◌≤◌, ◌<◌}
+use Rattle.std.proofs.Common.{Option, List, [], ap, arith, drop, get_or-set_other, get_or-set_same, inl, inr, le_of_eq, length, map, subst, suc, sym, take, zero, ℕ, ◌+◌, ◌∙◌, ◌∷◌, ◌≡◌, ◌≤◌, ◌<◌}
 use Rattle.std.proofs.lemmas.Bool.{cases_eq}
 use Rattle.std.proofs.lemmas.List.{drop-map, take_all}
 use Rattle.std.proofs.lemmas.Bool.{and_parts}
@@ -8,6 +8,7 @@ use Rattle.std.proofs.lemmas.List.Elements.{All-head, All-tail}
 use Rattle.std.specs.List.{All}
 use Rattle.std.specs.Prelude.{slice_index, slice_set, true}
 use Rattle.zq_dots.specs.Placed.{Placed}
+use Rattle.zq_history.specs.Limits.{TailLimits}
 use Rattle.zq_history.proofs.Kept.{undone_cut}
 use Rattle.zq_history.proofs.NewRecords.{change_is_new}
 use Rattle.zq_history.specs.Books.{are_steps_over, is_change_over, steps_of}
@@ -42,12 +43,12 @@ has_short_names : (h K : ℕ) (p : Placed) → IsRecordable h K p → HasShortNa
 has_short_names h K p is = record { key = is.sound.key; member = is.sound.member }
 
 -- one record keeps the bounds
-bounded_next : (h K : ℕ) (r : Record) (a : Image) → IsRecord h K r → is_change_over h a.vector (leaf_of r).written.change ≡ true → IsBounded K h a →
+bounded_next : (h K : ℕ) (r : Record) (a : Image) → IsRecord h K r → is_change_over K h a.vector (leaf_of r).written.change ≡ true → IsBounded K h a →
     IsBounded K h (image_after (operation_on (leaf_of r)) a)
 bounded_next h K r a is over bounded =
     let p : Placed = placed_in r.what in
     let same : operation_on (leaf_of r) ≡ p.operation = operation_is r.what in
-    let new : taken_of a.vector (operation_on (leaf_of r)) ≡ New = (change_is_new h a.vector (leaf_of r).written.change over).1 in
+    let new : taken_of a.vector (operation_on (leaf_of r)) ≡ New = (change_is_new K h a.vector (leaf_of r).written.change over).1 in
     subst (λ o. IsBounded K h (image_after o a)) (sym same)
     (subst (λ k. IsBounded K k (image_after p.operation a)) is.op.heap
     (bounded_step K p.operation a (subst (λ k. IsBounded K k a) (sym is.op.heap) bounded) (is_operation h K p is.op) (has_short_names h K p is.op)
@@ -55,12 +56,12 @@ bounded_next h K r a is over bounded =
 
 -- the first records of a tail keep them
 pub bounded_after : (n h K : ℕ) (records : List Record) (a : Image) → All (IsRecord h K) records →
-    are_steps_over h a (steps_of (map (λ l. l.written) (leaves_of records))) ≡ true → IsBounded K h a → IsBounded K h (after_leaves (take n (leaves_of records)) a)
+    are_steps_over K h a (steps_of (map (λ l. l.written) (leaves_of records))) ≡ true → IsBounded K h a → IsBounded K h (after_leaves (take n (leaves_of records)) a)
 bounded_after zero h K records a all over bounded = bounded
 bounded_after (suc n) h K [] a all over bounded = bounded
 bounded_after (suc n) h K (r ∷ records) a all over bounded =
-    let both : (is_change_over h a.vector (leaf_of r).written.change ≡ true)
-    × (are_steps_over h (image_after (operation_on (leaf_of r)) a) (steps_of (map (λ l. l.written) (leaves_of records))) ≡ true) = and_parts _ _ over in
+    let both : (is_change_over K h a.vector (leaf_of r).written.change ≡ true)
+    × (are_steps_over K h (image_after (operation_on (leaf_of r)) a) (steps_of (map (λ l. l.written) (leaves_of records))) ≡ true) = and_parts _ _ over in
     bounded_after n h K records (image_after (operation_on (leaf_of r)) a) (All-tail (IsRecord h K) r records all) both.1
     (bounded_next h K r a (All-head (IsRecord h K) r records all) both.0 bounded)
 
@@ -85,56 +86,56 @@ grown o v wide site counted new t =
       | inr apart ↦ le_of_eq (sym (get_or-set_other v o.site t o.n 0 apart))
     ]
 
-grown_next : (h K : ℕ) (r : Record) (a : Image) → IsRecord h K r → is_change_over h a.vector (leaf_of r).written.change ≡ true → IsBounded K h a → (t : ℕ) →
+grown_next : (h K : ℕ) (r : Record) (a : Image) → IsRecord h K r → is_change_over K h a.vector (leaf_of r).written.change ≡ true → IsBounded K h a → (t : ℕ) →
     slice_index a.vector t ≤ slice_index (image_after (operation_on (leaf_of r)) a).vector t
 grown_next h K r a is over bounded t =
     let p : Placed = placed_in r.what in
     let same : operation_on (leaf_of r) ≡ p.operation = operation_is r.what in
-    let new : taken_of a.vector (operation_on (leaf_of r)) ≡ New = (change_is_new h a.vector (leaf_of r).written.change over).1 in
+    let new : taken_of a.vector (operation_on (leaf_of r)) ≡ New = (change_is_new K h a.vector (leaf_of r).written.change over).1 in
     let next : p.operation.n ≡ slice_index p.operation.seen p.operation.site + 1 = is.op.sound.next in
     subst (λ o. slice_index a.vector t ≤ slice_index (image_after o a).vector t) (sym same)
     (grown p.operation a.vector bounded.counters.wide is.op.sound.site (omega arith) (subst (λ o. taken_of a.vector o ≡ New) same new) t)
 
 -- the vector after the records has no less than that before them
-grown_after : (h K : ℕ) (records : List Record) (a : Image) → All (IsRecord h K) records → are_steps_over h a (steps_of (written_in records)) ≡ true → IsBounded K h a → (t : ℕ) →
+grown_after : (h K : ℕ) (records : List Record) (a : Image) → All (IsRecord h K) records → are_steps_over K h a (steps_of (written_in records)) ≡ true → IsBounded K h a → (t : ℕ) →
     slice_index a.vector t ≤ slice_index (after_leaves (leaves_of records) a).vector t
 grown_after h K [] a all over bounded t = omega arith
 grown_after h K (r ∷ records) a all over bounded t =
-    let both : (is_change_over h a.vector (leaf_of r).written.change ≡ true)
-    × (are_steps_over h (image_after (operation_on (leaf_of r)) a) (steps_of (written_in records)) ≡ true) = and_parts _ _ over in
+    let both : (is_change_over K h a.vector (leaf_of r).written.change ≡ true)
+    × (are_steps_over K h (image_after (operation_on (leaf_of r)) a) (steps_of (written_in records)) ≡ true) = and_parts _ _ over in
     let own : IsRecord h K r = All-head (IsRecord h K) r records all in
     let first : slice_index a.vector t ≤ slice_index (image_after (operation_on (leaf_of r)) a).vector t = grown_next h K r a own both.0 bounded t in
     let rest = grown_after h K records (image_after (operation_on (leaf_of r)) a) (All-tail (IsRecord h K) r records all) both.1 (bounded_next h K r a own both.0 bounded) t in
     omega (arith, first, rest)
 
 -- the members after the first records keep their bounds under the vector after all of them
-bounded_late : (n h K : ℕ) (records : List Record) (a : Image) → All (IsRecord h K) records → are_steps_over h a (steps_of (written_in records)) ≡ true → IsBounded K h a →
+bounded_late : (n h K : ℕ) (records : List Record) (a : Image) → All (IsRecord h K) records → are_steps_over K h a (steps_of (written_in records)) ≡ true → IsBounded K h a →
     IsCounters (after_leaves (leaves_of records) a).vector →
     IsBounded K h (record { vector = (after_leaves (leaves_of records) a).vector; members = (after_leaves (take n (leaves_of records)) a).members })
 bounded_late zero h K records a all over bounded counters =
     bounded_wider K h a (after_leaves (leaves_of records) a).vector counters (grown_after h K records a all over bounded) bounded
 bounded_late (suc n) h K [] a all over bounded counters = bounded
 bounded_late (suc n) h K (r ∷ records) a all over bounded counters =
-    let both : (is_change_over h a.vector (leaf_of r).written.change ≡ true)
-    × (are_steps_over h (image_after (operation_on (leaf_of r)) a) (steps_of (written_in records)) ≡ true) = and_parts _ _ over in
+    let both : (is_change_over K h a.vector (leaf_of r).written.change ≡ true)
+    × (are_steps_over K h (image_after (operation_on (leaf_of r)) a) (steps_of (written_in records)) ≡ true) = and_parts _ _ over in
     bounded_late n h K records (image_after (operation_on (leaf_of r)) a) (All-tail (IsRecord h K) r records all) both.1
     (bounded_next h K r a (All-head (IsRecord h K) r records all) both.0 bounded) counters
 
 -- the state of a book keeps its bounds
-pub bounded_state : (s : HeapImage) (v : List ℕ) (records : List Record) (stamp count : ℕ) → IsStanding s v records stamp count → IsBounded s.heaps s.heap s.image
-bounded_state s v records stamp count is =
-    let a : Image = (book_over s v (leaves_of records) stamp count).base in
+pub bounded_state : (s : HeapImage) (v : List ℕ) (records : List Record) (limits : TailLimits) (handed : Option ℕ) (stamp count : ℕ) → IsStanding s v records limits handed stamp count → IsBounded s.heaps s.heap s.image
+bounded_state s v records limits handed stamp count is =
+    let a : Image = (book_over s v (leaves_of records) limits handed stamp count).base in
     subst (IsBounded s.heaps s.heap)
-    (ap (λ ls. after_leaves ls a) (take_all (length (leaves_of records)) (leaves_of records) (omega arith)) ∙ state_after s v (leaves_of records) stamp count is.book)
+    (ap (λ ls. after_leaves ls a) (take_all (length (leaves_of records)) (leaves_of records) (omega arith)) ∙ state_after s v (leaves_of records) limits handed stamp count is.book)
     (bounded_after (length (leaves_of records)) s.heap s.heaps records a is.each is.book.steps is.bounded)
 
 -- the members that undoing the newest records of a book gives keep their bounds under the vector of its state
-pub bounded_undone : (n : ℕ) (s : HeapImage) (v : List ℕ) (records : List Record) (stamp count : ℕ) → IsStanding s v records stamp count →
+pub bounded_undone : (n : ℕ) (s : HeapImage) (v : List ℕ) (records : List Record) (limits : TailLimits) (handed : Option ℕ) (stamp count : ℕ) → IsStanding s v records limits handed stamp count →
     IsBounded s.heaps s.heap (undone_at (drop n records) s.image)
-bounded_undone n s v records stamp count is =
-    let bounded : IsBounded s.heaps s.heap s.image = bounded_state s v records stamp count is in
-    let a : Image = (book_over s v (leaves_of records) stamp count).base in
-    let state : after_leaves (leaves_of records) a ≡ s.image = state_after s v (leaves_of records) stamp count is.book in
+bounded_undone n s v records limits handed stamp count is =
+    let bounded : IsBounded s.heaps s.heap s.image = bounded_state s v records limits handed stamp count is in
+    let a : Image = (book_over s v (leaves_of records) limits handed stamp count).base in
+    let state : after_leaves (leaves_of records) a ≡ s.image = state_after s v (leaves_of records) limits handed stamp count is.book in
     let late = bounded_late n s.heap s.heaps records a is.each is.book.steps is.bounded (subst (λ (b : Image). IsCounters b.vector) (sym state) bounded.counters) in
     let members : undone (leaves_of (drop n records)) s.image.members ≡ (after_leaves (take n (leaves_of records)) a).members =
     ap (λ ls. undone ls s.image.members) (sym (drop-map leaf_of n records))

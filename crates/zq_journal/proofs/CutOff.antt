@@ -1,8 +1,9 @@
 -- The oldest records dropped: what that makes of a book whose tail can be undone.
 
-use Rattle.std.proofs.Common.{List, ap, drop, map, refl, subst, sym, take, ℕ, ◌∙◌, ◌≡◌}
+use Rattle.std.proofs.Common.{Option, List, ap, drop, map, refl, subst, sym, take, ℕ, ◌∙◌, ◌≡◌}
 use Rattle.std.proofs.lemmas.List.{drop-map, take-map}
 use Rattle.std.proofs.lemmas.List.Elements.{All-drop}
+use Rattle.zq_history.specs.Limits.{TailLimits}
 use Rattle.zq_history.proofs.Kept.{after_replay, kept_cut, undone_cut}
 use Rattle.zq_history.specs.Books.{IsBook, advanced, replayed}
 use Rattle.zq_history.specs.Undoing.{AreKept, Leaf, after_leaves, undone}
@@ -19,7 +20,7 @@ use Rattle.zq_shard.specs.Shard.{HeapImage}
 abbrev pub IsMoved : ℕ → HeapImage → List ℕ → List ℕ → List Record → Type 0
 IsMoved n s v w records = w ≡ (replayed (written_in (take n records)) (record { vector = v; members = undone (leaves_of records) s.image.members })).vector
 
-module _ (n : ℕ) (s : HeapImage) (v w : List ℕ) (records after : List Record) (stamp count : ℕ) (old : IsStanding s v records stamp count) (moved : IsMoved n s v w records) (left : after ≡ drop n records) where
+module _ (n : ℕ) (s : HeapImage) (v w : List ℕ) (records after : List Record) (limits : TailLimits) (handed : Option ℕ) (stamp count : ℕ) (old : IsStanding s v records limits handed stamp count) (moved : IsMoved n s v w records) (left : after ≡ drop n records) where
   a : Image
   a = record { vector = v; members = undone (leaves_of records) s.image.members }
 
@@ -37,12 +38,12 @@ module _ (n : ℕ) (s : HeapImage) (v w : List ℕ) (records after : List Record
       let vector : w ≡ (after_leaves (take n (leaves_of records)) a).vector = moved ∙ ap (λ (b : Image). b.vector) (sym replay_taken) in
       let members : undone (leaves_of after) s.image.members ≡ (after_leaves (take n (leaves_of records)) a).members =
       ap (λ ls. undone ls s.image.members) left_leaves
-      ∙ ap (λ (b : Image). undone (drop n (leaves_of records)) b.members) (sym (state_after s v (leaves_of records) stamp count old.book))
+      ∙ ap (λ (b : Image). undone (drop n (leaves_of records)) b.members) (sym (state_after s v (leaves_of records) limits handed stamp count old.book))
       ∙ undone_cut n (leaves_of records) a old.kept in
       rw (vector, members) refl
 
   -- the book after a cut
-  pub cut_is : book_over s w (leaves_of after) stamp count ≡ advanced n (book_over s v (leaves_of records) stamp count)
+  pub cut_is : book_over s w (leaves_of after) limits handed stamp count ≡ advanced n (book_over s v (leaves_of records) limits handed stamp count)
   unfolding a
   cut_is =
       let base : record { vector = w; members = undone (leaves_of after) s.image.members } ≡ replayed (take n (written_in records)) a =
@@ -51,7 +52,7 @@ module _ (n : ℕ) (s : HeapImage) (v w : List ℕ) (records after : List Record
       rw (base, tail) refl
 
   -- a cut keeps what a book keeps
-  pub cut_stands : IsBook (advanced n (book_over s v (leaves_of records) stamp count)) → IsStanding s w after stamp count
+  pub cut_stands : IsBook (advanced n (book_over s v (leaves_of records) limits handed stamp count)) → IsStanding s w after limits handed stamp count
   unfolding a
   cut_stands book = record {
     book = subst IsBook (sym cut_is) book;

@@ -7,6 +7,7 @@ use Rattle.std.proofs.lemmas.List.Elements.{All-push}
 use Rattle.std.specs.FinMap.{get}
 use Rattle.std.specs.Prelude.{IfSome}
 use Rattle.zq_dots.specs.Placed.{Placed}
+use Rattle.zq_history.specs.Limits.{TailLimits}
 use Rattle.zq_history.proofs.Kept.{after_replay, kept_longer, undone_recorded}
 use Rattle.zq_history.specs.Books.{IsBook, merged, recorded}
 use Rattle.zq_history.specs.Undoing.{AreKept, Leaf, after_leaves, operation_on, undone}
@@ -33,45 +34,45 @@ pub record IsNext (s t : HeapImage) (leaf : Leaf) : Type 0 where
 same_base : (s t : HeapImage) (leaves : List Leaf) (leaf : Leaf) → IsNext s t leaf → undone (leaves ++ leaf ∷ []) t.image.members ≡ undone leaves s.image.members
 same_base s t leaves leaf is = ap (λ (a : Image). undone (leaves ++ leaf ∷ []) a.members) is.image ∙ undone_recorded leaves leaf s.image is.had
 
-entered_over : (s t : HeapImage) (v : List ℕ) (leaves : List Leaf) (leaf : Leaf) (stamp count : ℕ) → IsNext s t leaf →
-    book_over t v (leaves ++ leaf ∷ []) leaf.written.stamp (count + 1) ≡ recorded (book_over s v leaves stamp count) leaf.written.stamp leaf.written.change
-entered_over s t v leaves leaf stamp count is =
+entered_over : (s t : HeapImage) (v : List ℕ) (leaves : List Leaf) (leaf : Leaf) (limits : TailLimits) (handed : Option ℕ) (stamp count : ℕ) → IsNext s t leaf →
+    book_over t v (leaves ++ leaf ∷ []) limits handed leaf.written.stamp (count + 1) ≡ recorded (book_over s v leaves limits handed stamp count) leaf.written.stamp leaf.written.change
+entered_over s t v leaves leaf limits handed stamp count is =
     rw (same_base s t leaves leaf is, is.heap, is.heaps, is.rule, is.image, map-append (λ (l : Leaf). l.written) leaves (leaf ∷ [])) refl
 
 leaves_more : (records : List Record) (r : Record) → leaves_of (records ++ r ∷ []) ≡ leaves_of records ++ leaf_of r ∷ []
 leaves_more records r = map-append leaf_of records (r ∷ [])
 
 -- the book with one record more
-pub entered_is : (s t : HeapImage) (v : List ℕ) (records after : List Record) (r : Record) (stamp count : ℕ) → IsNext s t (leaf_of r) → after ≡ records ++ r ∷ [] →
-    book_over t v (leaves_of after) r.stamp (count + 1) ≡ recorded (book_over s v (leaves_of records) stamp count) r.stamp (leaf_of r).written.change
-entered_is s t v records after r stamp count is longer =
-    ap (λ leaves. book_over t v leaves r.stamp (count + 1)) (ap leaves_of longer ∙ leaves_more records r)
-    ∙ entered_over s t v (leaves_of records) (leaf_of r) stamp count is
+pub entered_is : (s t : HeapImage) (v : List ℕ) (records after : List Record) (r : Record) (limits : TailLimits) (handed : Option ℕ) (stamp count : ℕ) → IsNext s t (leaf_of r) → after ≡ records ++ r ∷ [] →
+    book_over t v (leaves_of after) limits handed r.stamp (count + 1) ≡ recorded (book_over s v (leaves_of records) limits handed stamp count) r.stamp (leaf_of r).written.change
+entered_is s t v records after r limits handed stamp count is longer =
+    ap (λ leaves. book_over t v leaves limits handed r.stamp (count + 1)) (ap leaves_of longer ∙ leaves_more records r)
+    ∙ entered_over s t v (leaves_of records) (leaf_of r) limits handed stamp count is
 
 -- the image after the records of a book is its state
-pub state_after : (s : HeapImage) (v : List ℕ) (leaves : List Leaf) (stamp count : ℕ) → IsBook (book_over s v leaves stamp count) →
-    after_leaves leaves (book_over s v leaves stamp count).base ≡ s.image
-state_after s v leaves stamp count is = after_replay leaves (book_over s v leaves stamp count).base ∙ is.replay
+pub state_after : (s : HeapImage) (v : List ℕ) (leaves : List Leaf) (limits : TailLimits) (handed : Option ℕ) (stamp count : ℕ) → IsBook (book_over s v leaves limits handed stamp count) →
+    after_leaves leaves (book_over s v leaves limits handed stamp count).base ≡ s.image
+state_after s v leaves limits handed stamp count is = after_replay leaves (book_over s v leaves limits handed stamp count).base ∙ is.replay
 
-entered_kept : (s t : HeapImage) (v : List ℕ) (leaves : List Leaf) (leaf : Leaf) (stamp count : ℕ) → IsNext s t leaf → IsBook (book_over s v leaves stamp count) →
+entered_kept : (s t : HeapImage) (v : List ℕ) (leaves : List Leaf) (leaf : Leaf) (limits : TailLimits) (handed : Option ℕ) (stamp count : ℕ) → IsNext s t leaf → IsBook (book_over s v leaves limits handed stamp count) →
     AreKept leaves (record { vector = v; members = undone leaves s.image.members }) →
     AreKept (leaves ++ leaf ∷ []) (record { vector = v; members = undone (leaves ++ leaf ∷ []) t.image.members })
-entered_kept s t v leaves leaf stamp count is book kept =
+entered_kept s t v leaves leaf limits handed stamp count is book kept =
     subst (λ members. AreKept (leaves ++ leaf ∷ []) (record { vector = v; members = members })) (sym (same_base s t leaves leaf is))
     (kept_longer leaves leaf (record { vector = v; members = undone leaves s.image.members }) kept
-    (ap (λ (a : Image). get a.members (place_of (operation_on leaf))) (state_after s v leaves stamp count book) ∙ is.had))
+    (ap (λ (a : Image). get a.members (place_of (operation_on leaf))) (state_after s v leaves limits handed stamp count book) ∙ is.had))
 
 -- a record of what is new keeps what a book keeps
-pub entered_stands : (s t : HeapImage) (v : List ℕ) (records after : List Record) (r : Record) (stamp count : ℕ) → IsNext s t (leaf_of r) → after ≡ records ++ r ∷ [] →
-    IsStanding s v records stamp count → IsBook (recorded (book_over s v (leaves_of records) stamp count) r.stamp (leaf_of r).written.change) → IsRecord s.heap s.heaps r →
-    r.stamp ≤ LAST_STAMP → count + 1 ≤ LAST_STAMP → IsStanding t v after r.stamp (count + 1)
-entered_stands s t v records after r stamp count is longer old book own low few =
+pub entered_stands : (s t : HeapImage) (v : List ℕ) (records after : List Record) (r : Record) (limits : TailLimits) (handed : Option ℕ) (stamp count : ℕ) → IsNext s t (leaf_of r) → after ≡ records ++ r ∷ [] →
+    IsStanding s v records limits handed stamp count → IsBook (recorded (book_over s v (leaves_of records) limits handed stamp count) r.stamp (leaf_of r).written.change) → IsRecord s.heap s.heaps r →
+    r.stamp ≤ LAST_STAMP → count + 1 ≤ LAST_STAMP → IsStanding t v after limits handed r.stamp (count + 1)
+entered_stands s t v records after r limits handed stamp count is longer old book own low few =
     let leaves : leaves_of after ≡ leaves_of records ++ leaf_of r ∷ [] = ap leaves_of longer ∙ leaves_more records r in
     record {
-      book = subst IsBook (sym (entered_is s t v records after r stamp count is longer)) book;
+      book = subst IsBook (sym (entered_is s t v records after r limits handed stamp count is longer)) book;
       kept =
           subst (λ ls. AreKept ls (record { vector = v; members = undone ls t.image.members })) (sym leaves)
-          (entered_kept s t v (leaves_of records) (leaf_of r) stamp count is old.book old.kept);
+          (entered_kept s t v (leaves_of records) (leaf_of r) limits handed stamp count is old.book old.kept);
       bounded =
           rw (is.heap, is.heaps)
           (subst (λ members. IsBounded s.heaps s.heap (record { vector = v; members = members }))
@@ -122,9 +123,9 @@ record_from s t r p is own = record { op = own; full = full_at s.image.members (
 -- ---- no records
 
 -- the book of a heap with no records
-pub opened_stands : (s : HeapImage) (v : List ℕ) (records : List Record) (stamp count : ℕ) → records ≡ [] → v ≡ s.image.vector → IsBounded s.heaps s.heap s.image →
-    stamp ≤ LAST_STAMP → count ≤ LAST_STAMP → IsStanding s v records stamp count
-opened_stands s v records stamp count none vector bounded low few = rw (none, vector) (record {
+pub opened_stands : (s : HeapImage) (v : List ℕ) (records : List Record) (limits : TailLimits) (handed : Option ℕ) (stamp count : ℕ) → records ≡ [] → v ≡ s.image.vector → IsBounded s.heaps s.heap s.image →
+    stamp ≤ LAST_STAMP → count ≤ LAST_STAMP → IsStanding s v records limits handed stamp count
+opened_stands s v records limits handed stamp count none vector bounded low few = rw (none, vector) (record {
   book = record { steps = refl; replay = refl; stamps = refl; count = omega arith };
   kept = tt {0};
   bounded = bounded;
@@ -134,7 +135,7 @@ opened_stands s v records stamp count none vector bounded low few = rw (none, ve
 })
 
 -- the book of a heap with another merged in
-pub merged_is : (s t : HeapImage) (v w : List ℕ) (records after : List Record) (stamp at count : ℕ) (other : Image) → t.heap ≡ s.heap → t.heaps ≡ s.heaps → t.rule ≡ s.rule →
+pub merged_is : (s t : HeapImage) (v w : List ℕ) (records after : List Record) (limits : TailLimits) (handed : Option ℕ) (stamp at count : ℕ) (other : Image) → t.heap ≡ s.heap → t.heaps ≡ s.heaps → t.rule ≡ s.rule →
     t.image ≡ join s.image other → w ≡ t.image.vector → after ≡ [] →
-    book_over t w (leaves_of after) at (count + 1) ≡ merged (book_over s v (leaves_of records) stamp count) at other
-merged_is s t v w records after stamp at count other heap heaps rule joined vector none = rw (none, vector, joined, heap, heaps, rule) refl
+    book_over t w (leaves_of after) limits handed at (count + 1) ≡ merged (book_over s v (leaves_of records) limits handed stamp count) at other
+merged_is s t v w records after limits handed stamp at count other heap heaps rule joined vector none = rw (none, vector, joined, heap, heaps, rule) refl

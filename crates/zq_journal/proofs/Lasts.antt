@@ -5,6 +5,7 @@ use Rattle.std.proofs.lemmas.List.{set-get_or, take_all, take_more}
 use Rattle.std.proofs.lemmas.Option.{get_or_from_slice_get, slice_get_read, slice_get_within}
 use Rattle.std.specs.Borrow.{Bor}
 use Rattle.std.specs.Prelude.{IfSome, IsSome, Option, is_some, slice_get, ◌↔◌}
+use Rattle.zq_history.specs.Limits.{TailLimits}
 use Rattle.zq_history.specs.Books.{IsBook, operations_of, replayed}
 use Rattle.zq_journal.proofs.Replays.{length_written, new_next, operation_at}
 use Rattle.zq_journal.proofs.Wholes.{at_over, length_over, more_over, taken_over, vector_after, vector_more}
@@ -21,22 +22,22 @@ use Rattle.zq_posheap.proofs.Lists.{read_at}
 use Rattle.zq_shard.specs.Shard.{HeapImage}
 
 -- the vector of the state is that of the base after the records
-pub state_vector : (s : HeapImage) (base : List ℕ) (tail : List code.Record) (stamp count : ℕ) → IsBook (book_over s base (leaves_of (records_in s base tail)) stamp count) →
+pub state_vector : (s : HeapImage) (base : List ℕ) (tail : List code.Record) (limits : TailLimits) (handed : Option ℕ) (stamp count : ℕ) → IsBook (book_over s base (leaves_of (records_in s base tail)) limits handed stamp count) →
     s.image.vector ≡ vector_over s.heap s.heaps base tail
-state_vector s base tail stamp count is =
+state_vector s base tail limits handed stamp count is =
     ap (λ (a : Image). a.vector) (sym is.replay)
-    ∙ vector_after s.heap s.heaps base tail (book_over s base (leaves_of (records_in s base tail)) stamp count).base refl
+    ∙ vector_after s.heap s.heaps base tail (book_over s base (leaves_of (records_in s base tail)) limits handed stamp count).base refl
 
 -- one record more, over the vector of the state
-pub longer_is : (s t : HeapImage) (base : List ℕ) (tail after : List code.Record) (r : code.Record) (stamp count : ℕ) →
-    IsBook (book_over s base (leaves_of (records_in s base tail)) stamp count) → t.heap ≡ s.heap → t.heaps ≡ s.heaps → after ≡ tail ++ r ∷ [] →
+pub longer_is : (s t : HeapImage) (base : List ℕ) (tail after : List code.Record) (r : code.Record) (limits : TailLimits) (handed : Option ℕ) (stamp count : ℕ) →
+    IsBook (book_over s base (leaves_of (records_in s base tail)) limits handed stamp count) → t.heap ≡ s.heap → t.heaps ≡ s.heaps → after ≡ tail ++ r ∷ [] →
     records_in t base after ≡ records_in s base tail ++ full_of s.heap s.heaps s.image.vector r ∷ []
-longer_is s t base tail after r stamp count is heap heaps longer =
+longer_is s t base tail after r limits handed stamp count is heap heaps longer =
     ap (λ h. records_over h t.heaps base after) heap
     ∙ ap (λ K. records_over s.heap K base after) heaps
     ∙ ap (records_in s base) longer
     ∙ more_over s.heap s.heaps base tail r
-    ∙ ap (λ v. records_in s base tail ++ full_of s.heap s.heaps v r ∷ []) (sym (state_vector s base tail stamp count is))
+    ∙ ap (λ v. records_in s base tail ++ full_of s.heap s.heaps v r ∷ []) (sym (state_vector s base tail limits handed stamp count is))
 
 -- what lends the back of a queue lends its last element
 pub last_lent : {X : Type 0} (items : List X) (len : ℕ) (lent : Option (Bor X)) (last : Bor X) → len ≡ length items → lent ≡ Some last → (IsSome lent ↔ (0 < len)) →
@@ -68,7 +69,7 @@ pub length_tail : (s : HeapImage) (base : List ℕ) (tail : List code.Record) �
 length_tail s base tail = length_written (records_in s base tail) ∙ length_over s.heap s.heaps base tail
 
 -- r is the newest record of a book
-module _ (s : HeapImage) (base : List ℕ) (tail : List code.Record) (stamp count : ℕ) (is : IsStanding s base (records_in s base tail) stamp count) (r : code.Record)
+module _ (s : HeapImage) (base : List ℕ) (tail : List code.Record) (limits : TailLimits) (handed : Option ℕ) (stamp count : ℕ) (is : IsStanding s base (records_in s base tail) limits handed stamp count) (r : code.Record)
     (at : slice_get tail (length tail - 1) ≡ Some r) where
   -- the vector before it
   abbrev pub vector_before : List ℕ
@@ -105,7 +106,7 @@ module _ (s : HeapImage) (base : List ℕ) (tail : List code.Record) (stamp coun
   -- the state's vector with its site's counter one lower is the vector before it
   pub newest_before : slice_set s.image.vector (placed_in newest_full.what).operation.site ((placed_in newest_full.what).operation.n - 1) ≡ vector_before
   newest_before =
-      let a : Image = (book_over s base (leaves_of (records_in s base tail)) stamp count).base in
+      let a : Image = (book_over s base (leaves_of (records_in s base tail)) limits handed stamp count).base in
       let long : length tail - 1 + 1 ≡ length tail = omega (arith, newest_within) in
       let all : tail ≡ take (length tail - 1) tail ++ r ∷ [] =
       sym (take_all (length tail) tail (omega arith))
@@ -113,13 +114,13 @@ module _ (s : HeapImage) (base : List ℕ) (tail : List code.Record) (stamp coun
       ∙ take_more tail (length tail - 1) r newest_within
       ∙ ap (λ x. take (length tail - 1) tail ++ x ∷ []) (sym read) in
       let past : s.image.vector ≡ vector_past vector_before newest_full.what =
-      state_vector s base tail stamp count is.book ∙ ap (vector_over s.heap s.heaps base) all ∙ vector_more s.heap s.heaps base (take (length tail - 1) tail) r in
+      state_vector s base tail limits handed stamp count is.book ∙ ap (vector_over s.heap s.heaps base) all ∙ vector_more s.heap s.heaps base (take (length tail - 1) tail) r in
       let first : (replayed (written_in (take (length tail - 1) (records_in s base tail))) a).vector ≡ vector_before =
       ap (λ rs. (replayed (written_in rs) a).vector) (taken_over (length tail - 1) s.heap s.heaps base tail)
       ∙ vector_after s.heap s.heaps base (take (length tail - 1) tail) a refl in
       let new : taken_of vector_before (placed_in newest_full.what).operation ≡ New =
       ap (λ v. taken_of v (placed_in newest_full.what).operation) (sym first)
-      ∙ new_next s.heap (records_in s base tail) (length tail - 1) newest_full a inside full_read is.book.steps in
+      ∙ new_next s.heaps s.heap (records_in s base tail) (length tail - 1) newest_full a inside full_read is.book.steps in
       ap (λ v. slice_set v (placed_in newest_full.what).operation.site ((placed_in newest_full.what).operation.n - 1)) past
       ∙ one_lower s.heap s.heaps vector_before newest_full.what newest_recordable new
 

@@ -11,3 +11,4 @@ pub mod Undone
 pub mod MadeHere
 pub mod Halves
 pub mod Crossing
+pub mod Weights

@@ -33,12 +33,12 @@ module _ (s t : HeapImage) (tail : List code.Record) (i : ℕ) (r : code.Record)
       subst (λ h. IsRecordable h t.heaps (placed_in (whole h t.heaps t.image.vector r.what))) (sym heap)
       (subst (λ K. IsRecordable s.heap K (placed_in (whole s.heap K t.image.vector r.what))) (sym heaps) full.op)
 
-  pub new_here : are_steps_over s.heap s.image (steps_of (written_in all)) ≡ true → taken_of t.image.vector (placed_in (whole t.heap t.heaps t.image.vector r.what)).operation ≡ New
+  pub new_here : are_steps_over s.heaps s.heap s.image (steps_of (written_in all)) ≡ true → taken_of t.image.vector (placed_in (whole t.heap t.heaps t.image.vector r.what)).operation ≡ New
   new_here over =
       ap (λ h. taken_of t.image.vector (placed_in (whole h t.heaps t.image.vector r.what)).operation) heap
       ∙ ap (λ K. taken_of t.image.vector (placed_in (whole s.heap K t.image.vector r.what)).operation) heaps
       ∙ ap (λ (a : Image). taken_of a.vector (placed_in here.what).operation) image
-      ∙ new_next s.heap all i here s.image inside both.0 over
+      ∙ new_next s.heaps s.heap all i here s.image inside both.0 over
 
   -- the operation, in the heap that is replayed over
   same_here : (u : HeapImage) → u.image ≡ image_after (placed_in (whole t.heap t.heaps t.image.vector r.what)).operation t.image → u.image ≡ image_after (placed_in here.what).operation t.image

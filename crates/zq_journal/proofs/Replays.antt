@@ -44,9 +44,9 @@ replayed_next records i r a below is =
     ∙ ap (λ o. image_after o (replayed (written_in (take i records)) a)) (operation_is r.what)
 
 -- each record is new where it comes
-pub new_next : (h : ℕ) (records : List Record) (i : ℕ) (r : Record) (a : Image) → i < length records → r ≡ get_or records i r →
-    are_steps_over h a (steps_of (written_in records)) ≡ true → taken_of (replayed (written_in (take i records)) a).vector (placed_in r.what).operation ≡ New
-new_next h records i r a below is over =
+pub new_next : (K h : ℕ) (records : List Record) (i : ℕ) (r : Record) (a : Image) → i < length records → r ≡ get_or records i r →
+    are_steps_over K h a (steps_of (written_in records)) ≡ true → taken_of (replayed (written_in (take i records)) a).vector (placed_in r.what).operation ≡ New
+new_next K h records i r a below is over =
     let b : Image = replayed (written_in (take i records)) a in
     let parts : records ≡ take i records ++ r ∷ drop (i + 1) records = sym (take-append-drop i records) ∙ ap (λ rs. take i records ++ rs) (rest_is records i r below is) in
     let steps : steps_of (written_in records) ≡ steps_of (written_in (take i records)) ++ steps_of (written_in (r ∷ drop (i + 1) records)) =
@@ -54,10 +54,10 @@ new_next h records i r a below is over =
     ∙ ap (λ ls. steps_of (map (λ (l : Leaf). l.written) ls)) (map-append leaf_of (take i records) (r ∷ drop (i + 1) records))
     ∙ ap steps_of (map-append (λ (l : Leaf). l.written) (leaves_of (take i records)) (leaves_of (r ∷ drop (i + 1) records)))
     ∙ map-append (λ q. book.Recorded q) (written_in (take i records)) (written_in (r ∷ drop (i + 1) records)) in
-    let rest : are_steps_over h b (steps_of (written_in (r ∷ drop (i + 1) records))) ≡ true =
-    are_steps_over-rest h (steps_of (written_in (take i records))) (steps_of (written_in (r ∷ drop (i + 1) records))) a (ap (are_steps_over h a) (sym steps) ∙ over) in
-    let first : is_change_over h b.vector (leaf_of r).written.change ≡ true = (and_parts _ _ rest).0 in
-    subst (λ o. taken_of b.vector o ≡ New) (operation_is r.what) (change_is_new h b.vector (leaf_of r).written.change first).1
+    let rest : are_steps_over K h b (steps_of (written_in (r ∷ drop (i + 1) records))) ≡ true =
+    are_steps_over-rest K h (steps_of (written_in (take i records))) (steps_of (written_in (r ∷ drop (i + 1) records))) a (ap (are_steps_over K h a) (sym steps) ∙ over) in
+    let first : is_change_over K h b.vector (leaf_of r).written.change ≡ true = (and_parts _ _ rest).0 in
+    subst (λ o. taken_of b.vector o ≡ New) (operation_is r.what) (change_is_new K h b.vector (leaf_of r).written.change first).1
 
 -- the operation of a record, among those of the tail
 pub operation_at : (records : List Record) (i : ℕ) (r : Record) → slice_get records i ≡ Some r → slice_get (operations_of (written_in records)) i ≡ Some (placed_in r.what).operation

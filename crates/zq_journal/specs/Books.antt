@@ -1,7 +1,8 @@
 -- Books that a call begins with, and what a book shows.
 
-use Rattle.std.specs.Prelude.{List, [], map, ℕ, ◌++◌, ◌∷◌, ◌≡◌}
+use Rattle.std.specs.Prelude.{List, None, Option, [], map, ℕ, ◌++◌, ◌∷◌, ◌≡◌}
 use Rattle.zq_history.specs.Books.{Book, Change, Recorded, Step, Took, operations_of, recorded}
+use Rattle.zq_history.specs.Limits.{TailLimits, standard}
 use Rattle.zq_history.specs.Undoing.{Leaf, undone}
 use Rattle.zq_model.specs.Image.{image_of}
 use Rattle.zq_model.specs.Operation.{Operation}
@@ -24,11 +25,13 @@ opened s stamp count = record {
   tail = [];
   stamp = stamp;
   count = count;
+  limits = standard;
+  handed = None;
 }
 
 -- the book of a heap whose tail can be undone: its base has this vector, and the members that undoing the tail gives
-abbrev pub book_over : HeapImage → List ℕ → List Leaf → ℕ → ℕ → Book
-book_over s vector leaves stamp count = record {
+abbrev pub book_over : HeapImage → List ℕ → List Leaf → TailLimits → Option ℕ → ℕ → ℕ → Book
+book_over s vector leaves limits handed stamp count = record {
   heap = s.heap;
   heaps = s.heaps;
   rule = s.rule;
@@ -37,6 +40,8 @@ book_over s vector leaves stamp count = record {
   tail = map (λ leaf. leaf.written) leaves;
   stamp = stamp;
   count = count;
+  limits = limits;
+  handed = handed;
 }
 
 abbrev pub base_of : Book → HeapImage

@@ -1,6 +1,6 @@
 -- The records of the code, as those of a book.
 
-use Rattle.std.specs.Prelude.{IfSome, List, Option, [], false, filter, map, not, slice_set, ℕ, ◌∷◌, ◌≡◌}
+use Rattle.std.specs.Prelude.{IfSome, List, Option, [], false, filter, if◌then◌else◌, length, map, nat_le, not, slice_set, suc, ℕ, ◌+◌, ◌∷◌, ◌≡◌}
 use Rattle.zq_dots.specs.Act.{act_of}
 use Rattle.zq_dots.specs.Placed.{IsRanged, Placed}
 use Rattle.zq_history.specs.Books as book
@@ -40,6 +40,20 @@ placed_in (Took op) = op
 abbrev pub change_of : Change → book.Change
 change_of (Made op) = book.Made op.operation
 change_of (Took op) = book.Took op.operation
+
+-- the bytes of its key and its member
+abbrev pub bytes_kept : change.Change → ℕ
+bytes_kept (kept.Made own) = length own.names.0 + length own.names.1
+bytes_kept (kept.Took op) = length op.value.operation.key + length op.value.operation.member
+
+abbrev pub bytes_kept_in : List kept_record.Record → ℕ
+bytes_kept_in [] = 0
+bytes_kept_in (r ∷ records) = bytes_kept r.what + bytes_kept_in records
+
+-- how many of the oldest records go, so that the rest has at most so many of these bytes
+abbrev pub cut_kept : ℕ → List kept_record.Record → ℕ
+cut_kept most [] = 0
+cut_kept most (r ∷ records) = if nat_le (bytes_kept_in (r ∷ records)) most then 0 else suc (cut_kept most records)
 
 -- the vector after an operation
 abbrev pub vector_past : List ℕ → Change → List ℕ

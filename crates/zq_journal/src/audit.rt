@@ -60,7 +60,7 @@ fn undo(
 /// Takes the records' operations, the oldest first.
 fn replay(alloc: Global, shard: &mut Shard, tail: &VecDeque<Record>) -> Result<(), AllocError>
     requires each { All (IsRecord shard.old.heap shard.old.heaps) (records_in shard.old shard.old.image.vector tail.now.items) }
-    requires over { are_steps_over shard.old.heap shard.old.image (steps_of (written_in (records_in shard.old shard.old.image.vector tail.now.items))) ≡ true }
+    requires over { are_steps_over shard.old.heaps shard.old.heap shard.old.image (steps_of (written_in (records_in shard.old shard.old.image.vector tail.now.items))) ≡ true }
     ensures heap { shard.new.heap ≡ shard.old.heap }
     ensures heaps { shard.new.heaps ≡ shard.old.heaps }
     ensures rule { shard.new.rule ≡ shard.old.rule }

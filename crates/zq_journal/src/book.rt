@@ -3,11 +3,13 @@ ghost use Rattle.std.specs.Prelude.{◌≡◌, ◌<◌, ◌≤◌, IfOk, IfSome,
 ghost use Rattle.zq_history.specs.Books.{IsBook, operations_of, touched};
 ghost use Rattle.zq_history.specs.Reach.{IsReachedBy};
 ghost use Rattle.zq_journal.specs.Books.{IsBased, LAST_STAMP, opened, state_of};
+ghost use Rattle.zq_journal.specs.Limits.{limits_of};
 ghost use Rattle.zq_journal.specs.Records.{placed_at};
 ghost use Rattle.zq_model.specs.Image.{image_of};
 ghost use Rattle.zq_model.specs.Operation.{Operation};
 ghost use Rattle.zq_model.specs.Tail.{tail_set};
 
+use crate::limits::TailLimits;
 use crate::records::Record;
 use std::alloc::{AllocError, Global};
 use std::collections::VecDeque;
@@ -33,6 +35,8 @@ pub struct Book {
     pub(crate) tail: VecDeque<Record>,
     pub(crate) stamp: u64,
     pub(crate) count: u64,
+    pub(crate) limits: TailLimits,
+    pub(crate) handed: Option<u64>,
 }
 
 impl Model for Book {
@@ -71,7 +75,24 @@ impl Book {
             tail: VecDeque::new(alloc),
             stamp,
             count,
+            limits: TailLimits::standard(),
+            handed: None,
         }
+    }
+
+    /// Gives the book other limits for its tail.
+    pub fn set_limits(&mut self, limits: TailLimits)
+        ensures { self.new ≡ record self.old { limits = limits_of limits } }
+    {
+        self.limits = limits;
+    }
+
+    /// From now on a cut takes none but the first so many of its records and merges, by its count: those that were handed on. `None`
+    /// where it may take any.
+    pub fn set_handed(&mut self, handed: Option<u64>)
+        ensures { self.new ≡ record self.old { handed = handed } }
+    {
+        self.handed = handed;
     }
 
     /// The stamp of the latest call that changed it or touched it.

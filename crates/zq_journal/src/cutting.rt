@@ -64,7 +64,7 @@ impl Book {
         requires { records ≤ length self.old.tail }
         ensures succeeds { IsOk result }
         ensures advanced { self.new ≡ advanced records self.old }
-        ensures reached { records ≤ cut_of (length self.old.tail) → IsReachedBy self.new self.old [] }
+        ensures reached { records ≤ cut_of self.old → IsReachedBy self.new self.old [] }
     {
         // A cut keeps what a book keeps,
         keeping();

@@ -6,13 +6,16 @@ mod audit;
 mod book;
 mod cutting;
 mod faults;
+mod limits;
 mod names;
 mod own;
 mod putting;
 mod recording;
 mod records;
 mod since;
+mod trimming;
 
 pub use book::Book;
 pub use faults::{Advanced, MergeFault, TakeFault};
+pub use limits::TailLimits;
 pub use since::Since;

@@ -166,7 +166,7 @@ impl Book {
         requires key { key.now ≡ (placed_in (whole self.old.heap self.old.heaps self.old.state.vector what)).operation.key }
         requires member { member.now ≡ (placed_in (whole self.old.heap self.old.heaps self.old.state.vector what)).operation.member }
         requires recordable { IsRecordable self.old.heap self.old.heaps (placed_in (whole self.old.heap self.old.heaps self.old.state.vector what)) }
-        requires over { is_change_over self.old.heap self.old.state.vector (change_of (whole self.old.heap self.old.heaps self.old.state.vector what)) ≡ true }
+        requires over { is_change_over self.old.heaps self.old.heap self.old.state.vector (change_of (whole self.old.heap self.old.heaps self.old.state.vector what)) ≡ true }
         ensures stood { IfOk result (λ stood. stood ≡ is_some (get self.old.state.members (place_of (placed_in (whole self.old.heap self.old.heaps self.old.state.vector what)).operation))) }
         ensures recorded { OnOk result (self.new ≡ recorded self.old at (change_of (whole self.old.heap self.old.heaps self.old.state.vector what))) }
         ensures worked { OnOk result ((a : Books) (steps : List Step) → IsWorked self.old a at steps →

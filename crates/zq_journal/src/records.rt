@@ -1,6 +1,6 @@
 //! The records of a book.
 ghost use Rattle.std.specs.Prelude.{◌≡◌, ◌≤◌, IfOk, List, not, ℕ};
-ghost use Rattle.zq_journal.specs.Records.{IsRecordable, placed_in, whole};
+ghost use Rattle.zq_journal.specs.Records.{IsRecordable, bytes_kept, placed_in, whole};
 ghost use Rattle.zq_model.specs.Operation.{has};
 ghost use Rattle.zq_model.specs.Sets.{LAST};
 
@@ -50,6 +50,13 @@ impl Change {
             Change::Made(own) => own.names.member(),
             Change::Took(op) => op.member(),
         }
+    }
+
+    /// The bytes of its key and its member.
+    pub(crate) fn bytes(&self) -> u64
+        ensures { result ≡ bytes_kept self.now }
+    {
+        (self.key().len() + self.member().len()) as u64
     }
 
     /// Whether a peer of this vector lacks it.

@@ -1,14 +1,15 @@
 -- Additions as they are read.
 
 use Rattle.std.proofs.Common.{ap, arith, Err, false, inl, inr, length, List, None, Ok, refl, Some, subst, sym, true, [], ℕ, ℤ, ◌*◌, ◌+◌, ◌++◌, ◌<◌, ◌≤◌, ◌∙◌, ◌∷◌, ◌≡◌, ◌≢◌}
-use Rattle.std.specs.Prelude.{pos, slice_index, slice_index_or}
+use Rattle.std.specs.Prelude.{IsOk, pos, slice_index, slice_index_or, ◌⊎◌}
 use Rattle.zq_dots.proofs.Counters.{sites_is}
 use Rattle.zq_entry.specs.Sums.{dense_sums, sum_found}
-use Rattle.zq_merge.proofs.Repeated.{IsReadTo, read_done, read_fails, read_more, read_start}
+use Rattle.zq_merge.proofs.Repeated.{IsReadTo, read_done, read_fails, read_more, read_start, refused_next}
 use Rattle.zq_merge.proofs.RisingSites.{next_more, rising_more, rising_wider}
 use Rattle.zq_merge.specs.Bounds.{AreAdditionsBounded, AreSumsBounded, IsAdditionBounded}
 use Rattle.zq_merge.specs.Fields.{addition_at, later_addition_at}
 use Rattle.zq_merge.specs.Reading.{many_at, next_site}
+use Rattle.zq_merge.specs.Refused.{IsInAddition, IsInSomeAdditions}
 use Rattle.zq_merge.specs.Spelling.{addition_bytes}
 use Rattle.zq_merge.specs.declared.fault.StateFault.{StateFault}
 use Rattle.zq_merge.specs.declared.version.Version.{Version}
@@ -71,3 +72,9 @@ added_more v whole vector count i low all bytes rest items p below e is from sit
 pub added_fails : (v : Version) (whole : ℕ) (vector : List ℕ) (count i low : ℕ) (all bytes : List ℕ) (items : List OfSite) (fault : StateFault) → i < count → addition_at v whole vector low bytes ≡ Err fault → AreAddedTo v whole vector count i low all bytes items → many_at (later_addition_at v whole vector) count [] all ≡ Err fault
 added_fails v whole vector count i low all bytes items fault below e a =
     read_fails (later_addition_at v whole vector) (addition_bytes v) count i all bytes items fault below (ap (λ l. addition_at v whole vector l bytes) (sym a.low_is) ∙ e) a.read
+
+-- memory is refused in the addition that is read next, or for it
+pub added_refused : (v : Version) (whole : ℕ) (vector : List ℕ) (count i low : ℕ) (all bytes : List ℕ) (items : List OfSite) → i < count → IsInAddition v whole vector low bytes ⊎ IsOk (addition_at v whole vector low bytes) → AreAddedTo v whole vector count i low all bytes items → IsInSomeAdditions v whole vector count all
+added_refused v whole vector count i low all bytes items below here a =
+    refused_next (later_addition_at v whole vector) (addition_bytes v) (λ before rest. IsInAddition v whole vector (next_site before) rest ⊎ IsOk (later_addition_at v whole vector before rest)) count i all bytes items below
+    (subst (λ l. IsInAddition v whole vector l bytes ⊎ IsOk (addition_at v whole vector l bytes)) a.low_is here) a.read

@@ -11,3 +11,4 @@ pub mod AgainStates
 pub mod BuiltStates
 pub mod Answered
 pub mod KeyGroups
+pub mod RefusedMembers

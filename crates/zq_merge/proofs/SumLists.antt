@@ -8,16 +8,17 @@ use Rattle.std.proofs.lemmas.List.FromFn.{get_or-map-range_with_len, length-map-
 use Rattle.std.specs.Int.{w128}
 use Rattle.std.specs.List.{AllByRecursion, flat_map, range_with_len}
 use Rattle.std.specs.Ordering.{int_eq}
-use Rattle.std.specs.Prelude.{pos, slice_index, slice_index_or, unwrap_or}
+use Rattle.std.specs.Prelude.{IsOk, pos, slice_index, slice_index_or, unwrap_or}
 use Rattle.zq_dots.proofs.Counters.{sites_is}
 use Rattle.zq_entry.proofs.SumLemmas.{nonzero-dense}
 use Rattle.zq_entry.specs.Sums.{AreSums, IsSum, dense_sums, nonzero_sums, sum_found}
 use Rattle.zq_fields.specs.Fields.{signed}
-use Rattle.zq_merge.proofs.Repeated.{IsReadTo, read_done, read_fails, read_more, read_start}
+use Rattle.zq_merge.proofs.Repeated.{IsReadTo, is_read, read_done, read_fails, read_more, read_start, refused_next}
 use Rattle.zq_merge.proofs.RisingSites.{each_more, found_last, found_other, found_past, next_more, rising_more, rising_wider}
 use Rattle.zq_merge.specs.Bounds.{AreSumsBounded}
 use Rattle.zq_merge.specs.Fields.{all_sums_at, each_sum_at, later_sum_at, next_sum_at, site_sum_at}
 use Rattle.zq_merge.specs.Reading.{many_at, next_site, sum_in, ◌>>=◌}
+use Rattle.zq_merge.specs.Refused.{IsInFirstSums, IsInSomeSums}
 use Rattle.zq_merge.specs.Spelling.{each_sum, sum_bytes}
 use Rattle.zq_merge.specs.Sums.{with_sum}
 use Rattle.zq_merge.specs.declared.fault.StateFault.{StateFault}
@@ -87,6 +88,12 @@ listed_more whole vector count i low s z all bytes rest items below e is from si
 pub listed_fails : (whole : ℕ) (vector : List ℕ) (count i low : ℕ) (all bytes : List ℕ) (items : List (ℕ × ℤ)) (fault : StateFault) → i < count → site_sum_at whole vector low bytes ≡ Err fault → AreListedTo whole vector count i low all bytes items → many_at (later_sum_at whole vector) count [] all ≡ Err fault
 listed_fails whole vector count i low all bytes items fault below e a =
     read_fails (later_sum_at whole vector) sum_bytes count i all bytes items fault below (ap (λ l. site_sum_at whole vector l bytes) (sym a.low_is) ∙ e) a.read
+
+-- memory is refused for the sum that is read next
+pub listed_refused : (whole : ℕ) (vector : List ℕ) (count i low : ℕ) (p : ℕ × ℤ) (all bytes rest : List ℕ) (items : List (ℕ × ℤ)) → i < count → site_sum_at whole vector low bytes ≡ Ok (p, rest) → AreListedTo whole vector count i low all bytes items → IsInSomeSums whole vector count all
+listed_refused whole vector count i low p all bytes rest items below e a =
+    let here = ap (λ l. site_sum_at whole vector l bytes) (sym a.low_is) ∙ e in
+    refused_next (later_sum_at whole vector) sum_bytes (λ sums rest. IsOk (later_sum_at whole vector sums rest)) count i all bytes items below (is_read _ (p, rest) here) a.read
 
 -- ---- a sum for each of the first sites
 
@@ -179,3 +186,10 @@ first_found vector i all bytes items done a =
     let sites = sites_is in
     let front : take DENSE_SITES (dense_sums items) ≡ first_sums DENSE_SITES items = take-map-range_with_len (λ s. sum_found s items) 0 SITES DENSE_SITES (omega arith) in
     a.read.found ∙ (ap (λ n. flat_map (signed w128) (first_sums n items) ++ bytes) done ∙ ap (λ xs. flat_map (signed w128) xs ++ bytes) (sym front))
+
+-- memory is refused for the sum of the next site
+pub first_refused : (vector : List ℕ) (i : ℕ) (z : ℤ) (all bytes rest : List ℕ) (items : List (ℕ × ℤ)) → i < DENSE_SITES → sum_in (MOST * slice_index vector i) bytes ≡ Ok (z, rest) → AreFirstTo vector i all bytes items → IsInFirstSums vector all
+first_refused vector i z all bytes rest items below e a =
+    let size : length (first_sums i items) ≡ i = length-map-range_with_len (λ s. sum_found s items) 0 i in
+    let here : next_sum_at vector (first_sums i items) bytes ≡ Ok (z, rest) = ap (λ n. sum_in (MOST * slice_index vector n) bytes) size ∙ e in
+    refused_next (next_sum_at vector) (signed w128) (λ sums rest. IsOk (next_sum_at vector sums rest)) DENSE_SITES i all bytes (first_sums i items) below (is_read _ (z, rest) here) a.read

@@ -2,6 +2,7 @@ pub mod Version
 pub mod Keys
 pub mod Spelling
 pub mod Reading
+pub mod Refused
 pub mod Fields
 pub mod State
 pub mod Answer

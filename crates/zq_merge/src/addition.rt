@@ -1,11 +1,13 @@
 //! The additions of a member.
 
-ghost use Rattle.std.specs.Prelude.{◌≡◌, ◌≤◌, ◌<◌, ◌++◌, ◌∷◌, IfOk, OnOk, [], false, flat_map, length};
+ghost use Rattle.std.specs.Prelude.{◌≡◌, ◌≤◌, ◌<◌, ◌++◌, ◌∷◌, IfErr, IfOk, OnOk, [], false, flat_map, length};
 ghost use Rattle.zq_merge.specs.Answer.{Answers};
 ghost use Rattle.zq_merge.specs.Bounds.{AreAdditionsBounded, IsAdditionBounded};
 ghost use Rattle.zq_merge.specs.Fields as fields;
 ghost use Rattle.zq_merge.specs.Reading as read;
+ghost use Rattle.zq_merge.specs.Refused as refused;
 ghost use Rattle.zq_merge.specs.Spelling as spell;
+ghost use Rattle.zq_merge.specs.declared.fault.StateFault.TheVariants.{NoMemory};
 ghost use Rattle.zq_model.specs.Image.{is_bare};
 ghost use Rattle.zq_model.specs.Rows.{additions_from};
 ghost use Rattle.zq_model.specs.Sets as sets;
@@ -31,6 +33,8 @@ pub(crate) fn read_addition(
     bytes: &mut &[u8],
 ) -> Result<Addition, StateFault>
     ensures exact { Answers (λ x. (x, bytes.new.now)) result (fields.addition_at version whole vector.now low bytes.old.now) }
+    ensures memory { IfErr result (λ fault. fault ≡ NoMemory →
+        refused.IsInAddition version whole vector.now low bytes.old.now) }
     ensures found { IfOk result (λ x. bytes.old.now ≡ spell.addition_bytes version x ++ bytes.new.now) }
     ensures site { IfOk result (λ x. (low ≤ x.0) × (x.0 < sets.SITES)) }
     ensures bounded { IfOk result (λ x. IsAdditionBounded vector.now x) }
@@ -51,6 +55,8 @@ pub(crate) fn read_entry(
     bytes: &mut &[u8],
 ) -> Result<Entry, StateFault>
     ensures exact { Answers (λ e. (additions_from 0 e, bytes.new.now)) result (fields.additions_at version whole vector.now bytes.old.now) }
+    ensures memory { IfErr result (λ fault. fault ≡ NoMemory →
+        refused.IsInEntry version whole vector.now bytes.old.now) }
     ensures found { IfOk result (λ e. bytes.old.now ≡ spell.additions_bytes version (additions_from 0 e) ++ bytes.new.now) }
     ensures wide { IfOk result (λ e. length e ≡ sets.SITES) }
     ensures full { IfOk result (λ e. is_bare e ≡ false) }
@@ -83,6 +89,8 @@ fn read_counted(
     bytes: &mut &[u8],
 ) -> Result<Vec<Addition>, StateFault>
     ensures exact { Answers (λ x. (x.items, bytes.new.now)) result (fields.additions_at version whole vector.now bytes.old.now) }
+    ensures memory { IfErr result (λ fault. fault ≡ NoMemory →
+        refused.IsInAdditions version whole vector.now bytes.old.now) }
     ensures found { IfOk result (λ x. bytes.old.now ≡ spell.additions_bytes version x.items ++ bytes.new.now) }
     ensures some { IfOk result (λ x. 1 ≤ length x.items) }
     ensures rising { IfOk result (λ x. AreBySite 0 sets.SITES x.items) }
@@ -103,6 +111,8 @@ fn read_additions(
     bytes: &mut &[u8],
 ) -> Result<Vec<Addition>, StateFault>
     ensures exact { Answers (λ x. (x.items, bytes.new.now)) result (read.many_at (fields.later_addition_at version whole vector.now) count [] bytes.old.now) }
+    ensures memory { IfErr result (λ fault. fault ≡ NoMemory →
+        refused.IsInSomeAdditions version whole vector.now count bytes.old.now) }
     ensures found { IfOk result (λ x. bytes.old.now ≡ flat_map (spell.addition_bytes version) x.items ++ bytes.new.now) }
     ensures count { IfOk result (λ x. length x.items ≡ count) }
     ensures rising { IfOk result (λ x. AreBySite 0 sets.SITES x.items) }

@@ -1,10 +1,11 @@
 //! What stands before the keys: the heap, the rule and the vector.
 
-ghost use Rattle.std.specs.Prelude.{◌≡◌, ◌<◌, ◌++◌, IfOk};
+ghost use Rattle.std.specs.Prelude.{◌≡◌, ◌<◌, ◌++◌, IfErr, IfOk};
 ghost use Rattle.zq_dots.specs.Rule.{rule_of};
 ghost use Rattle.zq_merge.specs.Answer.{Gives};
 ghost use Rattle.zq_merge.specs.Fields as fields;
 ghost use Rattle.zq_merge.specs.Framed.{frame_of};
+ghost use Rattle.zq_merge.specs.Refused.{IsOfBytes};
 ghost use Rattle.zq_merge.specs.Spelling as spell;
 ghost use Rattle.zq_merge.specs.Version.{HasRule, HasVector};
 ghost use Rattle.zq_model.specs.Sets as sets;
@@ -31,6 +32,7 @@ pub(crate) fn read_frame(
     bytes: &mut &[u8],
 ) -> Result<Frame, StateFault>
     ensures exact { Gives (λ x. (frame_of x, bytes.new.now)) result (fields.frame_at version whole bytes.old.now) }
+    ensures of_bytes { IfErr result IsOfBytes }
     ensures found { IfOk result (λ x. bytes.old.now ≡ spell.frame_bytes version (frame_of x) ++ bytes.new.now) }
     ensures rule { IfOk result (λ x. HasRule version (rule_of x.rule)) }
     ensures vector { IfOk result (λ x. HasVector version x.vector) }
@@ -47,6 +49,7 @@ pub(crate) fn read_frame(
 /// Takes the rule where the version has it. The versions before the third mean High.
 fn read_frame_rule(version: Version, whole: usize, bytes: &mut &[u8]) -> Result<Rule, StateFault>
     ensures exact { Gives (λ x. (rule_of x, bytes.new.now)) result (fields.rule_at version whole bytes.old.now) }
+    ensures of_bytes { IfErr result IsOfBytes }
     ensures found { IfOk result (λ x. bytes.old.now ≡ spell.rule_bytes version (rule_of x) ++ bytes.new.now) }
     ensures version { IfOk result (λ x. HasRule version (rule_of x)) }
 {
@@ -58,6 +61,7 @@ fn read_frame_rule(version: Version, whole: usize, bytes: &mut &[u8]) -> Result<
 
 fn read_vector(version: Version, whole: usize, bytes: &mut &[u8]) -> Result<Vector, StateFault>
     ensures exact { Gives (λ x. (x, bytes.new.now)) result (fields.vector_at version whole bytes.old.now) }
+    ensures of_bytes { IfErr result IsOfBytes }
     ensures found { IfOk result (λ x. bytes.old.now ≡ spell.vector_bytes version x ++ bytes.new.now) }
     ensures version { IfOk result (λ x. HasVector version x) }
     ensures counters { IfOk result (λ x. sets.IsCounters x) }

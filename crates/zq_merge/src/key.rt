@@ -1,15 +1,17 @@
 //! Keys with their members, which go into the shard as they are read.
 
 ghost use Rattle.std.specs.Int.{to_be_bytes, w64};
-ghost use Rattle.std.specs.Prelude.{◌≡◌, ◌≤◌, ◌++◌, ◌∷◌, IfOk, OnOk, [], flat_map, length, option_map, true};
+ghost use Rattle.std.specs.Prelude.{◌≡◌, ◌≤◌, ◌++◌, ◌∷◌, IfErr, IfOk, OnOk, [], flat_map, length, option_map, true};
 ghost use Rattle.zq_dots.specs.Placed as placed;
 ghost use Rattle.zq_merge.specs.Answer.{Answers};
 ghost use Rattle.zq_merge.specs.Built.{IsBuilt, keys_of, members_since};
 ghost use Rattle.zq_merge.specs.Fields as fields;
 ghost use Rattle.zq_merge.specs.Framed.{frame_of};
 ghost use Rattle.zq_merge.specs.Reading as read;
+ghost use Rattle.zq_merge.specs.Refused as refused;
 ghost use Rattle.zq_merge.specs.Spelling as spell;
 ghost use Rattle.zq_merge.specs.State.{heap_image};
+ghost use Rattle.zq_merge.specs.declared.fault.StateFault.TheVariants.{NoMemory};
 ghost use Rattle.zq_model.specs.Sets as sets;
 
 use crate::fault::StateFault;
@@ -35,6 +37,8 @@ pub(crate) fn read_keys(
     requires heaps { sets.IsHeaps frame.now.heap.heaps }
     requires empty { shard.old ≡ heap_image (frame_of frame.now) [] }
     ensures exact { Answers (λ _. (keys_of shard.new, bytes.new.now)) result (fields.keys_at version whole (frame_of frame.now) bytes.old.now) }
+    ensures memory { IfErr result (λ fault. fault ≡ NoMemory →
+        refused.IsInKeys version whole (frame_of frame.now) bytes.old.now) }
     ensures found { OnOk result (bytes.old.now ≡ spell.keys_bytes version (keys_of shard.new) ++ bytes.new.now) }
     ensures built { OnOk result (IsBuilt (frame_of frame.now) (keys_of shard.new) shard.new) }
 {
@@ -56,6 +60,8 @@ fn read_some_keys(
     requires heaps { sets.IsHeaps frame.now.heap.heaps }
     requires empty { shard.old ≡ heap_image (frame_of frame.now) [] }
     ensures exact { Answers (λ _. (keys_of shard.new, bytes.new.now)) result (read.many_at (fields.later_key_at version whole (frame_of frame.now)) count [] bytes.old.now) }
+    ensures memory { IfErr result (λ fault. fault ≡ NoMemory →
+        refused.IsInSomeKeys version whole (frame_of frame.now) count bytes.old.now) }
     ensures found { OnOk result (bytes.old.now ≡ flat_map (spell.key_bytes version) (keys_of shard.new) ++ bytes.new.now) }
     ensures count { OnOk result (length (keys_of shard.new) ≡ count) }
     ensures built { OnOk result (IsBuilt (frame_of frame.now) (keys_of shard.new) shard.new) }
@@ -83,6 +89,9 @@ fn read_key<'a>(
     requires built { IsBuilt (frame_of frame.now) (keys_of shard.old) shard.old }
     requires before { option_map (λ b. b.now) before ≡ fields.last_key (keys_of shard.old) }
     ensures exact { Answers (λ key. (record { key = key.now; members = members_since shard.old shard.new }, bytes.new.now)) result (fields.key_at version whole (frame_of frame.now) (option_map (λ b. b.now) before.entry) bytes.old.now) }
+    ensures memory { IfErr result (λ fault. fault ≡ NoMemory →
+        refused.IsInKey version whole (frame_of frame.now)
+        (option_map (λ b. b.now) before.entry) bytes.old.now) }
     ensures found { IfOk result (λ key. bytes.old.now ≡ spell.key_bytes version (record { key = key.now; members = members_since shard.old shard.new }) ++ bytes.new.now) }
     ensures built { IfOk result (λ key. IsBuilt (frame_of frame.now) (keys_of shard.old ++ (record { key = key.now; members = members_since shard.old shard.new }) ∷ []) shard.new) }
 {
@@ -107,6 +116,8 @@ fn read_counted_members(
     requires built { IsBuilt (frame_of frame.now) (keys_of shard.old) shard.old }
     requires after { read.is_after (fields.last_key (keys_of shard.old)) key.now ≡ true }
     ensures exact { Answers (λ _. (members_since shard.old shard.new, bytes.new.now)) result (fields.members_at version whole (frame_of frame.now) key.now bytes.old.now) }
+    ensures memory { IfErr result (λ fault. fault ≡ NoMemory →
+        refused.IsInMembers version whole (frame_of frame.now) key.now bytes.old.now) }
     ensures found { OnOk result (bytes.old.now ≡ to_be_bytes w64 (length (members_since shard.old shard.new)) ++ (flat_map (spell.member_bytes version) (members_since shard.old shard.new) ++ bytes.new.now)) }
     ensures built { OnOk result (IsBuilt (frame_of frame.now) (keys_of shard.old ++ (record { key = key.now; members = members_since shard.old shard.new }) ∷ []) shard.new) }
 {
@@ -132,6 +143,8 @@ fn read_members(
     requires built { IsBuilt (frame_of frame.now) (keys_of shard.old) shard.old }
     requires after { read.is_after (fields.last_key (keys_of shard.old)) key.now ≡ true }
     ensures exact { Answers (λ _. (members_since shard.old shard.new, bytes.new.now)) result (read.many_at (fields.later_member_at version whole (frame_of frame.now) key.now) count [] bytes.old.now) }
+    ensures memory { IfErr result (λ fault. fault ≡ NoMemory →
+        refused.IsInSomeMembers version whole (frame_of frame.now) key.now count bytes.old.now) }
     ensures found { OnOk result (bytes.old.now ≡ flat_map (spell.member_bytes version) (members_since shard.old shard.new) ++ bytes.new.now) }
     ensures count { OnOk result (length (members_since shard.old shard.new) ≡ count) }
     ensures built { OnOk result (IsBuilt (frame_of frame.now) (keys_of shard.old ++ (record { key = key.now; members = members_since shard.old shard.new }) ∷ []) shard.new) }

@@ -1,13 +1,15 @@
 //! Members with their entries.
 
-ghost use Rattle.std.specs.Prelude.{◌≡◌, ◌≤◌, ◌++◌, IfOk, false, length, option_map, true};
+ghost use Rattle.std.specs.Prelude.{◌≡◌, ◌≤◌, ◌++◌, IfErr, IfOk, false, length, option_map, true};
 ghost use Rattle.zq_dots.specs.Placed as placed;
 ghost use Rattle.zq_merge.specs.Answer.{Answers};
 ghost use Rattle.zq_merge.specs.Bounds.{AreAdditionsBounded};
 ghost use Rattle.zq_merge.specs.Fields as fields;
 ghost use Rattle.zq_merge.specs.Framed.{frame_of, member_read};
 ghost use Rattle.zq_merge.specs.Reading as read;
+ghost use Rattle.zq_merge.specs.Refused as refused;
 ghost use Rattle.zq_merge.specs.Spelling as spell;
+ghost use Rattle.zq_merge.specs.declared.fault.StateFault.TheVariants.{NoMemory};
 ghost use Rattle.zq_model.specs.Heaps as model;
 ghost use Rattle.zq_model.specs.Image.{is_bare};
 ghost use Rattle.zq_model.specs.Rows.{additions_from};
@@ -35,6 +37,9 @@ pub(crate) fn read_member<'a>(
     requires heaps { sets.IsHeaps frame.now.heap.heaps }
     requires key { length key.now ≤ placed.LONGEST }
     ensures exact { Answers (λ x. (member_read x, bytes.new.now)) result (fields.member_at version whole (frame_of frame.now) key.now (option_map (λ b. b.now) before.entry) bytes.old.now) }
+    ensures memory { IfErr result (λ fault. fault ≡ NoMemory →
+        refused.IsInMember version whole (frame_of frame.now) key.now
+        (option_map (λ b. b.now) before.entry) bytes.old.now) }
     ensures found { IfOk result (λ x. bytes.old.now ≡ spell.member_bytes version (member_read x) ++ bytes.new.now) }
     ensures short { IfOk result (λ x. length x.0.now ≤ placed.LONGEST) }
     ensures after { IfOk result (λ x. read.is_after (option_map (λ b. b.now) before.entry) x.0.now ≡ true) }

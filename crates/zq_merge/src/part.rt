@@ -1,9 +1,10 @@
 //! Parts that states have in common with other frames, with the state's faults.
 
 ghost use Rattle.std.specs.Int.{to_be_bytes, w64};
-ghost use Rattle.std.specs.Prelude.{◌≡◌, ◌<◌, ◌≤◌, ◌++◌, ◌∷◌, IfOk};
+ghost use Rattle.std.specs.Prelude.{◌≡◌, ◌<◌, ◌≤◌, ◌++◌, ◌∷◌, IfErr, IfOk};
 ghost use Rattle.zq_merge.specs.Answer.{Gives};
 ghost use Rattle.zq_merge.specs.Reading as read;
+ghost use Rattle.zq_merge.specs.Refused.{IsOfBytes};
 ghost use Rattle.zq_model.specs.Sets as sets;
 
 use crate::fault::StateFault;
@@ -13,7 +14,8 @@ use zq_parts::{PartFault, read_site};
 
 /// What was read, with the state's fault for the part's.
 pub(crate) fn of_part<X>(part: Result<X, PartFault>) -> Result<X, StateFault>
-    ensures { result ≡ read.of_part part }
+    ensures exact { result ≡ read.of_part part }
+    ensures of_bytes { IfErr result IsOfBytes }
 {
     match part {
         Ok(x) => Ok(x),
@@ -31,6 +33,7 @@ pub(crate) fn read_rising_site(
 ) -> Result<SiteNo, StateFault>
     requires { past ≤ sets.SITES }
     ensures exact { Gives (λ x. (x, bytes.new.now)) result (read.site_at whole past low bytes.old.now) }
+    ensures of_bytes { IfErr result IsOfBytes }
     ensures found { IfOk result (λ x. bytes.old.now ≡ x ∷ bytes.new.now) }
     ensures low { IfOk result (λ x. low ≤ x) }
     ensures past { IfOk result (λ x. x < past) }
@@ -46,6 +49,7 @@ pub(crate) fn read_rising_site(
 #[tactic(auto, unfolding(crate::specs::Reading::counter_at))]
 pub(crate) fn read_counter(bytes: &mut &[u8], last: u64) -> Result<u64, StateFault>
     ensures exact { Gives (λ x. (x, bytes.new.now)) result (read.counter_at last bytes.old.now) }
+    ensures of_bytes { IfErr result IsOfBytes }
     ensures found { IfOk result (λ x. bytes.old.now ≡ to_be_bytes w64 x ++ bytes.new.now) }
     ensures low { IfOk result (λ x. 1 ≤ x) }
     ensures last { IfOk result (λ x. x ≤ last) }

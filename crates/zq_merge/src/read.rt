@@ -2,6 +2,7 @@
 
 ghost use Rattle.std.specs.Prelude.{◌≡◌, Err, IfErr, IfOk, MatchResult, OnOk, []};
 ghost use Rattle.zq_merge.specs.Answer.{Answers};
+ghost use Rattle.zq_merge.specs.Refused.{IsOfBytes, IsRefusedIn};
 ghost use Rattle.zq_merge.specs.State.{HasSpelling, IsState, end_at, state_at, state_spelling};
 ghost use Rattle.zq_merge.specs.declared.fault.StateFault.TheVariants.{NoMemory};
 ghost use Rattle.zq_merge.specs.declared.version.Version.{Version};
@@ -22,6 +23,7 @@ use zq_shard::Shard;
 /// at the field that was read.
 pub fn read_state(alloc: Global, bytes: &[u8], hasher: Seeded) -> Result<Shard, StateFault>
     ensures exact { Answers (λ x. x) result (state_at bytes.now) }
+    ensures memory { IfErr result (λ fault. fault ≡ NoMemory → IsRefusedIn bytes.now) }
     ensures found { IfOk result (λ s. (v : Version) × HasSpelling v s × (bytes.now ≡ state_spelling v s)) }
     ensures only { (v : Version) (s : HeapImage) → IsState s → HasSpelling v s → bytes.now ≡ state_spelling v s →
         MatchResult result (λ x. x ≡ s) (λ fault. fault ≡ NoMemory) }
@@ -32,6 +34,7 @@ pub fn read_state(alloc: Global, bytes: &[u8], hasher: Seeded) -> Result<Shard, 
 #[tactic(auto, unfolding(crate::specs::State::front_at))]
 fn read_whole(alloc: Global, bytes: &[u8], hasher: Seeded) -> Result<Shard, StateFault>
     ensures exact { Answers (λ x. x) result (state_at bytes.now) }
+    ensures memory { IfErr result (λ fault. fault ≡ NoMemory → IsRefusedIn bytes.now) }
     ensures found { IfOk result (λ s. (v : Version) × HasSpelling v s × (bytes.now ≡ state_spelling v s)) }
 {
     let whole = bytes.len();
@@ -56,6 +59,7 @@ fn read_whole(alloc: Global, bytes: &[u8], hasher: Seeded) -> Result<Shard, Stat
 fn read_end(rest: &[u8]) -> Result<(), StateFault>
     ensures end { OnOk result (rest.now ≡ []) }
     ensures more { IfErr result (λ fault. (s : HeapImage) → end_at s rest.now ≡ Err fault) }
+    ensures of_bytes { IfErr result IsOfBytes }
 {
     match rest.split_first() {
         None => Ok(()),

@@ -1,12 +1,13 @@
 //! One sum of increments.
 
 ghost use Rattle.std.specs.Int.{w128};
-ghost use Rattle.std.specs.Prelude.{◌≡◌, ◌<◌, ◌≤◌, ◌*◌, ◌++◌, IfOk, slice_index};
+ghost use Rattle.std.specs.Prelude.{◌≡◌, ◌<◌, ◌≤◌, ◌*◌, ◌++◌, IfErr, IfOk, slice_index};
 ghost use Rattle.zq_entry.specs.Sums.{IsSum, MOST_SUM};
 ghost use Rattle.zq_fields.specs.Fields.{signed};
 ghost use Rattle.zq_merge.specs.Answer.{Gives};
 ghost use Rattle.zq_merge.specs.Fields as fields;
 ghost use Rattle.zq_merge.specs.Reading as read;
+ghost use Rattle.zq_merge.specs.Refused.{IsOfBytes};
 ghost use Rattle.zq_merge.specs.Spelling as spell;
 ghost use Rattle.zq_model.specs.Operation.{IsWithin, MOST};
 ghost use Rattle.zq_model.specs.Sets as sets;
@@ -29,6 +30,7 @@ pub(crate) fn most(vector: &Vector, site: SiteNo) -> u128
 #[tactic(auto, unfolding(crate::specs::Reading::sum_in))]
 pub(crate) fn read_sum(bytes: &mut &[u8], most: u128) -> Result<i128, StateFault>
     ensures exact { Gives (λ x. (x, bytes.new.now)) result (read.sum_in most bytes.old.now) }
+    ensures of_bytes { IfErr result IsOfBytes }
     ensures found { IfOk result (λ x. bytes.old.now ≡ signed w128 x ++ bytes.new.now) }
     ensures within { IfOk result (λ x. IsWithin most x) }
 {
@@ -51,6 +53,7 @@ pub(crate) fn read_site_sum(
     bytes: &mut &[u8],
 ) -> Result<(SiteNo, i128), StateFault>
     ensures exact { Gives (λ x. ((x.0, x.1), bytes.new.now)) result (fields.site_sum_at whole vector.now low bytes.old.now) }
+    ensures of_bytes { IfErr result IsOfBytes }
     ensures found { IfOk result (λ x. bytes.old.now ≡ spell.sum_bytes (x.0, x.1) ++ bytes.new.now) }
     ensures site { IfOk result (λ x. (low ≤ x.0) × (x.0 < sets.SITES)) }
     ensures sum { IfOk result (λ x. IsSum (x.0, x.1)) }

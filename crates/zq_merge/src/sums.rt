@@ -1,13 +1,15 @@
 //! The sums of an addition.
 
-ghost use Rattle.std.specs.Prelude.{◌≡◌, ◌<◌, ◌++◌, ◌∷◌, IfOk, OnOk, [], flat_map, length};
+ghost use Rattle.std.specs.Prelude.{◌≡◌, ◌<◌, ◌++◌, ◌∷◌, IfErr, IfOk, OnOk, [], flat_map, length};
 ghost use Rattle.zq_entry.specs.Sums.{AreSums, dense_sums, nonzero_sums};
 ghost use Rattle.zq_merge.specs.Answer.{Answers};
 ghost use Rattle.zq_merge.specs.Bounds.{AreSumsBounded};
 ghost use Rattle.zq_merge.specs.Fields as fields;
 ghost use Rattle.zq_merge.specs.Reading as read;
+ghost use Rattle.zq_merge.specs.Refused as refused;
 ghost use Rattle.zq_merge.specs.Spelling as spell;
 ghost use Rattle.zq_merge.specs.Sums.{with_sum};
+ghost use Rattle.zq_merge.specs.declared.fault.StateFault.TheVariants.{NoMemory};
 ghost use Rattle.zq_model.specs.Sets as sets;
 
 use crate::fault::StateFault;
@@ -27,6 +29,8 @@ pub(crate) fn read_sums(
     bytes: &mut &[u8],
 ) -> Result<Vec<(SiteNo, i128)>, StateFault>
     ensures exact { Answers (λ x. (dense_sums x.items, bytes.new.now)) result (fields.sums_at version whole vector.now bytes.old.now) }
+    ensures memory { IfErr result (λ fault. fault ≡ NoMemory →
+        refused.IsInSums version whole vector.now bytes.old.now) }
     ensures found { IfOk result (λ x. bytes.old.now ≡ spell.sums_bytes version (dense_sums x.items) ++ bytes.new.now) }
     ensures sums { IfOk result (λ x. AreSums x.items) }
     ensures within { IfOk result (λ x. AreSumsBounded vector.now x.items) }
@@ -44,6 +48,8 @@ fn read_each_sum(
     bytes: &mut &[u8],
 ) -> Result<Vec<(SiteNo, i128)>, StateFault>
     ensures exact { Answers (λ x. (dense_sums x.items, bytes.new.now)) result (fields.all_sums_at vector.now bytes.old.now) }
+    ensures memory { IfErr result (λ fault. fault ≡ NoMemory →
+        refused.IsInFirstSums vector.now bytes.old.now) }
     ensures found { IfOk result (λ x. bytes.old.now ≡ spell.each_sum (dense_sums x.items) ++ bytes.new.now) }
     ensures sums { IfOk result (λ x. AreSums x.items) }
     ensures within { IfOk result (λ x. AreSumsBounded vector.now x.items) }
@@ -91,6 +97,8 @@ fn read_listed_sums(
     bytes: &mut &[u8],
 ) -> Result<Vec<(SiteNo, i128)>, StateFault>
     ensures exact { Answers (λ x. (dense_sums x.items, bytes.new.now)) result (fields.some_sums_at whole vector.now bytes.old.now) }
+    ensures memory { IfErr result (λ fault. fault ≡ NoMemory →
+        refused.IsInListedSums whole vector.now bytes.old.now) }
     ensures found { IfOk result (λ x. bytes.old.now ≡ spell.listed_sums (nonzero_sums (dense_sums x.items)) ++ bytes.new.now) }
     ensures sums { IfOk result (λ x. AreSums x.items) }
     ensures within { IfOk result (λ x. AreSumsBounded vector.now x.items) }
@@ -110,6 +118,8 @@ fn read_some_sums(
     bytes: &mut &[u8],
 ) -> Result<Vec<(SiteNo, i128)>, StateFault>
     ensures exact { Answers (λ x. (x.items, bytes.new.now)) result (read.many_at (fields.later_sum_at whole vector.now) count [] bytes.old.now) }
+    ensures memory { IfErr result (λ fault. fault ≡ NoMemory →
+        refused.IsInSomeSums whole vector.now count bytes.old.now) }
     ensures found { IfOk result (λ x. bytes.old.now ≡ flat_map spell.sum_bytes x.items ++ bytes.new.now) }
     ensures count { IfOk result (λ x. length x.items ≡ count) }
     ensures sums { IfOk result (λ x. AreSums x.items) }

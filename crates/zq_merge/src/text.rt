@@ -1,11 +1,12 @@
 //! Keys and members in rising order.
 
-ghost use Rattle.std.specs.Prelude.{◌≡◌, ◌≤◌, ◌<◌, ◌++◌, IfOk, length, option_map, true};
+ghost use Rattle.std.specs.Prelude.{◌≡◌, ◌≤◌, ◌<◌, ◌++◌, IfErr, IfOk, length, option_map, true};
 ghost use Rattle.zq_dots.specs.Placed as placed;
 ghost use Rattle.zq_fields.specs.Fields.{text};
 ghost use Rattle.zq_merge.specs.Answer.{Gives};
 ghost use Rattle.zq_merge.specs.Fields as fields;
 ghost use Rattle.zq_merge.specs.Reading as read;
+ghost use Rattle.zq_merge.specs.Refused.{IsOfBytes};
 ghost use Rattle.zq_model.specs.Heaps as model;
 ghost use Rattle.zq_model.specs.Sets as sets;
 
@@ -20,6 +21,7 @@ pub(crate) fn read_rising_text<'a>(
     bytes: &mut &'a [u8],
 ) -> Result<&'a [u8], StateFault>
     ensures exact { Gives (λ x. (x.now, bytes.new.now)) result (read.rising_text_at (option_map (λ b. b.now) before.entry) bytes.old.now) }
+    ensures of_bytes { IfErr result IsOfBytes }
     ensures found { IfOk result (λ x. bytes.old.now ≡ text x.now ++ bytes.new.now) }
     ensures short { IfOk result (λ x. length x.now ≤ placed.LONGEST) }
     ensures after { IfOk result (λ x. read.is_after (option_map (λ b. b.now) before.entry) x.now ≡ true) }
@@ -55,6 +57,7 @@ pub(crate) fn read_placed_member<'a>(
     requires heaps { sets.IsHeaps heap.heaps }
     requires key { length key.now ≤ placed.LONGEST }
     ensures exact { Gives (λ x. (x.now, bytes.new.now)) result (fields.placed_member_at heap key.now (option_map (λ b. b.now) before.entry) bytes.old.now) }
+    ensures of_bytes { IfErr result IsOfBytes }
     ensures found { IfOk result (λ x. bytes.old.now ≡ text x.now ++ bytes.new.now) }
     ensures short { IfOk result (λ x. length x.now ≤ placed.LONGEST) }
     ensures after { IfOk result (λ x. read.is_after (option_map (λ b. b.now) before.entry) x.now ≡ true) }

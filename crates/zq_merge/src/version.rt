@@ -1,7 +1,8 @@
 //! The versions of a state's frame.
 
-ghost use Rattle.std.specs.Prelude.{◌≡◌, ◌≤◌, ◌∷◌, IfOk};
+ghost use Rattle.std.specs.Prelude.{◌≡◌, ◌≤◌, ◌∷◌, IfErr, IfOk};
 ghost use Rattle.zq_merge.specs.Answer.{Gives};
+ghost use Rattle.zq_merge.specs.Refused.{IsOfBytes};
 ghost use Rattle.zq_merge.specs.State.{version_at};
 ghost use Rattle.zq_merge.specs.Version as version;
 ghost use Rattle.zq_model.specs.Sets as sets;
@@ -51,6 +52,7 @@ impl Version {
 /// Takes the version from the front of the bytes.
 pub(crate) fn read_version(bytes: &mut &[u8]) -> Result<Version, StateFault>
     ensures exact { Gives (λ v. (v, bytes.new.now)) result (version_at bytes.old.now) }
+    ensures of_bytes { IfErr result IsOfBytes }
     ensures found { IfOk result (λ v. bytes.old.now ≡ version.version_byte v ∷ bytes.new.now) }
 {
     let Some((byte, rest)) = read_byte(bytes) else {

@@ -1,20 +1,27 @@
 -- What the calls of a site say of the pass that made them.
 
 use Rattle.std.proofs.Common.{ap, arith, inl, inr, refl, subst, sym, ◌∙◌}
-use Rattle.std.proofs.lemmas.Bool.{cases_eq}
-use Rattle.std.specs.Prelude.{Err, IfSome, IsErrOf, List, Ok, OnErr, Result, Some, [], length, map, max, ℕ, ◌+◌, ◌++◌, ◌<◌, ◌≡◌, ◌≢◌, ◌∷◌, ◌⊎◌, ◌↔◌}
+use Rattle.std.proofs.lemmas.Bool.{cases_Bool, cases_eq, cond-false}
+use Rattle.std.specs.Prelude.{Err, IfSome, IsErrOf, List, Ok, OnErr, Result, Some, [], false, length, map, max, true, ℕ, ◌+◌, ◌++◌, ◌<◌, ◌≡◌, ◌≢◌, ◌∷◌, ◌⊎◌, ◌↔◌}
 use Rattle.zq_dots.specs.Placed.{Placed}
-use Rattle.zq_history.proofs.Reached.{reached_through, touched_reaches, worked_reaches}
-use Rattle.zq_history.specs.Books.{Book, Step, steps_image}
+use Rattle.std.proofs.lemmas.Bool.{and_parts}
+use Rattle.zq_history.proofs.Covered.{has_recorded, reached_covers_too, reached_knows}
+use Rattle.zq_history.proofs.Reached.{reached_through, worked_reaches}
+use Rattle.zq_history.specs.Books as made_step
+use Rattle.zq_history.specs.Books.{Book, Step, are_steps_over, steps_image}
 use Rattle.zq_history.specs.Reach.{IsWorked, Reached}
 use Rattle.zq_journal.specs.Books.{steps_when}
 use Rattle.zq_journal.specs.declared.since.Since.{Since}
 use Rattle.zq_journal.specs.declared.faults.TakeFault.{TakeFault}
 use Rattle.zq_journal.specs.declared.faults.TakeFault.TheVariants as unheld
+use Rattle.zq_model.proofs.Taken.{taken_early, taken_known}
 use Rattle.zq_model.specs.Heaps.{heap_of}
+use Rattle.zq_model.specs.Image.{Image, image_after}
+use Rattle.zq_model.specs.Operation.{has}
 use Rattle.zq_model.specs.Sets as sets
-use Rattle.zq_node.specs.Calls.{AreCalled, Asked, Call, Copied, HasReached, HasTaken, IsCalled, IsEarlyTo, IsKnownTo, MadeNoStep, Merged, Saw, Took, WasTaken}
+use Rattle.zq_node.specs.Calls.{AreCalled, Asked, Call, Copied, IsCalled, IsEarlyTo, IsKnownTo, MadeNoStep, Merged, Saw, Took, WasTaken}
 use Rattle.zq_node.specs.Faults.{untaken}
+use Rattle.zq_node.specs.Hearing.{IsStopOf}
 use Rattle.zq_node.specs.declared.faults.NodeFault.{NodeFault}
 use Rattle.zq_node.specs.declared.faults.NodeFault.TheVariants as node
 use Rattle.zq_shard.specs.Taken.{answer_of}
@@ -82,55 +89,63 @@ reached_alone Does before after h one x is =
     let last = worked_reaches one.left.book one.found.book after.stamp one.steps one.worked.worked one.later in
     (first.0 ++ one.steps, reached_through one.left.book one.found.book x.book first.0 one.steps last first.1)
 
-reached_before : (P : Book → Type 0) (later earlier : Book) → Reached later earlier → (had : (b : Book) × Reached earlier b × P b) → (b : Book) × Reached later b × P b
-reached_before P later earlier reached had =
-    let first = had.1 in (had.0, (first.0 ++ reached.0, reached_through later earlier had.0 first.0 reached.0 reached.1 first.1), had.2)
+-- what later books keep
+abbrev pub Stays : (Book → Type 0) → Type 0
+Stays P = (later earlier : Book) → Reached later earlier → P earlier → P later
 
-reached_by : (Does : List Book → List (List Step) → Type 0) (P : Book → Type 0) (before after : Pass) (h k : ℕ) → IsCall Does before after (h ∷ []) → HasReached before k P → HasReached after k P
-reached_by Does P before after h k is had = elim (cases_eq k h) [
+seen_by : (Does : List Book → List (List Step) → Type 0) (P : Book → Type 0) → Stays P → (before after : Pass) (h k : ℕ) → IsCall Does before after (h ∷ []) → HasSeenBook before k P → HasSeenBook after k P
+seen_by Does P stays before after h k is had = elim (cases_eq k h) [
   | inl same ↦ (
       let one = alone Does before after h is in
       let seen : seen_at before h ≡ Some had.0 = ap (seen_at before) (sym same) ∙ had.1 in
-      let then = reached_before P one.left.book had.0.book (reached_alone Does before after h one had.0 seen) (had.2, had.3, had.4) in
-      (one.left, ap (seen_at after) same ∙ one.worked.seen, then.0, then.1, then.2))
-  | inr apart ↦ (had.0, (elsewhere Does before after h k is apart).0 ∙ had.1, had.2, had.3, had.4)
+      (one.left, ap (seen_at after) same ∙ one.worked.seen, stays one.left.book had.0.book (reached_alone Does before after h one had.0 seen) had.2))
+  | inr apart ↦ (had.0, (elsewhere Does before after h k is apart).0 ∙ had.1, had.2)
 ]
 
-pub reached_on : (P : Book → Type 0) (site : Site) (before after : Pass) (k : ℕ) (c : Call) → IsCalled site before after c → HasReached before k P → HasReached after k P
-reached_on P site before after k (Took op answer) is had = reached_by _ P before after op.operation.heap k is.1 had
-reached_on P site before after k (Merged shard) is had = reached_by _ P before after shard.heap k is.1 had
-reached_on P site before after k (Saw heap vector) is had = reached_by _ P before after heap k is had
-reached_on P site before after k (Asked heap vector answer) is had = reached_by _ P before after heap k is.0 had
-reached_on P site before after k (Copied heap shard) is had = reached_by _ P before after heap k is had
+seen_on : (P : Book → Type 0) → Stays P → (site : Site) (before after : Pass) (k : ℕ) (c : Call) → IsCalled site before after c → HasSeenBook before k P → HasSeenBook after k P
+seen_on P stays site before after k (Took op answer) is had = seen_by _ P stays before after op.operation.heap k is.1 had
+seen_on P stays site before after k (Merged shard) is had = seen_by _ P stays before after shard.heap k is.1 had
+seen_on P stays site before after k (Saw heap vector) is had = seen_by _ P stays before after heap k is had
+seen_on P stays site before after k (Asked heap vector answer) is had = seen_by _ P stays before after heap k is.0 had
+seen_on P stays site before after k (Copied heap shard) is had = seen_by _ P stays before after heap k is had
 
-pub reached_after : (P : Book → Type 0) (site : Site) (before after : Pass) (k : ℕ) (calls : List Call) → AreCalled site before after calls → HasReached before k P → HasReached after k P
-reached_after P site before after k [] are had = subst (λ p. HasReached p k P) (sym are) had
-reached_after P site before after k (c ∷ calls) are had = reached_after P site are.0 after k calls are.2 (reached_on P site before are.0 k c are.1 had)
+pub seen_after : (P : Book → Type 0) → Stays P → (site : Site) (before after : Pass) (k : ℕ) (calls : List Call) → AreCalled site before after calls → HasSeenBook before k P → HasSeenBook after k P
+seen_after P stays site before after k [] are had = subst (λ p. HasSeenBook p k P) (sym are) had
+seen_after P stays site before after k (c ∷ calls) are had = seen_after P stays site are.0 after k calls are.2 (seen_on P stays site before are.0 k c are.1 had)
 
 -- ---- what was taken
 
+-- the operation is in the book's vector
+abbrev pub HasOperation : Placed → Book → Type 0
+HasOperation o b = has b.state.vector o.operation.site o.operation.n ≡ true
+
+pub in_stays : (o : Placed) → Stays (HasOperation o)
+in_stays o later earlier reached known = reached_knows later earlier o.operation.site o.operation.n reached known
+
 -- one that is Known, or New, is taken
 taken_so : (answer : Taken) (stamp : ℕ) (o : Placed) (found left : Book) (steps : List Step) → answer ≢ Early → IsWorked left found stamp steps →
-    answer_of answer ≡ sets.taken_of found.state.vector o.operation → steps ≡ steps_when (sets.taken_of found.state.vector o.operation) stamp o.operation → HasTaken o left
+    answer_of answer ≡ sets.taken_of found.state.vector o.operation → steps ≡ steps_when (sets.taken_of found.state.vector o.operation) stamp o.operation → HasOperation o left
 taken_so New stamp o found left steps late worked is made =
     let new : steps ≡ steps_when sets.New stamp o.operation = made ∙ ap (λ t. steps_when t stamp o.operation) (sym is) in
-    inr (found.state, sym is, worked.state ∙ ap (λ ss. steps_image ss found.state) new)
+    let over : are_steps_over found.heaps found.heap found.state (steps_when sets.New stamp o.operation) ≡ true = subst (λ ss. are_steps_over found.heaps found.heap found.state ss ≡ true) new worked.legal in
+    let state : left.state ≡ image_after o.operation found.state = worked.state ∙ ap (λ ss. steps_image ss found.state) new in
+    subst (λ (a : Image). has a.vector o.operation.site o.operation.n ≡ true) (sym state) (has_recorded found.heaps found.heap found.state (made_step.Took o.operation) (and_parts _ _ over).0)
 taken_so Known stamp o found left steps late worked is made =
     let none : steps ≡ [] = made ∙ ap (λ t. steps_when t stamp o.operation) (sym is) in
     let state : left.state ≡ found.state = worked.state ∙ ap (λ ss. steps_image ss found.state) none in
-    inl (ap (λ a. sets.taken_of a.vector o.operation) state ∙ sym is)
+    subst (λ (a : Image). has a.vector o.operation.site o.operation.n ≡ true) (sym state) (taken_known found.state.vector o.operation (sym is))
 taken_so Early stamp o found left steps late worked is made = absurd (late refl)
 
 pub known_call : (site : Site) (before after : Pass) (o : Placed) (answer : Taken) → answer ≢ Early → IsCalled site before after (Took o answer) → IsKnownTo after o
 known_call site before after o answer late is =
     let one = alone (IsTaken after.stamp o (Ok answer)) before after o.operation.heap is.1 in
-    (one.left, one.worked.seen, one.left.book, ([], touched_reaches one.left.book one.left.book.stamp (omega arith)), taken_so answer after.stamp o one.found.book one.left.book one.steps late one.worked.worked one.done.0 one.done.1)
+    (one.left, one.worked.seen, taken_so answer after.stamp o one.found.book one.left.book one.steps late one.worked.worked one.done.0 one.done.1)
 
 -- what was taken by one of the calls is known by what the pass has then seen
 pub known_by : (site : Site) (before after : Pass) (o : Placed) (calls : List Call) → AreCalled site before after calls → WasTaken calls o → IsKnownTo after o
 known_by site before after o [] are taken = absurd taken.2
 known_by site before after o (c ∷ calls) are taken = elim taken.2 [
-  | inl same ↦ reached_after (HasTaken o) site are.0 after o.operation.heap calls are.2 (known_call site before are.0 o taken.0 taken.1 (subst (IsCalled site before are.0) same are.1))
+  | inl same ↦ seen_after (HasOperation o) (in_stays o) site are.0 after o.operation.heap calls are.2 (known_call site before are.0 o taken.0 taken.1 (subst (IsCalled site before are.0) same are.1))
   | inr more ↦ known_by site are.0 after o calls are.2 (taken.0, taken.1, more)
 ]
 
@@ -201,17 +216,51 @@ early_shown before after heap vector o is here early =
     let same : one.left.book.state.vector ≡ vector = ap (λ a. a.vector) state ∙ sym one.done.0 in
     (one.left, ap (seen_at after) here ∙ one.worked.seen, ap (λ v. sets.taken_of v o.operation) same ∙ early)
 
--- what the node answers for it
-pub wrong_take : (site : Site) (before after : Pass) (o : Placed) (r : Result Taken TakeFault) (fault : TakeFault) (n : NodeFault) → r ≡ Err fault → n ≡ untaken fault →
-    IsTakeOf site before after o r → n ≡ node.WrongHeap → IsOfSite site o → ⊥
-wrong_take site before after o r unheld.WrongHeap n is told said wrong of = said.wrong_heap.0 is of
-wrong_take site before after o r unheld.Worn n is told said wrong of = let e : node.Worn ≡ node.WrongHeap = sym told ∙ wrong in absurd (cc)
-wrong_take site before after o r unheld.NoMemory n is told said wrong of = let e : node.NoMemory ≡ node.WrongHeap = sym told ∙ wrong in absurd (cc)
+-- what is Early by a later book was Early by the earlier one
+early_before : (later earlier : Book) (o : Placed) → Reached later earlier → sets.taken_of later.state.vector o.operation ≡ sets.Early → sets.taken_of earlier.state.vector o.operation ≡ sets.Early
+early_before later earlier o reached early =
+    let parts = taken_early later.state.vector o.operation early in
+    let v = earlier.state.vector in
+    let fresh : has v o.operation.site o.operation.n ≡ false = elim (cases_Bool (has v o.operation.site o.operation.n)) [
+      | inl known ↦ absurd (let later_knows = reached_knows later earlier o.operation.site o.operation.n reached known in let e : true ≡ false = sym later_knows ∙ parts.0 in cc)
+      | inr not ↦ not
+    ] in
+    let apart : sets.covers v o.operation.seen ≡ false = elim (cases_Bool (sets.covers v o.operation.seen)) [
+      | inl all ↦ absurd (let later_covers = reached_covers_too later earlier o.operation.seen reached all in let e : true ≡ false = sym later_covers ∙ parts.1 in cc)
+      | inr not ↦ not
+    ] in
+    cond-false _ _ _ fresh ∙ cond-false _ _ _ apart
 
-pub no_rule_take : (fault : TakeFault) (n : NodeFault) → n ≡ untaken fault → n ≡ node.WrongRule → ⊥
-no_rule_take unheld.WrongHeap n told wrong = let e : node.WrongHeap ≡ node.WrongRule = sym told ∙ wrong in absurd (cc)
-no_rule_take unheld.Worn n told wrong = let e : node.Worn ≡ node.WrongRule = sym told ∙ wrong in absurd (cc)
-no_rule_take unheld.NoMemory n told wrong = let e : node.NoMemory ≡ node.WrongRule = sym told ∙ wrong in absurd (cc)
+-- an operation that is not Early by the vector that was shown is not answered as Early after it
+pub never_early : (site : Site) (a b c : Pass) (heap : ℕ) (vector : List ℕ) (o : Placed) (answer : Taken) → IsCall (IsShown vector) a b (heap ∷ []) → o.operation.heap ≡ heap → sets.taken_of vector o.operation ≢ sets.Early →
+    IsCalled site b c (Took o answer) → answer ≢ Early
+never_early site a b c heap vector o answer shown here ready called early =
+    let one = alone (IsShown vector) a b heap shown in
+    let two = alone (IsTaken c.stamp o (Ok answer)) b c o.operation.heap called.1 in
+    let seen : seen_at b o.operation.heap ≡ Some one.left = ap (seen_at b) here ∙ one.worked.seen in
+    let follow : Follows two.found one.left = subst (λ s. IfSome s (Follows two.found)) seen two.worked.follows in
+    let last : sets.taken_of two.found.book.state.vector o.operation ≡ sets.Early = sym two.done.0 ∙ ap answer_of early in
+    let first : sets.taken_of one.left.book.state.vector o.operation ≡ sets.Early = early_before two.found.book one.left.book o follow.0 last in
+    let state : one.left.book.state ≡ one.found.book.state = one.worked.worked.state ∙ ap (λ ss. steps_image ss one.found.book.state) one.done.1 in
+    let same : one.left.book.state.vector ≡ vector = ap (λ a. a.vector) state ∙ sym one.done.0 in
+    ready (ap (λ v. sets.taken_of v o.operation) (sym same) ∙ first)
+
+-- why the node stops at it
+pub stop_take : (site : Site) (before after : Pass) (o : Placed) (r : Result Taken TakeFault) (fault : TakeFault) (n : NodeFault) → r ≡ Err fault → n ≡ untaken fault →
+    IsTakeOf site before after o r → IsStopOf site (Some o) n
+stop_take site before after o r fault n is told said = subst (IsStopOf site (Some o)) (sym told) (stop_by fault (subst (IsTakeOf site before after o) is said))
+  where
+    stop_by : (fault : TakeFault) → IsTakeOf site before after o (Err fault) → IsStopOf site (Some o) (untaken fault)
+    stop_by unheld.WrongHeap said = said.wrong_heap.0 refl
+    stop_by unheld.Worn said = of_site site o (λ not. let e = said.wrong_heap.1 not in absurd (cc))
+    stop_by unheld.NoMemory said = of_site site o (λ not. let e = said.wrong_heap.1 not in absurd (cc))
+
+-- one that is not the site's leaves the pass as it was
+pub unheard_take : (site : Site) (before after : Pass) (o : Placed) (r : Result Taken TakeFault) (fault : TakeFault) (n : NodeFault) → r ≡ Err fault → n ≡ untaken fault →
+    IsTakeOf site before after o r → n ≡ node.WrongHeap → after ≡ before
+unheard_take site before after o r unheld.WrongHeap n is told said wrong = said.unlocked (said.wrong_heap.0 is)
+unheard_take site before after o r unheld.Worn n is told said wrong = let e : node.Worn ≡ node.WrongHeap = sym told ∙ wrong in absurd (cc)
+unheard_take site before after o r unheld.NoMemory n is told said wrong = let e : node.NoMemory ≡ node.WrongHeap = sym told ∙ wrong in absurd (cc)
 
 -- ---- readings
 

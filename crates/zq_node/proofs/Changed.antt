@@ -1,14 +1,16 @@
 -- What is parked after a change at one place.
 
-use Rattle.std.proofs.Common.{ap, arith, cond, false, get_or, inl, inr, length, slice_index_or, set, subst, sym, true, Bool, List, None, Option, Some, ℕ, ◌+◌, ◌<◌, ◌≤◌, ◌≡◌, ◌∙◌, ◌⊎◌}
+use Rattle.std.proofs.Common.{ap, arith, cond, false, get_or, inl, inr, length, refl, slice_index_or, set, subst, sym, true, Bool, List, None, Option, Some, ℕ, ◌+◌, ◌<◌, ◌≤◌, ◌≡◌, ◌∙◌, ◌⊎◌}
 use Rattle.std.proofs.lemmas.Bool.{cases_Bool, cases_eq, cond-false, cond-true}
 use Rattle.std.proofs.lemmas.Bool.Decides.{nat_tests}
 use Rattle.std.proofs.lemmas.List.{get_or-set_other, get_or-set_same}
 use Rattle.std.specs.BTreeMap.{is_at}
 use Rattle.std.specs.Option.{IfSome}
+use Rattle.std.specs.Prelude.{IsSome, IsTrue, is_some, ◌↔◌}
 use Rattle.zq_dots.specs.Placed.{IsRanged, Placed}
-use Rattle.zq_node.proofs.Ready.{IsPlacedAt}
-use Rattle.zq_node.specs.Parked.{ArePlaced, Entries, IsParked, IsUpdated, Place, parked_at, place_cmp, place_of}
+use Rattle.zq_node.proofs.Ready.{IsPlacedAt, some_place}
+use Rattle.zq_node.specs.Limits.{MOST_PARKED}
+use Rattle.zq_node.specs.Parked.{ArePlaced, Entries, HasPlaceOf, IsParked, IsPutAway, IsUpdated, Place, parked_at, place_cmp, place_of}
 
 at_same : (p q : Place) → is_at (place_cmp p) q ≡ true → p ≡ q
 at_same p q here =
@@ -84,3 +86,46 @@ sites_with old new p what sites is below flags o here =
 pub few_with : (b : Bool) (n m most : ℕ) → m ≡ n + cond b 0 1 → n < most → m ≤ most
 few_with true n m most is below = omega arith
 few_with false n m most is below = omega arith
+
+-- where one was there one fewer is
+pub one_fewer : (x : Option Placed) (m n : ℕ) → m + cond (is_some x) 1 0 ≡ n → IsSome x → m + 1 ≡ n
+one_fewer None m n count here = absurd (cc)
+one_fewer (Some p) m n count here = count
+
+-- where none of its heap and dot was there one more is
+pub one_more : (old : Entries) (o : Placed) (q : Place) (x : Option Placed) (m : ℕ) → ArePlaced old → q ≡ place_of o → x ≡ parked_at old q → m ≡ length old + cond (is_some x) 0 1 → (HasPlaceOf old o → ⊥) → m ≡ length old + 1
+one_more old o q None m are at is count apart = count
+one_more old o q (Some p) m are at is count apart = absurd (apart (some_place old o q (Some p) are at (sym is) refl))
+
+-- ---- one is put away
+
+-- what was parked stays
+pub put_keeps : (o : Placed) (old new : Entries) (p : Placed) → IsPutAway o old new → IsParked old p → IsParked new p
+put_keeps o old new p (inl again) here = subst (λ e. IsParked e p) (sym again.1) here
+put_keeps o old new p (inr (inl full)) here = subst (λ e. IsParked e p) (sym full.2) here
+put_keeps o old new p (inr (inr put)) here = elim (changed_at old new (place_of o) (Some o) (place_of p) put.2) [
+  | inl at ↦ absurd (put.0 (p, here, sym at.0))
+  | inr same ↦ same ∙ here
+]
+
+-- and nothing else comes
+pub put_found : (o : Placed) (old new : Entries) (p : Placed) → IsPutAway o old new → IsParked new p → IsParked old p ⊎ (o ≡ p)
+put_found o old new p (inl again) there = inl (subst (λ e. IsParked e p) again.1 there)
+put_found o old new p (inr (inl full)) there = inl (subst (λ e. IsParked e p) full.2 there)
+put_found o old new p (inr (inr put)) there = elim (changed_at old new (place_of o) (Some o) (place_of p) put.2) [
+  | inl at ↦ inr (let both : Some o ≡ Some p = sym at.1 ∙ there in cc)
+  | inr same ↦ inl (sym same ∙ there)
+]
+
+-- it is parked, or as many were as may be
+pub put_heard : (o : Placed) (old new : Entries) → IsPutAway o old new → HasPlaceOf new o ⊎ (MOST_PARKED ≤ length old)
+put_heard o old new (inl again) = inl (subst (λ e. HasPlaceOf e o) (sym again.1) again.0)
+put_heard o old new (inr (inl full)) = inr full.1
+put_heard o old new (inr (inr put)) = inl (o, parked_here old new o put.2, refl)
+
+-- where it was to be parked it is
+pub put_here : (old new : Entries) (op copy : Placed) (kept : Bool) → (HasPlaceOf old op → ⊥) → length old < MOST_PARKED → copy ≡ op → IsTrue kept ↔ (length old < MOST_PARKED) → (IsTrue kept → IsUpdated old new (place_of copy) (Some copy)) →
+    (IsTrue kept → (HasPlaceOf old copy → ⊥) → length new ≡ length old + 1) → IsPutAway op old new
+put_here old new op copy kept apart few same full is more =
+    let here : IsTrue kept = full.1 few in
+    inr (inr (apart, few, subst (λ o. IsUpdated old new (place_of o) (Some o)) same (is here), more here (subst (λ o. HasPlaceOf old o → ⊥) (sym same) apart)))

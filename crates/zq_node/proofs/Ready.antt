@@ -55,7 +55,7 @@ pub placed_at : (parked : Entries) (q : Place) (o : Placed) → ArePlaced parked
 placed_at parked q o are is = subst (λ x. IfSome x (IsPlacedAt q)) is (are q)
 
 -- a place that is taken has one of its heap and dot
-some_place : (parked : Entries) (o : Placed) (q : Place) (x : Option Placed) → ArePlaced parked → q ≡ place_of o → parked_at parked q ≡ x → is_some x ≡ true → HasPlaceOf parked o
+pub some_place : (parked : Entries) (o : Placed) (q : Place) (x : Option Placed) → ArePlaced parked → q ≡ place_of o → parked_at parked q ≡ x → is_some x ≡ true → HasPlaceOf parked o
 some_place parked o q (Some p) are at is some = let placed = placed_at parked q p are is in (p, ap (parked_at parked) placed.0 ∙ is, placed.0 ∙ at)
 some_place parked o q None are at is some = absurd (cc)
 

@@ -8,7 +8,7 @@ use Rattle.zq_frames.specs.Frame.{Frame}
 use Rattle.zq_frames.specs.declared.frame.Frame as code
 use Rattle.zq_frames.specs.declared.frame.Frame.TheVariants as heard
 use Rattle.zq_frames.specs.declared.frame.Have as said
-use Rattle.zq_history.proofs.Reached.{touched_reaches}
+use Rattle.zq_history.proofs.Covered.{reached_covers_too}
 use Rattle.zq_history.specs.Books.{Book, Step, steps_image}
 use Rattle.zq_journal.specs.declared.faults.MergeFault.{MergeFault}
 use Rattle.zq_journal.specs.declared.faults.MergeFault.TheVariants as unjoined
@@ -17,15 +17,15 @@ use Rattle.zq_model.proofs.Taken.{covers_from}
 use Rattle.zq_model.specs.Image.{join}
 use Rattle.zq_model.specs.Rule.{Rule}
 use Rattle.zq_model.specs.Sets.{covers}
-use Rattle.zq_node.proofs.Called.{alone, no_step_by}
-use Rattle.zq_node.specs.Calls.{HasReached, IsCalled, MadeNoStep, Merged}
+use Rattle.zq_node.proofs.Called.{Stays, alone, no_step_by}
+use Rattle.zq_node.specs.Calls.{IsCalled, MadeNoStep, Merged}
 use Rattle.zq_node.specs.Faults.{IsOwnFault, unmerged}
-use Rattle.zq_node.specs.Hearing.{IsFaultOf, IsForSite, IsNotFor, IsOfOneHeap, HasSiteRule, IsTold, IsToldOf}
+use Rattle.zq_node.specs.Hearing.{IsFaultOf, IsForSite, IsNotFor, IsRefusedFor, HasSiteRule, IsTold, IsToldOf}
 use Rattle.zq_node.specs.declared.faults.NodeFault.{NodeFault}
 use Rattle.zq_node.specs.declared.faults.NodeFault.TheVariants as node
 use Rattle.zq_shard.specs.Shard.{HeapImage}
 use Rattle.zq_spread.specs.Answers.{IsMerged}
-use Rattle.zq_spread.specs.Calls.{IsCall, IsLikeSite, heaps_of}
+use Rattle.zq_spread.specs.Calls.{HasSeenBook, IsCall, IsLikeSite, heaps_of}
 use Rattle.zq_spread.specs.Passes.{IsStopped}
 use Rattle.zq_spread.specs.declared.pass.Pass.{Pass}
 use Rattle.zq_spread.specs.declared.site.Site.{Site}
@@ -44,18 +44,11 @@ if_err P (Ok x) fault is holds = absurd is
 if_err P (Err e) fault is holds = subst P (sym is) holds
 
 -- the site's own fault, after the frame was judged
-pub own_fault : (site : Site) (frame : code.Frame) (fault : NodeFault) → IsOwnFault fault → IsForSite site frame → HasSiteRule site frame → IsFaultOf site frame fault
+pub own_fault : (site : Site) (frame : code.Frame) (fault : NodeFault) → IsOwnFault fault → IsForSite site frame → HasSiteRule site frame → IsRefusedFor site frame fault
 own_fault site frame node.WrongHeap own is rule = absurd own
 own_fault site frame node.WrongRule own is rule = absurd own
-own_fault site frame node.Worn own is rule = λ one. (is, rule)
-own_fault site frame node.NoMemory own is rule = λ one. (is, rule)
-
--- a fault of operations
-pub ops_fault : (site : Site) (frame : code.Frame) (fault : NodeFault) → (IsOfOneHeap frame → ⊥) → (fault ≡ node.WrongHeap → IsForSite site frame → ⊥) → (fault ≡ node.WrongRule → ⊥) → IsFaultOf site frame fault
-ops_fault site frame node.WrongHeap many heap rule = heap refl
-ops_fault site frame node.WrongRule many heap rule = absurd (rule refl)
-ops_fault site frame node.Worn many heap rule = λ one. absurd (many one)
-ops_fault site frame node.NoMemory many heap rule = λ one. absurd (many one)
+own_fault site frame node.Worn own is rule = (is, rule)
+own_fault site frame node.NoMemory own is rule = (is, rule)
 
 -- why a Have is refused
 pub have_fault : (site : Site) (h : said.Have) (fault : NodeFault) → IsNotFor site h.heap h.heaps (rule_of h.rule) fault → IsFaultOf site (heard.Have h) fault
@@ -104,11 +97,18 @@ own_merge site s r unjoined.WrongRule is like heap rule = absurd ((rule.0 is).1 
 own_merge site s r unjoined.Worn is like heap rule = tt
 own_merge site s r unjoined.NoMemory is like heap rule = tt
 
+-- the book has all of the heap
+abbrev pub Covers : HeapImage → Book → Type 0
+Covers s b = covers b.state.vector s.image.vector ≡ true
+
+pub covers_stays : (s : HeapImage) → Stays (Covers s)
+covers_stays s later earlier reached all = reached_covers_too later earlier s.image.vector reached all
+
 -- the pass has seen all that was merged
-pub merged_covers : (site : Site) (before after : Pass) (s : HeapImage) → IsCalled site before after (Merged s) → HasReached after s.heap (λ b. covers b.state.vector s.image.vector ≡ true)
+pub merged_covers : (site : Site) (before after : Pass) (s : HeapImage) → IsCalled site before after (Merged s) → HasSeenBook after s.heap (Covers s)
 merged_covers site before after s is =
     let one = alone (IsMerged after.stamp s (Ok tt)) before after s.heap is.1 in
     let state : one.left.book.state ≡ join one.found.book.state s.image = one.worked.worked.state ∙ ap (λ ss. steps_image ss one.found.book.state) one.done.1 in
     let all : covers (join one.found.book.state s.image).vector s.image.vector ≡ true =
     covers_from (join one.found.book.state s.image).vector s.image.vector (λ t below. let at = join_vector_at one.found.book.state s.image t below in let more = le-max_right (get_or one.found.book.state.vector t 0) (get_or s.image.vector t 0) in omega (arith, at, more)) in
-    (one.left, one.worked.seen, one.left.book, ([], touched_reaches one.left.book one.left.book.stamp (omega arith)), ap (λ a. covers a.vector s.image.vector) state ∙ all)
+    (one.left, one.worked.seen, ap (λ a. covers a.vector s.image.vector) state ∙ all)

@@ -5,9 +5,9 @@ use Rattle.std.specs.Prelude.{List, None, [], ℕ, ◌++◌, ◌≢◌, ◌∷�
 use Rattle.zq_dots.specs.Placed.{Placed}
 use Rattle.zq_model.proofs.Membership.{in_left, in_right, in_union}
 use Rattle.zq_model.specs.Sets.{IsIn}
-use Rattle.zq_node.proofs.Called.{called_on, known_by, reached_after}
+use Rattle.zq_node.proofs.Called.{HasOperation, called_on, in_stays, known_by, seen_after}
 use Rattle.zq_node.proofs.Changed.{parked_before, parked_still}
-use Rattle.zq_node.specs.Calls.{Asked, Call, Copied, HasTaken, IsCalled, IsKnownTo, Merged, Saw, Took}
+use Rattle.zq_node.specs.Calls.{Asked, Call, Copied, IsCalled, IsKnownTo, Merged, Saw, Took}
 use Rattle.zq_node.specs.Parked.{Entries, IsParked, IsUpdated, place_of}
 use Rattle.zq_node.specs.Work.{IsOwed, IsWork}
 use Rattle.zq_shard.specs.declared.taken.Taken.{Taken}
@@ -107,7 +107,7 @@ module _ (site : Site) (ops : List Placed) where
 
   -- what is known or parked stays so
   pub stays_heard : (x y : Entries) (a b : Pass) (o : Placed) → IsWork site ops x y a b → IsKnownTo a o ⊎ IsParked x o → IsKnownTo b o ⊎ IsParked y o
-  stays_heard x y a b o is (inl known) = inl (reached_after (HasTaken o) site a b o.operation.heap is.calls is.called known)
+  stays_heard x y a b o is (inl known) = inl (seen_after (HasOperation o) (in_stays o) site a b o.operation.heap is.calls is.called known)
   stays_heard x y a b o is (inr parked) = elim (is.kept o parked) [
     | inl stays ↦ inr stays
     | inr taken ↦ inl (known_by site a b o is.calls is.called taken)

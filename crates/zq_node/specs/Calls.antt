@@ -1,19 +1,16 @@
 -- The calls of its site that a node makes with its pass.
 
-use Rattle.std.specs.Prelude.{List, Ok, Some, [], ℕ, ◌≡◌, ◌≢◌, ◌∷◌, ◌⊎◌}
+use Rattle.std.specs.Prelude.{List, Ok, [], true, ℕ, ◌≡◌, ◌≢◌, ◌∷◌}
 use Rattle.zq_dots.specs.Placed.{Placed}
-use Rattle.zq_history.specs.Books.{Book}
-use Rattle.zq_history.specs.Reach.{Reached}
 use Rattle.zq_journal.specs.declared.since.Since.{Since}
-use Rattle.zq_model.specs.Image.{Image, image_after}
+use Rattle.zq_model.specs.Operation.{has}
 use Rattle.zq_model.specs.Sets as sets
 use Rattle.zq_shard.specs.Shard.{HeapImage}
 use Rattle.zq_shard.specs.declared.taken.Taken.{Taken}
 use Rattle.zq_shard.specs.declared.taken.Taken.TheVariants as taken
 use Rattle.zq_spread.specs.Answers.{IsAsked, IsCopied, IsMerged, IsShown, IsSince, IsTaken}
 use Rattle.zq_spread.specs.Calls.{HasSeenBook, IsCall, IsLikeSite, IsOfSite}
-use Rattle.zq_spread.specs.Passes.{seen_at, steps_at}
-use Rattle.zq_spread.specs.declared.kept.Kept.{Kept}
+use Rattle.zq_spread.specs.Passes.{steps_at}
 use Rattle.zq_spread.specs.declared.pass.Pass.{Pass}
 use Rattle.zq_spread.specs.declared.site.Site.{Site}
 
@@ -46,17 +43,9 @@ WasTaken calls o = (answer : Taken) × (answer ≢ taken.Early) × sets.IsIn (To
 abbrev pub MadeNoStep : Pass → Pass → Type 0
 MadeNoStep before after = (h : ℕ) → steps_at after h ≡ steps_at before h
 
--- the pass has seen a book of this heap that had this property, or was reached from one that had it
-abbrev pub HasReached : Pass → ℕ → (Book → Type 0) → Type 0
-HasReached pass h P = (x : Kept) × (seen_at pass h ≡ Some x) × (b : Book) × Reached x.book b × P b
-
--- the operation is Known by the book, or was New when the book took it
-abbrev pub HasTaken : Placed → Book → Type 0
-HasTaken o b = (sets.taken_of b.state.vector o.operation ≡ sets.Known) ⊎ ((a : Image) × (sets.taken_of a.vector o.operation ≡ sets.New) × (b.state ≡ image_after o.operation a))
-
--- the site has the operation, by what the pass has seen of its heap
+-- the operation is in the vector that the pass has seen of its heap
 abbrev pub IsKnownTo : Pass → Placed → Type 0
-IsKnownTo pass o = HasReached pass o.operation.heap (HasTaken o)
+IsKnownTo pass o = HasSeenBook pass o.operation.heap (λ b. has b.state.vector o.operation.site o.operation.n ≡ true)
 
 -- the operation is Early by what the pass has seen of its heap
 abbrev pub IsEarlyTo : Pass → Placed → Type 0

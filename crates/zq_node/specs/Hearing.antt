@@ -1,6 +1,6 @@
 -- What hearing a frame does, and what is sent then.
 
-use Rattle.std.specs.Prelude.{List, MatchBool, None, Option, Some, [], if◌then◌else◌, length, map, option_to_list, take, true, ℕ, ◌+◌, ◌++◌, ◌<◌, ◌∷◌, ◌≡◌, ◌≢◌, ◌⊎◌}
+use Rattle.std.specs.Prelude.{List, MatchBool, None, Option, Some, [], if◌then◌else◌, length, map, option_to_list, slice_get, take, true, ℕ, ◌+◌, ◌++◌, ◌<◌, ◌∷◌, ◌≡◌, ◌≢◌, ◌≤◌, ◌⊎◌}
 use Rattle.zq_dots.specs.Placed.{Placed}
 use Rattle.zq_dots.specs.Rule.{rule_of}
 use Rattle.zq_frames.specs.Frame.{Frame, Have, OfHave, OfOps, OfState, frame_of, have_of}
@@ -10,15 +10,16 @@ use Rattle.zq_journal.specs.declared.since.Since.{Since}
 use Rattle.zq_journal.specs.declared.since.Since.TheVariants.{Ops, TooOld}
 use Rattle.zq_model.specs.Rule.{Rule}
 use Rattle.zq_model.specs.Sets.{IsIn, covers}
-use Rattle.zq_node.specs.Calls.{AreCalled, Asked, Call, Copied, HasReached, IsCalled, MadeNoStep, Merged, Saw}
+use Rattle.zq_node.specs.Calls.{AreCalled, Asked, Call, Copied, IsCalled, MadeNoStep, Merged, Saw}
+use Rattle.zq_node.specs.Faults.{IsOwnFault}
+use Rattle.zq_node.specs.Limits.{MOST_TOLD}
 use Rattle.zq_node.specs.Node.{parked_of, pass_of, site_of}
-use Rattle.zq_node.specs.Work.{AllWait, HasWorked, IsHeard, IsWork, WasStopped}
+use Rattle.zq_node.specs.Work.{AllWait, AreTurns, HasWorked, IsHeard, IsWork, WasStopped}
 use Rattle.zq_node.specs.declared.faults.NodeFault.{NodeFault}
 use Rattle.zq_node.specs.declared.faults.NodeFault.TheVariants as fault
 use Rattle.zq_node.specs.declared.node.Node.{Node}
-use Rattle.zq_node.specs.declared.telling.TheConstants.{MOST_TOLD}
 use Rattle.zq_shard.specs.Shard.{HeapImage}
-use Rattle.zq_spread.specs.Calls.{IsOfSite, heaps_of}
+use Rattle.zq_spread.specs.Calls.{HasSeenBook, IsOfSite, heaps_of}
 use Rattle.zq_spread.specs.declared.pass.Pass.{Pass}
 use Rattle.zq_spread.specs.declared.site.Site.{Site}
 
@@ -46,12 +47,35 @@ IsOfOneHeap (heard.Have h) = Unit {0}
 IsOfOneHeap (heard.Ops ops) = ⊥
 IsOfOneHeap (heard.State s) = Unit {0}
 
--- why a frame was refused: WrongHeap where it is not for the site, WrongRule where it is and its rule is another; else it is the site's own fault
+-- why a frame of one heap is refused: WrongHeap where it is not for the site, WrongRule where it is and its rule is another;
+-- else it is the site's own fault
+abbrev pub IsRefusedFor : Site → code.Frame → NodeFault → Type 0
+IsRefusedFor site frame fault.WrongHeap = IsForSite site frame → ⊥
+IsRefusedFor site frame fault.WrongRule = IsForSite site frame × (HasSiteRule site frame → ⊥)
+IsRefusedFor site frame fault.Worn = IsForSite site frame × HasSiteRule site frame
+IsRefusedFor site frame fault.NoMemory = IsForSite site frame × HasSiteRule site frame
+
+-- why operations are heard no further, by the one whose turn it is: WrongHeap where that is not the site's, and else the
+-- site's own fault; and so it is after the last one
+abbrev pub IsStopOf : Site → Option Placed → NodeFault → Type 0
+IsStopOf site None why = IsOwnFault why
+IsStopOf site (Some o) fault.WrongHeap = IsOfSite site o → ⊥
+IsStopOf site (Some o) fault.WrongRule = ⊥
+IsStopOf site (Some o) fault.Worn = IsOfSite site o
+IsStopOf site (Some o) fault.NoMemory = IsOfSite site o
+
+-- where operations are heard no further: all those before are the site's
+pub record StopsAt (site : Site) (ops : List Placed) (why : NodeFault) : Type 0 where
+  pub at : ℕ
+  pub within : at ≤ length ops
+  pub before : (o : Placed) → IsIn o (take at ops) → IsOfSite site o
+  pub stop : IsStopOf site (slice_get ops at) why
+
+-- why a frame was not heard to its end
 abbrev pub IsFaultOf : Site → code.Frame → NodeFault → Type 0
-IsFaultOf site frame fault.WrongHeap = IsForSite site frame → ⊥
-IsFaultOf site frame fault.WrongRule = IsForSite site frame × (HasSiteRule site frame → ⊥)
-IsFaultOf site frame fault.Worn = IsOfOneHeap frame → IsForSite site frame × HasSiteRule site frame
-IsFaultOf site frame fault.NoMemory = IsOfOneHeap frame → IsForSite site frame × HasSiteRule site frame
+IsFaultOf site (heard.Have h) why = IsRefusedFor site (heard.Have h) why
+IsFaultOf site (heard.Ops ops) why = StopsAt site ops.items why
+IsFaultOf site (heard.State s) why = IsRefusedFor site (heard.State s) why
 
 -- why a heap of this number, among so many, with this rule is refused
 abbrev pub IsNotFor : Site → ℕ → ℕ → Rule → NodeFault → Type 0
@@ -105,18 +129,22 @@ pub record IsHaveHeard (site : Site) (h : Have) (before after : Pass) (sent : Li
   pub told_is : IsToldOf site shown after h.heap h.vector vector told
   pub sent_is : sent ≡ sent_to h.from (option_to_list told ++ option_to_list (own_have site h.heap h.vector vector))
 
--- the work with these operations, after which each of them is known, parked or dropped, and those that are parked wait
+-- the node was handed these operations in turn, and then tried all that is parked: each of them is known, parked or dropped,
+-- and those that are parked wait
 pub record AreOpsHeard (ops : List Placed) (old new : Node) : Type 0 where
   pub work : HasWorked ops old new
-  pub each : (o : Placed) → IsIn o ops → IsHeard new (length (parked_of old) + length ops) o
+  pub heard : Node
+  pub turns : AreTurns ops old heard
+  pub tried : HasWorked [] heard new
+  pub each : (o : Placed) → IsIn o ops → IsHeard ops old new o
   pub wait : AllWait new
 
--- the heap was merged, so that the pass has seen all that it has, and those that are parked wait
+-- the heap was merged, so that the vector that the pass has seen covers its, and those that are parked wait
 pub record IsStateHeard (s : HeapImage) (old new : Node) : Type 0 where
   pub merged : Pass
   pub called : IsCalled (site_of old) (pass_of old) merged (Merged s)
   pub work : IsWork (site_of old) [] (parked_of old) (parked_of new) merged (pass_of new)
-  pub covered : HasReached (pass_of new) s.heap (λ b. covers b.state.vector s.image.vector ≡ true)
+  pub covered : HasSeenBook (pass_of new) s.heap (λ b. covers b.state.vector s.image.vector ≡ true)
   pub wait : AllWait new
 
 -- what hearing the frame does where it is heard to its end, and what is sent
@@ -132,11 +160,20 @@ IsStateStopped s old new =
     ((merged : Pass) × IsCalled (site_of old) (pass_of old) merged (Merged s) ×
     ((mid : Pass) × IsWork (site_of old) [] (parked_of old) (parked_of new) merged mid × MadeNoStep mid (pass_of new)))
 
--- what stands where it is not heard to its end: what was parked or taken before stays so
-abbrev pub HasStopped : code.Frame → Node → Node → Type 0
-HasStopped (heard.Have h) old new = (parked_of new ≡ parked_of old) × MadeNoStep (pass_of old) (pass_of new)
-HasStopped (heard.Ops ops) old new = WasStopped ops.items old new
-HasStopped (heard.State s) old new = IsStateStopped s old new
+-- the node was handed these operations in turn as far as the one at which it stopped, or it stopped after the last one: what
+-- was taken or parked before stays, and one that is not the site's changes nothing
+pub record AreOpsStopped (ops : List Placed) (old new : Node) (why : NodeFault) : Type 0 where
+  pub place : StopsAt (site_of old) ops why
+  pub heard : Node
+  pub turns : AreTurns (take place.at ops) old heard
+  pub stopped : WasStopped (option_to_list (slice_get ops place.at)) heard new
+  pub unheard : why ≡ fault.WrongHeap → new ≡ heard
+
+-- what stands where it is not heard to its end
+abbrev pub HasStopped : code.Frame → Node → Node → NodeFault → Type 0
+HasStopped (heard.Have h) old new why = (parked_of new ≡ parked_of old) × MadeNoStep (pass_of old) (pass_of new)
+HasStopped (heard.Ops ops) old new why = AreOpsStopped ops.items old new why
+HasStopped (heard.State s) old new why = IsStateStopped s old new
 
 -- ---- what is sent to each peer in turn
 

@@ -3,9 +3,9 @@
 use Rattle.std.specs.BTreeMap.{btree_map_len}
 use Rattle.std.specs.Prelude.{false, slice_index_or, true, ◌≡◌, ◌≤◌}
 use Rattle.zq_dots.specs.Placed.{Placed}
+use Rattle.zq_node.specs.Limits.{MOST_PARKED}
 use Rattle.zq_node.specs.Parked.{ArePlaced, IsParked}
 use Rattle.zq_node.specs.declared.parked.Parked.TheInside.{Inside}
-use Rattle.zq_node.specs.declared.parked.TheConstants.{MOST_PARKED}
 
 -- each lies at its place, with its numbers in range; its site is one that may have operations here; they are few
 pub record IsInside (p : Inside) : Type 0 where

@@ -1,3 +1,4 @@
+pub mod Limits
 pub mod Parked
 pub mod Inside
 pub mod Calls

@@ -4,10 +4,11 @@ use Rattle.std.specs.BTreeMap.{is_at}
 use Rattle.std.specs.Map.{lookup}
 use Rattle.std.specs.Option.{IfSome}
 use Rattle.std.specs.Ordering.{nat_cmp, ordering_then}
-use Rattle.std.specs.Prelude.{List, Option, Some, cond, ℕ, ◌≡◌, ◌≢◌}
+use Rattle.std.specs.Prelude.{List, Option, Some, cond, length, ℕ, ◌+◌, ◌<◌, ◌≡◌, ◌≢◌, ◌≤◌, ◌⊎◌}
 use Rattle.std.specs.declared.cmp.Ordering.{Ordering}
 use Rattle.zq_dots.specs.Placed.{IsRanged, Placed}
 use Rattle.zq_model.specs.Sets.{Early, taken_of}
+use Rattle.zq_node.specs.Limits.{MOST_PARKED}
 
 -- a heap, a site and a counter
 abbrev pub Place : Type 0
@@ -51,3 +52,11 @@ IsReadyAt parked heap vector p =
 abbrev pub IsSiteEarly : Entries → ℕ → List ℕ → ℕ → Type 0
 IsSiteEarly parked heap vector site =
     (o : Placed) → IsParked parked o → o.operation.heap ≡ heap → o.operation.site ≡ site → taken_of vector o.operation ≡ Early
+
+-- an operation is put away: where one of its heap and dot is parked, or as many as may be are, nothing changes, and else it
+-- is parked
+abbrev pub IsPutAway : Placed → Entries → Entries → Type 0
+IsPutAway o old new =
+    (HasPlaceOf old o × (new ≡ old))
+    ⊎ ((HasPlaceOf old o → ⊥) × (MOST_PARKED ≤ length old) × (new ≡ old))
+    ⊎ ((HasPlaceOf old o → ⊥) × (length old < MOST_PARKED) × IsUpdated old new (place_of o) (Some o) × (length new ≡ length old + 1))

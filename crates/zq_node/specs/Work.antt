@@ -1,13 +1,15 @@
 -- What a node does with operations.
 
-use Rattle.std.specs.Prelude.{List, ℕ, ◌<◌, ◌≡◌, ◌⊎◌}
+use Rattle.std.specs.Prelude.{List, [], length, ℕ, ◌++◌, ◌≡◌, ◌≤◌, ◌∷◌, ◌⊎◌}
 use Rattle.zq_dots.specs.Placed.{Placed}
 use Rattle.zq_model.specs.Sets.{IsIn}
-use Rattle.zq_node.specs.Calls.{AreCalled, Asked, Call, Copied, IsEarlyTo, IsKnownTo, MadeNoStep, Merged, Saw, Took, WasTaken}
-use Rattle.zq_node.specs.Node.{parked_of, pass_of, site_of}
-use Rattle.zq_node.specs.Parked.{Entries, IsParked, place_of}
+use Rattle.zq_node.specs.Calls.{AreCalled, Asked, Call, Copied, IsCalled, IsEarlyTo, IsKnownTo, MadeNoStep, Merged, Saw, Took, WasTaken}
+use Rattle.zq_node.specs.Limits.{MOST_PARKED}
+use Rattle.zq_node.specs.Node.{IsSameHome, parked_of, pass_of, site_of}
+use Rattle.zq_node.specs.Parked.{Entries, HasPlaceOf, IsParked, IsPutAway}
 use Rattle.zq_node.specs.declared.node.Node.{Node}
-use Rattle.zq_node.specs.declared.parked.TheConstants.{MOST_PARKED}
+use Rattle.zq_shard.specs.declared.taken.Taken.{Taken}
+use Rattle.zq_shard.specs.declared.taken.Taken.TheVariants.{Early, Known, New}
 use Rattle.zq_spread.specs.declared.pass.Pass.{Pass}
 use Rattle.zq_spread.specs.declared.site.Site.{Site}
 
@@ -39,11 +41,6 @@ HasWorked ops old new = HasWorkedTo ops old new (pass_of new)
 abbrev pub WasStopped : List Placed → Node → Node → Type 0
 WasStopped ops old new = (mid : Pass) × HasWorkedTo ops old new mid × MadeNoStep mid (pass_of new)
 
--- the operation is known to the site or parked, or another of its heap and dot is, or it was dropped, where so many were parked and heard. No honest site makes two
--- of one heap and dot
-abbrev pub IsHeard : Node → ℕ → Placed → Type 0
-IsHeard new count o = ((p : Placed) × (place_of p ≡ place_of o) × (IsKnownTo (pass_of new) p ⊎ IsParked (parked_of new) p)) ⊎ (MOST_PARKED < count)
-
 -- what is parked of a heap is Early by what the pass has then seen there
 abbrev pub WaitIn : Node → ℕ → Type 0
 WaitIn new heap = (o : Placed) → IsParked (parked_of new) o → o.operation.heap ≡ heap → IsEarlyTo (pass_of new) o
@@ -51,3 +48,44 @@ WaitIn new heap = (o : Placed) → IsParked (parked_of new) o → o.operation.he
 -- all that is parked is Early by what the pass has then seen
 abbrev pub AllWait : Node → Type 0
 AllWait new = (o : Placed) → IsParked (parked_of new) o → IsEarlyTo (pass_of new) o
+
+-- ---- operations in turn
+
+-- what a node does by the site's answer: after a New one it tries what is parked in its heap until all of that is Early,
+-- after a Known one it does nothing, and an Early one is put away
+abbrev pub DoesAfter : Taken → Placed → Node → Node → Type 0
+DoesAfter New o asked new = HasWorked [] asked new × WaitIn new o.operation.heap × (length (parked_of new) ≤ length (parked_of asked))
+DoesAfter Known o asked new = new ≡ asked
+DoesAfter Early o asked new = (pass_of new ≡ pass_of asked) × IsPutAway o (parked_of asked) (parked_of new)
+
+-- the site was handed an operation, and the node did what follows
+pub record IsTurn (o : Placed) (old new : Node) : Type 0 where
+  pub answer : Taken
+  pub asked : Node
+  pub called : IsCalled (site_of old) (pass_of old) (pass_of asked) (Took o answer)
+  pub parked : parked_of asked ≡ parked_of old
+  pub home : IsSameHome old asked
+  pub does : DoesAfter answer o asked new
+  pub stays : IsSameHome old new
+
+-- it was handed each of these, one after the other
+abbrev pub AreTurns : List Placed → Node → Node → Type 0
+AreTurns [] old new = new ≡ old
+AreTurns (o ∷ ops) old new = (next : Node) × IsTurn o old next × AreTurns ops next new
+
+-- one of the operations was dropped, as if it had been lost: it was Early when its turn came, and as many were parked as
+-- may be
+pub record WasDropped (ops : List Placed) (old : Node) (o : Placed) : Type 0 where
+  pub first : List Placed
+  pub rest : List Placed
+  pub split : ops ≡ first ++ o ∷ rest
+  pub found : Node
+  pub turns : AreTurns first old found
+  pub asked : Pass
+  pub called : IsCalled (site_of old) (pass_of found) asked (Took o Early)
+  pub full : MOST_PARKED ≤ length (parked_of found)
+
+-- one of the operations that were heard is in the vector that the pass has then seen, or it is parked, or one of its heap
+-- and dot is, or it was dropped. No honest site makes two of one heap and dot
+abbrev pub IsHeard : List Placed → Node → Node → Placed → Type 0
+IsHeard ops old new o = IsKnownTo (pass_of new) o ⊎ HasPlaceOf (parked_of new) o ⊎ WasDropped ops old o

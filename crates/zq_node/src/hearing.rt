@@ -39,7 +39,7 @@ impl Node<'_> {
         ensures home { IsSameHome self.old self.new }
         ensures heard { IfOk result (λ sent. HasHeard frame.now self.old self.new (sent_of sent.items)) }
         ensures writable { IfOk result (λ sent. All (λ s. IsWritable s.1) sent.items) }
-        ensures stopped { OnErr result (HasStopped frame.now self.old self.new) }
+        ensures stopped { IfErr result (HasStopped frame.now self.old self.new) }
         ensures right { OnOk result (IsForSite (site_of self.old) frame.now × HasSiteRule (site_of self.old) frame.now) }
         ensures fault { IfErr result (IsFaultOf (site_of self.old) frame.now) }
         ensures unheard { IfErr result (λ fault. IsOfOneHeap frame.now → IsOwnFault fault ⊎ (self.new ≡ self.old)) }

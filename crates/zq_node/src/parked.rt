@@ -1,10 +1,10 @@
 //! Operations that came early.
-ghost use Rattle.std.specs.Prelude.{◌≡◌, ◌≢◌, ◌≤◌, ◌<◌, ◌+◌, ◌↔◌, [], IfNone, IfOk, IfSome, IsTrue, None, OnErr, Some, false, length, true};
+ghost use Rattle.std.specs.Prelude.{◌≡◌, ◌≢◌, ◌≤◌, ◌<◌, ◌+◌, ◌↔◌, [], IfNone, IfOk, IfSome, IsSome, IsTrue, None, OnErr, Some, false, length, true};
 ghost use Rattle.zq_dots.specs.Placed.{IsRanged, Placed};
 ghost use Rattle.zq_model.specs.Sets as sets;
+ghost use Rattle.zq_node.specs.Limits as limits;
 ghost use Rattle.zq_node.specs.Parked as parked;
 ghost use Rattle.zq_node.specs.Parked.{ArePlaced, HasPlaceOf, IsParked, IsReadyAt, IsSiteEarly, IsUpdated};
-ghost use Rattle.zq_node.specs.declared.parked.TheConstants as limits;
 
 use std::alloc::{AllocError, Global};
 use std::collections::BTreeMap;
@@ -66,7 +66,8 @@ impl Parked {
         ensures full { IfOk result (λ kept. IsTrue kept ↔ (length self.old < limits.MOST_PARKED)) }
         ensures parked { IfOk result (λ kept. IsTrue kept → IsUpdated self.old self.new (parked.place_of op) (Some op)) }
         ensures dropped { IfOk result (λ kept. kept ≡ false → self.new ≡ self.old) }
-        ensures more { IfOk result (λ _. length self.new ≤ length self.old + 1) }
+        ensures more { IfOk result (λ kept. IsTrue kept → (HasPlaceOf self.old op → ⊥) →
+            length self.new ≡ length self.old + 1) }
         ensures refused { OnErr result (self.new ≡ self.old) }
     {
         if self.ops.len() >= MOST_PARKED {
@@ -97,7 +98,8 @@ impl Parked {
     /// Lets the operation of this heap and dot go, where one is parked. It takes no memory.
     pub fn leave(&mut self, heap: u8, dot: Dot)
         ensures left { IsUpdated self.old self.new (heap, dot.site, dot.n) None }
-        ensures fewer { length self.new ≤ length self.old }
+        ensures fewer { IsSome (parked.parked_at self.old (heap, dot.site, dot.n)) →
+            length self.new + 1 ≡ length self.old }
     {
         let site = dot.site.value();
         let _ = self.ops.remove(&(heap, site, dot.n));

@@ -13,21 +13,10 @@ use crate::faults::NodeFault;
 use crate::node::Node;
 use std::alloc::Global;
 use std::sync::Wait;
-use zq_shard::Taken;
-
-/// Whether the site has the operation now.
-fn is_taken(taken: Taken) -> bool
-    ensures { IsTrue result → taken ≢ Taken.Early }
-{
-    match taken {
-        Taken::New | Taken::Known => true,
-        Taken::Early => false,
-    }
-}
 
 impl Node<'_> {
     /// Hands the site one operation of a heap that is parked and no longer Early, and lets it go. Answers whether there
-    /// was one.
+    /// was one: then fewer are parked.
     fn try_next<R: Wait>(&mut self, rt: &R, alloc: Global, heap: u8) -> Result<bool, NodeFault>
         requires node { IsNode self.old }
         requires heap { heap < heaps_of (site_of self.old) }
@@ -37,7 +26,9 @@ impl Node<'_> {
         ensures stopped { OnErr result (WasStopped [] self.old self.new) }
         ensures wait { IfOk result (λ more. more ≡ false → WaitIn self.new heap) }
         ensures others { OnOk result ((k : ℕ) → (k ≡ heap → ⊥) → seen_at (pass_of self.new) k ≡ seen_at (pass_of self.old) k) }
-        ensures fewer { length (parked_of self.new) ≤ length (parked_of self.old) }
+        ensures fewer { IfOk result (λ more. IsTrue more →
+            length (parked_of self.new) < length (parked_of self.old)) }
+        ensures none { IfOk result (λ more. more ≡ false → parked_of self.new ≡ parked_of self.old) }
         ensures fault { IfErr result IsOwnFault }
     {
         let site = self.home.site;
@@ -46,11 +37,8 @@ impl Node<'_> {
             return Ok(false);
         };
         let dot = op.dot();
-        let taken = site.take(rt, alloc, &mut self.pass, op)?;
-        if !is_taken(taken) {
-            // What a site has taken stays: this does not come. The next try looks again.
-            return Ok(true);
-        }
+        // What a site has taken stays, so one that was ready by its vector is not Early now.
+        site.take(rt, alloc, &mut self.pass, op)?;
         self.parked.leave(heap, dot);
         Ok(true)
     }
@@ -70,18 +58,14 @@ impl Node<'_> {
         ensures stopped { OnErr result (WasStopped [] self.old self.new) }
         ensures wait { OnOk result (WaitIn self.new heap) }
         ensures others { OnOk result ((k : ℕ) → (k ≡ heap → ⊥) → seen_at (pass_of self.new) k ≡ seen_at (pass_of self.old) k) }
-        ensures fewer { length (parked_of self.new) ≤ length (parked_of self.old) }
+        ensures fewer { OnOk result (length (parked_of self.new) ≤ length (parked_of self.old)) }
         ensures fault { IfErr result IsOwnFault }
     {
         if self.parked.len() == 0 {
             return Ok(());
         }
-        for _ in rt.forever() {
-            if !self.try_next(rt, alloc, heap)? {
-                return Ok(());
-            }
-        }
-        unreachable!()
+        while self.try_next(rt, alloc, heap)? {}
+        Ok(())
     }
 
     /// The same in each heap.

@@ -1,18 +1,18 @@
 //! How operations are heard.
-ghost use Rattle.std.specs.Prelude.{◌≡◌, ◌≤◌, ◌<◌, ◌+◌, ◌∷◌, ◌⊎◌, IfOk, IsErrOf, OnOk, OnErr, [], length};
+ghost use Rattle.std.specs.Prelude.{◌≡◌, ◌<◌, ◌∷◌, IfErr, IfOk, IsErrOf, OnErr, OnOk, Some, [], length};
 ghost use Rattle.zq_dots.specs.Placed.{Placed};
 ghost use Rattle.zq_model.specs.Sets.{IsIn};
 ghost use Rattle.zq_node.specs.Calls.{IsCalled, MadeNoStep, Took};
-ghost use Rattle.zq_node.specs.Hearing.{AreOpsHeard};
+ghost use Rattle.zq_node.specs.Hearing.{AreOpsHeard, AreOpsStopped, IsStopOf};
+ghost use Rattle.zq_node.specs.Limits as limits;
 ghost use Rattle.zq_node.specs.Node.{IsNode, IsSameHome, parked_of, pass_of, site_of};
-ghost use Rattle.zq_node.specs.Parked.{HasPlaceOf, IsParked};
-ghost use Rattle.zq_node.specs.Work.{HasWorked, IsHeard, WasStopped};
-ghost use Rattle.zq_node.specs.declared.parked.TheConstants as limits;
+ghost use Rattle.zq_node.specs.Parked.{HasPlaceOf, IsPutAway};
+ghost use Rattle.zq_node.specs.Work.{AreTurns, IsTurn, WasStopped};
 ghost use Rattle.zq_spread.specs.Calls.{IsOfSite, heaps_of};
 
 use crate::faults::NodeFault;
 use crate::node::Node;
-use crate::parked::Parked;
+use crate::parked::{MOST_PARKED, Parked};
 use std::alloc::{AllocError, Global};
 use std::sync::Wait;
 use zq_dots::Op;
@@ -21,12 +21,15 @@ use zq_shard::Taken;
 /// Parks a copy of an operation, unless one of its heap and dot is parked. Where as many are parked as there may be, it is
 /// dropped, as if it had been lost.
 fn keep(parked: &mut Parked, alloc: Global, op: &Op) -> Result<(), AllocError>
-    ensures kept { (o : Placed) → IsParked parked.old o → IsParked parked.new o }
-    ensures found { (o : Placed) → IsParked parked.new o → IsParked parked.old o ⊎ (op.now ≡ o) }
-    ensures here { OnOk result (HasPlaceOf parked.new op.now ⊎ (limits.MOST_PARKED ≤ length parked.old)) }
-    ensures more { length parked.new ≤ length parked.old + 1 }
+    ensures put { OnOk result (IsPutAway op.now parked.old parked.new) }
+    ensures refused { OnErr result (parked.new ≡ parked.old) }
+    ensures absent { OnErr result (HasPlaceOf parked.old op.now → ⊥) }
+    ensures room { OnErr result (length parked.old < limits.MOST_PARKED) }
 {
     if parked.has_place_of(op) {
+        return Ok(());
+    }
+    if parked.len() >= MOST_PARKED {
         return Ok(());
     }
     let copy = op.copy(alloc)?;
@@ -44,8 +47,8 @@ impl Node<'_> {
         ensures called { IfOk result (λ taken. IsCalled (site_of self.old) (pass_of self.old) (pass_of self.new) (Took op.now taken)) }
         ensures within { OnOk result (op.now.operation.heap < heaps_of (site_of self.old)) }
         ensures stopped { OnErr result (MadeNoStep (pass_of self.old) (pass_of self.new)) }
-        ensures wrong_heap { IsErrOf result NodeFault.WrongHeap → IsOfSite (site_of self.old) op.now → ⊥ }
-        ensures rule { IsErrOf result NodeFault.WrongRule → ⊥ }
+        ensures stop { IfErr result (IsStopOf (site_of self.old) (Some op.now)) }
+        ensures unheard { IsErrOf result NodeFault.WrongHeap → self.new ≡ self.old }
     {
         let _heap = op.heap();
         match self.home.site.take(rt, alloc, &mut self.pass, op) {
@@ -60,13 +63,10 @@ impl Node<'_> {
         requires node { IsNode self.old }
         ensures node { IsNode self.new }
         ensures home { IsSameHome self.old self.new }
-        ensures work { OnOk result (HasWorked (op.now ∷ []) self.old self.new) }
+        ensures turn { OnOk result (IsTurn op.now self.old self.new) }
         ensures stopped { OnErr result (WasStopped (op.now ∷ []) self.old self.new) }
-        ensures heard { OnOk result (IsHeard self.new (length (parked_of self.old) + 1) op.now) }
-        ensures more { length (parked_of self.new) ≤ length (parked_of self.old) + 1 }
-        ensures for_site { OnOk result (IsOfSite (site_of self.old) op.now) }
-        ensures wrong_heap { IsErrOf result NodeFault.WrongHeap → IsOfSite (site_of self.old) op.now → ⊥ }
-        ensures rule { IsErrOf result NodeFault.WrongRule → ⊥ }
+        ensures stop { IfErr result (IsStopOf (site_of self.old) (Some op.now)) }
+        ensures unheard { IsErrOf result NodeFault.WrongHeap → self.new ≡ self.old }
     {
         let taken = self.hand(rt, alloc, op)?;
         match taken {
@@ -93,10 +93,8 @@ impl Node<'_> {
         ensures node { IsNode self.new }
         ensures home { IsSameHome self.old self.new }
         ensures heard { OnOk result (AreOpsHeard ops.now self.old self.new) }
-        ensures stopped { OnErr result (WasStopped ops.now self.old self.new) }
+        ensures stopped { IfErr result (AreOpsStopped ops.now self.old self.new) }
         ensures for_site { OnOk result ((o : Placed) → IsIn o ops.now → IsOfSite (site_of self.old) o) }
-        ensures wrong_heap { IsErrOf result NodeFault.WrongHeap → ((o : Placed) → IsIn o ops.now → IsOfSite (site_of self.old) o) → ⊥ }
-        ensures rule { IsErrOf result NodeFault.WrongRule → ⊥ }
     {
         self.take_each(rt, alloc, ops)?;
         self.settle_all(rt, alloc)?;
@@ -108,12 +106,8 @@ impl Node<'_> {
         requires node { IsNode self.old }
         ensures node { IsNode self.new }
         ensures home { IsSameHome self.old self.new }
-        ensures work { OnOk result (HasWorked ops.now self.old self.new) }
-        ensures stopped { OnErr result (WasStopped ops.now self.old self.new) }
-        ensures heard { OnOk result ((o : Placed) → IsIn o ops.now → IsHeard self.new (length (parked_of self.old) + length ops.now) o) }
-        ensures for_site { OnOk result ((o : Placed) → IsIn o ops.now → IsOfSite (site_of self.old) o) }
-        ensures wrong_heap { IsErrOf result NodeFault.WrongHeap → ((o : Placed) → IsIn o ops.now → IsOfSite (site_of self.old) o) → ⊥ }
-        ensures rule { IsErrOf result NodeFault.WrongRule → ⊥ }
+        ensures turns { OnOk result (AreTurns ops.now self.old self.new) }
+        ensures stopped { IfErr result (AreOpsStopped ops.now self.old self.new) }
     {
         for op in ops {
             self.take(rt, alloc, op)?;

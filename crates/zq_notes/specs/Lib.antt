@@ -1,2 +1,11 @@
 pub mod Notes
+pub mod Does
+pub mod Order
+pub mod Thread
+pub mod Calls
 pub mod Gathered
+pub mod Readings
+pub mod Sites
+pub mod Uncut
+pub mod Played
+pub mod Examples

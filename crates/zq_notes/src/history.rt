@@ -1,34 +1,34 @@
 //! Laws of notes.
 
-ghost use Rattle.std.specs.Prelude.{Bool, List, true, ℕ, ◌++◌, ◌∷◌, ◌≡◌};
-ghost use Rattle.zq_history.specs.Books.{Step, are_steps_over};
-ghost use Rattle.zq_history.specs.Gathered.{Gathers};
-ghost use Rattle.zq_model.specs.Image.{Image, image_of};
-ghost use Rattle.zq_model.specs.Operation.{Operation};
-ghost use Rattle.zq_model.specs.Sets.{IsClosed, IsIn, IsWorld};
-ghost use Rattle.zq_notes.specs.Gathered.{steps_through};
-ghost use Rattle.zq_notes.specs.Notes.{AreOrdered, AreOverLeft, Images, IsDone, IsOneThread, Note, left_in};
+ghost use Rattle.std.specs.Prelude.{List, ℕ, ◌++◌, ◌∷◌, ◌≡◌};
+ghost use Rattle.zq_dots.specs.Rule.{rule_of};
+ghost use Rattle.zq_model.specs.Rule.{Rule as Rules};
+ghost use Rattle.zq_model.specs.Sets.{IsIn};
+ghost use Rattle.zq_notes.specs.Calls.{AreCallsFrom, AreInTurn, Call, IsCallOver, notes_of};
+ghost use Rattle.zq_notes.specs.Notes.{Books, Note};
+ghost use Rattle.zq_notes.specs.Order.{AreOrdered};
+ghost use Rattle.zq_notes.specs.Thread.{AreOverLeft, IsOneThread, left_by, left_by_all};
+ghost use Rattle.zq_spread.specs.Calls.{HasSeenBook, heaps_of};
+ghost use Rattle.zq_spread.specs.declared.site.Site.{Site as Sites};
 
-use zq_history::gathering;
-
-/// Notes of which each is over what those before it left in its heaps are one thread's: each is over what all of those before it
-/// left. They stay so, and in order of stamp, where neighbours of one stamp change places.
-pub fn one_history<Asked, Answer>()
-    ensures one { (does : Asked → List ℕ → List Image → Answer → List (List Step) → Bool) (opening : Images) (notes : List (Note Asked Answer)) →
-        AreOverLeft (IsDone does) opening notes → IsOneThread (IsDone does) opening notes }
-    ensures swaps { (does : Asked → List ℕ → List Image → Answer → List (List Step) → Bool) (opening : Images) (front : List (Note Asked Answer)) (n m : Note Asked Answer)
-        (rest : List (Note Asked Answer)) → n.stamp ≡ m.stamp → AreOrdered (front ++ n ∷ m ∷ rest) → IsOneThread (IsDone does) opening (front ++ n ∷ m ∷ rest) →
-        IsOneThread (IsDone does) opening (front ++ m ∷ n ∷ rest) }
-    ensures ordered { (front : List (Note Asked Answer)) (n m : Note Asked Answer) (rest : List (Note Asked Answer)) → n.stamp ≡ m.stamp → AreOrdered (front ++ n ∷ m ∷ rest) →
+/// Notes of which each is over what those before it left in its heaps are one thread's. They stay so, in order of stamp, and leave
+/// the same books, where neighbours of one stamp change places.
+pub fn one_history()
+    ensures one { (rule : Rules) (K site : ℕ) (opening : Books) (notes : List Note) → AreOverLeft rule K site opening notes → IsOneThread rule K site opening notes }
+    ensures swaps { (rule : Rules) (K site : ℕ) (opening : Books) (front : List Note) (n m : Note) (rest : List Note) → n.stamp ≡ m.stamp → AreOrdered (front ++ n ∷ m ∷ rest) →
+        IsOneThread rule K site opening (front ++ n ∷ m ∷ rest) → IsOneThread rule K site opening (front ++ m ∷ n ∷ rest) }
+    ensures ordered { (front : List Note) (n m : Note) (rest : List Note) → n.stamp ≡ m.stamp → AreOrdered (front ++ n ∷ m ∷ rest) →
         AreOrdered (front ++ m ∷ n ∷ rest) }
+    ensures leaves { (opening : Books) (front : List Note) (n m : Note) (rest : List Note) → n.stamp ≡ m.stamp → AreOrdered (front ++ n ∷ m ∷ rest) →
+        left_by_all (front ++ n ∷ m ∷ rest) opening ≡ left_by_all (front ++ m ∷ n ∷ rest) opening }
 {}
 
-/// Where what notes take and merge in a heap is of one world, they lead from the image of a closed set to the image of what they gather.
-pub fn gathering_notes<Asked, Answer>()
-    ensures { (K heap : ℕ) (W S T : List Operation) (notes : List (Note Asked Answer)) → IsWorld K W → ((o : Operation) → IsIn o S → IsIn o W) → IsClosed S →
-        are_steps_over heap (image_of S heap) (steps_through heap notes) ≡ true → Gathers W heap S (steps_through heap notes) T →
-        left_in heap notes (image_of S heap) ≡ image_of T heap }
-{
-    // What the steps of all notes in the heap gather.
-    gathering();
-}
+/// The calls of a site, each of which found in its heaps what those before it left there, are one thread's history, and what a call
+/// leaves is what its pass has then seen. Their notes are in order, rising strictly in each heap and along each pass, where no stamp
+/// falls and each pass makes its calls one after the other.
+pub fn calling()
+    ensures thread { (site : Sites) (opening : Books) (calls : List Call) → AreCallsFrom site opening calls →
+        IsOneThread (rule_of site.rule) (heaps_of site) site.number opening (notes_of calls) }
+    ensures sees { (site : Sites) (books : Books) (c : Call) → IsCallOver site books c → (h : ℕ) → IsIn h c.note.heaps → HasSeenBook c.after h (λ b. b ≡ left_by c.note books h) }
+    ensures ordered { (site : Sites) (opening : Books) (calls : List Call) → AreCallsFrom site opening calls → AreInTurn calls → AreOrdered (notes_of calls) }
+{}

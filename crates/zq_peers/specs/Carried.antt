@@ -1,6 +1,8 @@
 -- What is carried, and how carriers carry.
 
-use Rattle.std.specs.Prelude.{Bool, List, [], false, true, ℕ, ◌&&◌, ◌∷◌, ◌≡◌, ◌⊎◌}
+use Rattle.std.specs.Prelude.{Bool, Err, IfOk, List, Ok, Result, Vec, [], false, true, ℕ, ◌&&◌, ◌∷◌, ◌≡◌}
+use Rattle.std.specs.declared.alloc.AllocError.{AllocError}
+use Rattle.std.specs.declared.alloc.Global.{Global}
 use Rattle.zq_frames.specs.Frame.{Frame}
 use Rattle.zq_frames.specs.Spelling.{frame_spelling, newest}
 
@@ -14,9 +16,21 @@ AreCarried carries old new [] whole = (old ≡ new) × (whole ≡ true)
 AreCarried {C} carries old new (p ∷ parcels) whole =
     (mid : C) × (first others : Bool) × carries old p.0 p.1 first mid × AreCarried carries mid new parcels others × (whole ≡ (first && others))
 
--- the bytes of the frame were carried, or there was no memory to write them
+-- what comes of writing a frame: its bytes, or there was no memory for them
+abbrev pub Written : Type 0
+Written = Result (Vec ℕ Global) AllocError
+
+abbrev pub IsWritten : Frame → Written → Type 0
+IsWritten frame written = IfOk written (λ v. v.items ≡ frame_spelling (newest frame))
+
+-- the bytes that were written were carried; where none were, nothing was
+abbrev pub IsPassedOn : {C : Type 0} → Carriage C → C → C → ℕ → Written → Bool → Type 0
+IsPassedOn carries old new to (Ok v) whole = carries old to v.items whole new
+IsPassedOn carries old new to (Err e) whole = (new ≡ old) × (whole ≡ false)
+
+-- the frame was written and its bytes were carried, whatever their number, or there was no memory to write them
 abbrev pub IsSent : {C : Type 0} → Carriage C → C → C → ℕ × Frame → Bool → Type 0
-IsSent carries old new p whole = carries old p.0 (frame_spelling (newest p.1)) whole new ⊎ ((old ≡ new) × (whole ≡ false))
+IsSent carries old new p whole = (written : Written) × IsWritten p.1 written × IsPassedOn carries old new p.0 written whole
 
 -- the frames were sent, each to its site, one after the other; and whether all were carried
 abbrev pub AreSent : {C : Type 0} → Carriage C → C → C → List (ℕ × Frame) → Bool → Type 0

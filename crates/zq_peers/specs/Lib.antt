@@ -1,4 +1,9 @@
 pub mod Sites
 pub mod Carried
+pub mod Fates
+pub mod Inside
 pub mod Lossy
 pub mod Moves
+pub mod Handings
+pub mod Trays
+pub mod Witnesses

@@ -1,7 +1,7 @@
 -- What a link thread does with what comes.
 
 use Rattle.std.specs.Prelude.{Bool, Err, List, Ok, Result, [], flat_map, ℕ, ◌∷◌, ◌≡◌}
-use Rattle.zq_frames.specs.Answer.{Fails}
+use Rattle.zq_frames.specs.Answer.{Fails, IsOfMemory}
 use Rattle.zq_frames.specs.Frame.{Frame, frame_of}
 use Rattle.zq_frames.specs.Reading.{frame_at}
 use Rattle.zq_frames.specs.Spelling.{IsSpelled}
@@ -12,7 +12,10 @@ use Rattle.zq_node.specs.Hearing.{AreHaves, HasHeard, HasStopped, IsFaultOf, sen
 use Rattle.zq_node.specs.Node.{parked_of, pass_of, site_of}
 use Rattle.zq_node.specs.declared.faults.NodeFault.{NodeFault}
 use Rattle.zq_node.specs.declared.node.Node.{Node}
+use Rattle.zq_links.specs.declared.message.Message.{Message}
+use Rattle.zq_links.specs.declared.message.Message.TheVariants.{Frame as Framed, Stop, Tick}
 use Rattle.zq_peers.specs.Carried.{AreSent, Carriage}
+use Rattle.zq_peers.specs.Witnesses.{IsReported, Telling}
 use Rattle.zq_peers.specs.declared.unheard.Unheard.{Unheard}
 use Rattle.zq_peers.specs.declared.unheard.Unheard.TheVariants.{Refused, Unread}
 
@@ -33,21 +36,40 @@ abbrev pub Hears : {C : Type 0} → Carriage C → List ℕ → Node → Node �
 Hears carries bytes old new carrier after (Ok whole) =
     (frame : code.Frame) × IsSpelled (frame_of frame) bytes × ((sent : List (ℕ × Frame)) × HasHeard frame old new sent × AreSent carries carrier after sent whole)
 Hears carries bytes old new carrier after (Err (Unread fault)) =
-    Fails fault (frame_at bytes) × (new ≡ old) × (after ≡ carrier)
+    Fails (IsOfMemory bytes) fault (frame_at bytes) × (new ≡ old) × (after ≡ carrier)
 Hears carries bytes old new carrier after (Err (Refused fault)) =
-    (frame : code.Frame) × IsSpelled (frame_of frame) bytes × IsFaultOf (site_of old) frame fault × HasStopped frame old new × (after ≡ carrier)
+    (frame : code.Frame) × IsSpelled (frame_of frame) bytes × IsFaultOf (site_of old) frame fault × HasStopped frame old new fault × (after ≡ carrier)
 
--- a message that a link thread took: it told the other sites what its own has, or it took the bytes of a frame
-pub data Move : Type 0 where
-  Told : (result : Result Bool NodeFault) → Move
-  Took : (bytes : List ℕ) (result : Result Bool Unheard) → Move
+-- what a link thread works with: a node, what carries its frames, and who is told of those that it drops
+pub record End (C T : Type 0) : Type 0 where
+  pub node : Node
+  pub carrier : C
+  pub witness : T
 
-abbrev pub IsMove : {C : Type 0} → Carriage C → List ℕ → Node → Node → C → C → Move → Type 0
-IsMove carries others old new carrier after (Told result) = Tells carries others old new carrier after result
-IsMove carries others old new carrier after (Took bytes result) = Hears carries bytes old new carrier after result
+abbrev pub end_of : {C T : Type 0} → Node → C → T → End C T
+end_of node carrier witness = record { node = node; carrier = carrier; witness = witness }
 
--- the messages were taken one after the other, and nothing else was done; the latest stands first
-abbrev pub AreMoves : {C : Type 0} → Carriage C → List ℕ → Node → Node → C → C → List Move → Type 0
-AreMoves carries others old new carrier after [] = (old ≡ new) × (carrier ≡ after)
-AreMoves {C} carries others old new carrier after (m ∷ moves) =
-    (mid : Node) × (passing : C) × AreMoves carries others old mid carrier passing moves × IsMove carries others mid new passing after m
+-- At a Tick the other sites were told what this one has. The bytes of a frame were heard, and of a frame that was not heard the witness was told. At Stop nothing was done.
+abbrev pub IsMove : {C T : Type 0} → Carriage C → Telling T → List ℕ → End C T → End C T → Message → Type 0
+IsMove carries tells others old new Tick =
+    (new.witness ≡ old.witness) × ((result : Result Bool NodeFault) × Tells carries others old.node new.node old.carrier new.carrier result)
+IsMove carries tells others old new (Framed from bytes) =
+    (result : Result Bool Unheard) × Hears carries bytes.items old.node new.node old.carrier new.carrier result × IsReported tells old.witness from result new.witness
+IsMove carries tells others old new Stop = new ≡ old
+
+-- after this message a link thread goes on, whatever came of it
+abbrev pub GoesOn : Message → Type 0
+GoesOn Tick = Unit {0}
+GoesOn (Framed from bytes) = Unit {0}
+GoesOn Stop = ⊥
+
+-- what these messages ask for was done, one after the other, and nothing else; the latest stands first, and none is Stop
+abbrev pub AreMoves : {C T : Type 0} → Carriage C → Telling T → List ℕ → End C T → End C T → List Message → Type 0
+AreMoves carries tells others old new [] = new ≡ old
+AreMoves {C} {T} carries tells others old new (m ∷ messages) =
+    GoesOn m × ((mid : End C T) × AreMoves carries tells others old mid messages × IsMove carries tells others mid new m)
+
+-- these messages were taken, one after the other, and no others; the latest stands first
+abbrev pub AreTaken : {I : Type 0} → (I → Message → I → Type 0) → I → I → List Message → Type 0
+AreTaken gives old new [] = new ≡ old
+AreTaken {I} gives old new (m ∷ messages) = (mid : I) × AreTaken gives old mid messages × gives mid m new

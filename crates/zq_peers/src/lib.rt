@@ -2,21 +2,27 @@
 //! it to the other sites.
 #![tactic(auto)]
 
+mod attending;
 mod carry;
+mod inbox;
 mod link;
 mod lossy;
 mod mailbox;
 mod sites;
 mod straight;
+mod tray;
 mod unheard;
 mod witness;
 
+pub use attending::Link;
 pub use carry::Carry;
-pub use link::{Link, hear, tell};
+pub use inbox::{Inbox, Incoming};
+pub use link::{hear, tell};
 pub use lossy::Lossy;
-pub use mailbox::Mailbox;
+pub use mailbox::{Handed, Mailbox};
 pub use sites::others;
 pub use straight::Straight;
+pub use tray::{Fate, Slip};
 pub use unheard::Unheard;
 pub use witness::{Silent, Witness};
 

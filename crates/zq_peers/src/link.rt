@@ -1,20 +1,17 @@
-//! What a link thread does.
-ghost use Rattle.std.specs.Prelude.{◌≡◌, All, Bool, IfErr, IfOk, List, OnOk, flat_map, map, ℕ};
+//! What a link thread does with what comes.
+ghost use Rattle.std.specs.Prelude.{◌≡◌, All, Bool, List, map, ℕ};
 ghost use Rattle.zq_frames.specs.Frame.{IsWritable, frame_of};
 ghost use Rattle.zq_node.specs.Hearing.{sent_of, sent_to};
 ghost use Rattle.zq_node.specs.Node.{IsNode, IsSameHome};
-ghost use Rattle.zq_peers.specs.Carried.{AreSent, IsSent};
-ghost use Rattle.zq_peers.specs.Moves.{AreMoves, Hears, Move, Tells};
+ghost use Rattle.zq_peers.specs.Carried.{AreSent, IsPassedOn, IsSent};
+ghost use Rattle.zq_peers.specs.Moves.{Hears, Tells};
 
 use crate::carry::{Carry, both};
-use crate::mailbox::Mailbox;
 use crate::unheard::Unheard;
-use crate::witness::{Witness, report};
-use std::alloc::Global;
+use std::alloc::{AllocError, Global};
 use std::sync::Wait;
 use zq_dots::SiteNo;
 use zq_frames::{Frame, read_frame, write_frame};
-use zq_links::Message;
 use zq_node::{Node, NodeFault};
 use zq_posheap::Seeded;
 
@@ -23,7 +20,20 @@ fn send<C: Carry>(alloc: Global, carrier: &mut C, to: SiteNo, frame: &Frame) -> 
     requires { IsWritable frame.now }
     ensures { IsSent C.carries carrier.old carrier.new (to, frame_of frame.now) result }
 {
-    match write_frame(alloc, frame) {
+    let written = write_frame(alloc, frame);
+    pass_on(alloc, carrier, to, written)
+}
+
+/// Carries the bytes of a frame, if there was memory to write them, and says whether there was memory for all.
+fn pass_on<C: Carry>(
+    alloc: Global,
+    carrier: &mut C,
+    to: SiteNo,
+    written: Result<Vec<u8>, AllocError>,
+) -> bool
+    ensures { IsPassedOn C.carries carrier.old carrier.new to written result }
+{
+    match written {
         Ok(bytes) => carrier.carry(alloc, to, bytes),
         Err(_) => false,
     }
@@ -106,45 +116,5 @@ pub fn hear<R: Wait, C: Carry>(
     match node.hear(rt, alloc, &frame) {
         Ok(sent) => Ok(send_each(alloc, carrier, &sent)),
         Err(fault) => Err(Unheard::Refused(fault)),
-    }
-}
-
-/// A site's end of the links.
-#[derive(Drop)]
-pub struct Link<'a> {
-    /// Where messages for the site wait.
-    pub inbox: &'a Mailbox,
-    /// The other sites.
-    pub others: Vec<SiteNo>,
-    /// By what states lie that are heard.
-    pub hasher: Seeded,
-}
-
-impl Link<'_> {
-    /// Works until Stop comes. At a Tick it tells the other sites what this one has; a frame it hears, and sends what
-    /// comes of it. What fails is dropped as if it had been lost; of a frame that was not heard the witness is told.
-    pub fn attend<R: Wait, C: Carry, T: Witness>(
-        &self,
-        rt: &R,
-        alloc: Global,
-        node: &mut Node<'_>,
-        carrier: &mut C,
-        witness: &T,
-    )
-        requires node { IsNode node.old }
-        ensures node { IsNode node.new }
-        ensures home { IsSameHome node.old node.new }
-        ensures moves { (moves : List Move) × AreMoves C.carries self.now.others.items node.old node.new carrier.old carrier.new moves }
-    {
-        for _ in rt.forever() {
-            match self.inbox.take(rt) {
-                Message::Tick => drop(tell(rt, alloc, &self.others, node, carrier)),
-                Message::Frame { from, bytes } => {
-                    let heard = hear(rt, alloc, self.hasher, node, carrier, &bytes);
-                    report(witness, from, heard);
-                }
-                Message::Stop => break,
-            }
-        }
     }
 }

@@ -1,9 +1,12 @@
 //! A site's way in.
+ghost use Rattle.std.specs.Prelude.{◌≡◌, IfOk};
+ghost use Rattle.zq_peers.specs.Fates.{had_memory};
 
-use crossbeam_channel::{Receiver, Sender, unbounded};
+use crate::tray::{Fate, Slip, Tray};
 use std::alloc::{AllocError, Global};
-use std::sync::Wait;
+use std::snapshot::Snapshot;
 use std::sync::atomic::{AtomicBool, Ordering};
+use std::sync::{Condvar, Mutex, Wait};
 use zq_dots::SiteNo;
 use zq_links::Message;
 
@@ -12,67 +15,103 @@ use zq_links::Message;
 /// Of Ticks one waits at most: the site's threads send one after each call, and the link thread, which then says what
 /// the site has by now, owes them one answer for all. Of frames some number wait at most: past it a frame is lost, and
 /// a Tick comes in its place, by which the site will say what it has, and be told what it lacks.
+///
+/// A tray keeps what waits, under a lock. A call here takes the lock, calls the tray, and wakes the link thread.
 #[derive(Drop)]
 pub struct Mailbox {
-    to: Sender<Message>,
-    from: Receiver<Message>,
+    tray: Mutex<Tray>,
+    changed: Condvar,
+    /// Whether a Tick waits: who sees that it does need not take the lock.
     ticked: AtomicBool,
     most: usize,
 }
 
+/// A receipt: the mailbox was given a frame.
+#[derive(Drop)]
+pub struct Handed {
+    mailbox: Snapshot<Mailbox>,
+    slip: Slip,
+}
+
+impl Handed {
+    /// Whether there was memory for the frame.
+    pub(crate) fn had_memory(&self) -> bool
+        ensures { result ≡ had_memory self.now.slip.fate }
+    {
+        self.slip.fate() != Fate::NoMemory
+    }
+}
+
 impl Mailbox {
     /// An empty mailbox, in which about this many messages wait at most.
-    pub fn new(alloc: Global, most: usize) -> Result<Mailbox, AllocError> {
-        let (to, from) = unbounded(alloc)?;
+    pub fn new(alloc: Global, most: usize) -> Result<Mailbox, AllocError>
+        ensures { IfOk result (λ mailbox. mailbox.most ≡ most) }
+    {
         Ok(Mailbox {
-            to,
-            from,
+            tray: Mutex::new(Tray::new(alloc)?),
+            changed: Condvar::new(),
             ticked: AtomicBool::new(false),
             most,
         })
     }
 
-    /// Sends a Tick, where none waits. Where there is no memory it is lost.
+    /// Sends a Tick, where none waits.
     pub fn tick<R: Wait>(&self, rt: &R) {
-        if self.ticked.load(Ordering::SeqCst) || self.ticked.swap(true, Ordering::SeqCst) {
+        if self.ticked.load(Ordering::SeqCst) {
             return;
         }
-        if self.to.send(rt, Message::Tick).is_err() {
-            self.ticked.store(false, Ordering::SeqCst);
-        }
+        let mut tray = self.tray.lock(rt);
+        tray.tick();
+        self.note(&tray);
+        drop(tray);
+        self.changed.notify_one();
     }
 
-    /// Sends Stop, again and again until there is memory for it.
+    /// Sends Stop. What comes later is lost.
     pub fn stop<R: Wait>(&self, rt: &R) {
-        for _ in rt.forever() {
-            if self.to.send(rt, Message::Stop).is_ok() {
-                break;
-            }
-        }
+        self.tray.lock(rt).stop();
+        self.changed.notify_one();
     }
 
     /// Sends a frame that came from this site, and says whether there was memory for it. Where too many messages wait it is
     /// lost, and a Tick is sent.
     pub fn give<R: Wait>(&self, rt: &R, from: SiteNo, bytes: Vec<u8>) -> bool {
-        if self.to.len() >= self.most {
-            self.tick(rt);
-            return true;
+        self.hand(rt, from, bytes).had_memory()
+    }
+
+    /// Sends a frame that came from this site, for a receipt. Where too many messages wait it is lost, and a Tick is sent.
+    pub(crate) fn hand<R: Wait>(&self, rt: &R, from: SiteNo, bytes: Vec<u8>) -> Handed
+        ensures mailbox { result.mailbox.value ≡ self.now }
+        ensures from { result.slip.from ≡ from }
+        ensures frame { result.slip.frame.value ≡ bytes }
+    {
+        let mut tray = self.tray.lock(rt);
+        let slip = tray.give(self.most, from, bytes);
+        self.note(&tray);
+        drop(tray);
+        self.changed.notify_one();
+        Handed {
+            mailbox: Snapshot::of(self),
+            slip,
         }
-        let frame = Message::Frame { from, bytes };
-        self.to.send(rt, frame).is_ok()
     }
 
     /// Waits for the next message.
     pub(crate) fn take<R: Wait>(&self, rt: &R) -> Message {
-        match self.from.recv(rt) {
-            Ok(Message::Tick) => {
+        let mut tray = self.tray.lock(rt);
+        for _ in rt.forever() {
+            if let Some(message) = tray.take() {
                 // From here on a call is told of by the next Tick.
-                self.ticked.store(false, Ordering::SeqCst);
-                Message::Tick
+                self.note(&tray);
+                return message;
             }
-            Ok(message) => message,
-            // Nobody can send any more.
-            Err(_) => Message::Stop,
+            tray = self.changed.wait(rt, tray);
         }
+        unreachable!()
+    }
+
+    /// Notes whether a Tick waits.
+    fn note(&self, tray: &Tray) {
+        self.ticked.store(tray.has_tick(), Ordering::SeqCst);
     }
 }

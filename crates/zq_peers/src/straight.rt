@@ -1,8 +1,8 @@
 //! Links without faults.
-ghost use Rattle.std.specs.Prelude.{◌≡◌, option_copied, slice_get};
+ghost use Rattle.std.specs.Prelude.{◌≡◌, None, slice_get};
 
 use crate::carry::Carry;
-use crate::mailbox::Mailbox;
+use crate::mailbox::{Handed, Mailbox};
 use std::alloc::Global;
 use std::sync::Wait;
 use zq_dots::SiteNo;
@@ -14,28 +14,42 @@ pub struct Straight<'a, R: Wait> {
     rt: &'a R,
     from: SiteNo,
     mailboxes: &'a [Mailbox],
+    /// The receipt for the last frame, where there was a mailbox for it.
+    last: Option<Handed>,
 }
 
 impl<'a, R: Wait> Straight<'a, R> {
     /// From this site into these mailboxes.
-    pub fn new(rt: &'a R, from: SiteNo, mailboxes: &'a [Mailbox]) -> Straight<'a, R> {
+    pub fn new(rt: &'a R, from: SiteNo, mailboxes: &'a [Mailbox]) -> Straight<'a, R>
+        ensures from { result.from ≡ from }
+        ensures mailboxes { result.mailboxes.now ≡ mailboxes.now }
+    {
         Straight {
             rt,
             from,
             mailboxes,
+            last: None,
         }
     }
 }
 
 impl<'a, R: Wait> Carry for Straight<'a, R> {
-    ghost use Rattle.std.specs.Prelude.{◌≡◌};
+    ghost use Rattle.zq_peers.specs.Handings.{IsHandedOn};
 
-    ghost carries = { λ old to frame whole new. new.mailboxes.now ≡ old.mailboxes.now };
+    ghost carries = { λ old to frame whole new. IsHandedOn old.mailboxes.now new.mailboxes.now old.from new.from to frame whole new.last };
 
     fn carry(&mut self, _alloc: Global, to: SiteNo, frame: Vec<u8>) -> bool {
         match self.mailboxes.get(usize::from(to.value())) {
-            Some(mailbox) => mailbox.give(self.rt, self.from, frame),
-            None => true,
+            Some(mailbox) => {
+                let handed = mailbox.hand(self.rt, self.from, frame);
+                let whole = handed.had_memory();
+                self.last = Some(handed);
+                whole
+            }
+            None => {
+                self.last = None;
+                true
+            }
         }
     }
 }

@@ -1,2 +1,2 @@
 pub mod Narrow
-mod Lifted
+pub mod Lifted

@@ -15,7 +15,7 @@ use Rattle.zq_model.specs.Operation.{Drop, Put}
 use Rattle.zq_plans.specs.Plan.{Part, Plan, counts, lets, nothing, one, plan_of, sum_of}
 use Rattle.zq_words.specs.declared.flags.Flags.{Flags}
 use Rattle.zq_plans.specs.Replies.{Reply}
-use Rattle.zq_plans.specs.Run.{IsRun, IsWhy, IsWhyOf, Memory, Number, Runs, Want, cut_pop, cut_reply, is_strict, is_worn, part, popped_of, whole}
+use Rattle.zq_plans.specs.Run.{ForCopies, ForMoves, ForReply, IsRun, IsWhy, IsWhyOf, MayLack, Memory, Number, Runs, Takes, Want, cut_pop, cut_reply, is_worn, part, popped_of, takes_of, whole}
 use Rattle.zq_words.specs.Command.{Command, Del, Ping, Zadd, ZaddIncr, Zcard, Zcount, Zincrby, Zpopmin, Zpopnear, Zrange, Zrank, Zrem, Zrevrank, Zscore}
 use Rattle.zq_words.specs.Heaps.{heaps_of}
 use Rattle.zq_words.specs.Words.{Word, is_in_range}
@@ -71,7 +71,7 @@ moves_home K h (Zpopnear key) queues is move here = absurd (cc)
 moves_home K h (Del keys) queues is move here = absurd (cc)
 moves_home K h (Ping message) queues is move here = absurd (cc)
 
-not_popping : (K h : ℕ) (command : Command) → heaps_of command K ≡ One h → popped_of command ≡ None
+pub not_popping : (K h : ℕ) (command : Command) → heaps_of command K ≡ One h → popped_of command ≡ None
 not_popping K h (Zadd key flags ((score, member) ∷ [])) is = refl
 not_popping K h (Zrem key (member ∷ [])) is = refl
 not_popping K h (Zincrby key increment member) is = refl
@@ -91,8 +91,25 @@ not_popping K h (Zpopnear key) is = absurd (cc)
 not_popping K h (Del keys) is = absurd (cc)
 not_popping K h (Ping message) is = absurd (cc)
 
+-- what it takes memory for has nothing to do with the queues
+pub takes_same : (K h : ℕ) (command : Command) (queues others : Queues) → heaps_of command K ≡ One h → takes_of command queues ≡ takes_of command others
+takes_same K h (Zadd key flags pairs) queues others is = refl
+takes_same K h (Zrem key members) queues others is = refl
+takes_same K h (Zincrby key increment member) queues others is = refl
+takes_same K h (ZaddIncr key flags increment member) queues others is = refl
+takes_same K h (Zscore key member) queues others is = refl
+takes_same K h (Zcard key) queues others is = absurd (cc)
+takes_same K h (Zcount key min max) queues others is = absurd (cc)
+takes_same K h (Zrank key member) queues others is = absurd (cc)
+takes_same K h (Zrevrank key member) queues others is = absurd (cc)
+takes_same K h (Zrange key range is_turned with_scores) queues others is = absurd (cc)
+takes_same K h (Zpopmin key count) queues others is = refl
+takes_same K h (Zpopnear key) queues others is = refl
+takes_same K h (Del keys) queues others is = refl
+takes_same K h (Ping message) queues others is = refl
+
 -- a command that pops nothing is cut with the same words whatever the queues
-cut_same : (command : Command) (queues others : Queues) (k : ℕ) (want : Want) → popped_of command ≡ None → cut_reply command queues k want ≡ cut_reply command others k want
+pub cut_same : (command : Command) (queues others : Queues) (k : ℕ) (want : Want) → popped_of command ≡ None → cut_reply command queues k want ≡ cut_reply command others k want
 cut_same command queues others k want none = ap (λ popped. cut_pop popped queues k want) none ∙ sym (ap (λ popped. cut_pop popped others k want) none)
 
 -- ---- books
@@ -161,22 +178,29 @@ module _ (K h site stamp : ℕ) where
       ] in
       any_in worn (b ∷ []) b (inl refl) (ap worn same ∙ found.2)
 
-  why_among_of : (strict : Bool) (next : Option Move) (front back : List Book) (b : Book) (want : Want) →
+  lack_among : (takes : Takes) (next : Option Move) (front back : List Book) (b : Book) →
       ((move : Move) → next ≡ Some move → heap_of move.key move.member K ≡ h) → AreApart K h front → AreApart K h back →
-      IsWhyOf strict site next (b ∷ []) want → IsWhyOf strict site next (front ++ b ∷ back) want
-  why_among_of false next front back b want home before behind why = why_among next front back b want why
-  why_among_of true None front back b want home before behind why = why
-  why_among_of true (Some move) front back b Memory home before behind why = λ worn. why (why_alone move front back b (home move refl) before behind worn)
-  why_among_of true (Some move) front back b Number home before behind why = why_among (Some move) front back b Number why
+      MayLack takes site next (b ∷ []) → MayLack takes site next (front ++ b ∷ back)
+  lack_among (ForReply is_long counted) next front back b home before behind lacks = lacks
+  lack_among ForMoves None front back b home before behind lacks = lacks
+  lack_among ForMoves (Some move) front back b home before behind lacks = λ worn. lacks (why_alone move front back b (home move refl) before behind worn)
+  lack_among ForCopies None front back b home before behind lacks = lacks
+  lack_among ForCopies (Some move) front back b home before behind lacks = tt
 
-  runs_among : (strict : Bool) (plan : Plan) (cut : ℕ → Want → Reply) (front back : List Book) (old new : Book) (reply : Word) → AreHome K h plan.moves → AreApart K h front → AreApart K h back →
-      Runs site stamp strict plan cut (old ∷ []) (new ∷ []) reply → Runs site stamp strict plan cut (front ++ old ∷ back) (front ++ new ∷ back) reply
-  runs_among strict plan cut front back old new reply home before behind (whole is says) =
+  why_among_of : (takes : Takes) (next : Option Move) (front back : List Book) (b : Book) (want : Want) →
+      ((move : Move) → next ≡ Some move → heap_of move.key move.member K ≡ h) → AreApart K h front → AreApart K h back →
+      IsWhyOf takes site next (b ∷ []) want → IsWhyOf takes site next (front ++ b ∷ back) want
+  why_among_of takes next front back b Memory home before behind why = lack_among takes next front back b home before behind why
+  why_among_of takes next front back b Number home before behind why = why_among next front back b Number why
+
+  runs_among : (takes : Takes) (plan : Plan) (cut : ℕ → Want → Reply) (front back : List Book) (old new : Book) (reply : Word) → AreHome K h plan.moves → AreApart K h front → AreApart K h back →
+      Runs site stamp takes plan cut (old ∷ []) (new ∷ []) reply → Runs site stamp takes plan cut (front ++ old ∷ back) (front ++ new ∷ back) reply
+  runs_among takes plan cut front back old new reply home before behind (whole is says) =
       whole (ap (λ books. front ++ (books ++ back)) is ∙ sym (after_among plan.moves front back old home before behind)) says
-  runs_among strict plan cut front back old new reply home before behind (part k want within is why says) =
+  runs_among takes plan cut front back old new reply home before behind (part k want within is why says) =
       part k want within
       (ap (λ books. front ++ (books ++ back)) is ∙ sym (after_among (take k plan.moves) front back old (λ m here. home m (in_take k plan.moves m here)) before behind))
-      (why_among_of strict _ front back new want (λ move next. home move (in_place plan.moves k move next)) before behind why) says
+      (why_among_of takes _ front back new want (λ move next. home move (in_place plan.moves k move next)) before behind why) says
 
 -- ---- books around one
 
@@ -203,7 +227,8 @@ run_alone rule K site stamp command front back old new reply are one_ runs =
     let all = queues_of rule (front ++ old ∷ back) in
     let plans : plan_of command alone ≡ plan_of command all = plan_alone rule K command (front ++ old ∷ back) old are (in_right old front (old ∷ back) (inl refl)) one_ in
     let cuts : cut_reply command alone ≡ cut_reply command all = λ i k want. cut_same command alone all k want (not_popping K old.heap command one_) i in
-    subst (λ plan. Runs site stamp (is_strict command) plan (cut_reply command all) (front ++ old ∷ back) (front ++ new ∷ back) reply) plans
-    (subst (λ cut. Runs site stamp (is_strict command) (plan_of command alone) cut (front ++ old ∷ back) (front ++ new ∷ back) reply) cuts
-    (runs_among K old.heap site stamp (is_strict command) (plan_of command alone) (cut_reply command alone) front back old new reply (moves_home K old.heap command alone one_)
-    (lent_before K front back old are) (lent_behind K front back old are) runs))
+    subst (λ takes. Runs site stamp takes (plan_of command all) (cut_reply command all) (front ++ old ∷ back) (front ++ new ∷ back) reply) (takes_same K old.heap command alone all one_)
+    (subst (λ plan. Runs site stamp (takes_of command alone) plan (cut_reply command all) (front ++ old ∷ back) (front ++ new ∷ back) reply) plans
+    (subst (λ cut. Runs site stamp (takes_of command alone) (plan_of command alone) cut (front ++ old ∷ back) (front ++ new ∷ back) reply) cuts
+    (runs_among K old.heap site stamp (takes_of command alone) (plan_of command alone) (cut_reply command alone) front back old new reply (moves_home K old.heap command alone one_)
+    (lent_before K front back old are) (lent_behind K front back old are) runs)))

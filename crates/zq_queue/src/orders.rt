@@ -1,6 +1,6 @@
 //! What is read of an `Indexed` in order: by its index where it has one, and else of all members.
 
-ghost use Rattle.std.specs.Prelude.{IfOk, List, count_by, drop, if◌then◌else◌, map, option_map, slice_get, take, ◌-◌, ◌≡◌};
+ghost use Rattle.std.specs.Prelude.{IfOk, List, count_by, drop, if◌then◌else◌, length, map, option_map, slice_get, take, ◌-◌, ◌≡◌, ◌≤◌};
 ghost use Rattle.std.specs.Ordering.{int_cmp, is_le, is_lt};
 ghost use Rattle.zq_posheap.specs.InOrder.{ListsInOrder};
 ghost use Rattle.zq_posheap.specs.Members.{scores_of};
@@ -93,12 +93,13 @@ fn section(
     firsts(alloc, index.iter_from(from), count)
 }
 
-/// The first so many pairs, or all where there are fewer.
+/// The first so many pairs. There is room first for all of them.
 fn firsts<'a>(
     alloc: Global,
     mut pairs: Forward<'a>,
     count: usize,
 ) -> Result<Vec<(i128, &'a [u8])>, AllocError>
+    requires few { count ≤ length pairs }
     ensures { IfOk result (λ firsts. map lent_pair firsts.items ≡ take count pairs.entry) }
 {
     let mut firsts = Vec::with_capacity(alloc, count)?;

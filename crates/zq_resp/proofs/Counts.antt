@@ -15,19 +15,19 @@ use Rattle.std.specs.declared.alloc.Global.{Global}
 use Rattle.zq_resp.specs.Front.{Front, Got, ◌>>=◌}
 use Rattle.zq_resp.specs.Grammar.{asked_at, count_at, counted_at, line_at, words_at}
 use Rattle.zq_resp.specs.Request.{AreWords}
-use Rattle.zq_resp.specs.Suspended.{Ends, Fails, Goes, views}
+use Rattle.zq_resp.specs.Suspended.{Ends, Goes, IsWrong, views}
 use Rattle.zq_resp.specs.Line.{line_resume, line_text}
 use Rattle.zq_resp.specs.Words.{BeginsWords, words_resume, words_text}
 use Rattle.zq_resp.specs.Partial.{ByteStep, IsPlain, PartialStep, in_words, resume, text_so_far}
 use Rattle.zq_resp.specs.Spelling.{number_line}
 use Rattle.zq_resp.proofs.Lines.{line_again}
 
--- what fails at first fails
-pub fails_first : {X Y : Type 0} (why : FeedFault) (read : Front X) (next : X → Front Y) → Fails why read → Fails why (read >>= next)
-fails_first Protocol read next failed = ap (λ read. read >>= next) failed
-fails_first TooLong read next failed = ap (λ read. read >>= next) failed
-fails_first NoMemory read next failed = tt
-fails_first Over read next failed = absurd failed
+-- what is wrong at first is wrong
+wrong_first : {X Y : Type 0} (why : FeedFault) (read : Front X) (next : X → Front Y) → IsWrong why read → IsWrong why (read >>= next)
+wrong_first Protocol read next wrong = ap (λ read. read >>= next) wrong
+wrong_first TooLong read next wrong = ap (λ read. read >>= next) wrong
+wrong_first NoMemory read next wrong = absurd wrong
+wrong_first Over read next wrong = absurd wrong
 
 pub count_resumes : (old : Line) (b : ℕ) (more : List ℕ) → IsPlain old b → resume (partial.Count old) (b ∷ more) ≡ (line_resume 65536 old (b ∷ more) >>= λ n. words_at n.0 n.1)
 count_resumes line.Start b more plain = rw (ne_eqb b 45 (plain refl)) refl
@@ -63,9 +63,9 @@ count_ends old b count words plain ends text resumes =
 pub no_words : (words : List (List ℕ)) → words ≡ [] → AreWords words
 no_words words none = subst (λ words. AreWords words) (sym none) (record { count = omega arith; each = λ k d within. absurd (omega arith) })
 
-pub count_fails : (why : FeedFault) (old : Line) (b : ℕ) → IsPlain old b → ((more : List ℕ) → Fails why (line_resume 65536 old (b ∷ more))) → (more : List ℕ) → Fails why (resume (partial.Count old) (b ∷ more))
-count_fails why old b plain failed more =
-    subst (λ read. Fails why read) (sym (count_resumes old b more plain)) (fails_first why (line_resume 65536 old (b ∷ more)) (λ n. words_at n.0 n.1) (failed more))
+pub count_wrong : (why : FeedFault) (old : Line) (b : ℕ) → IsPlain old b → ((more : List ℕ) → IsWrong why (line_resume 65536 old (b ∷ more))) → (more : List ℕ) → IsWrong why (resume (partial.Count old) (b ∷ more))
+count_wrong why old b plain wrong more =
+    subst (λ read. IsWrong why read) (sym (count_resumes old b more plain)) (wrong_first why (line_resume 65536 old (b ∷ more)) (λ n. words_at n.0 n.1) (wrong more))
 
 pub count_begins : (old : Line) (b count : ℕ) (begun : Progress Words (Vec (Vec ℕ Global) Global)) → IsPlain old b → Ends line_text (line_resume 65536) old (b ∷ []) count (number_line count) → BeginsWords count begun → ByteStep (partial.Count old) b (Ok (in_words begun))
 count_begins old b count (More words) plain ends begins = (begins.0, count_ends old b count words plain ends begins.1 begins.2)

@@ -2,6 +2,7 @@ pub mod Completed
 pub mod Counts
 pub mod Limits
 pub mod Lines
+pub mod Memory
 pub mod Parts
 pub mod Pieces
 pub mod Sequences

@@ -8,6 +8,7 @@ use Rattle.zq_resp.specs.Front.{Front, Got, Part, Wrong}
 use Rattle.zq_resp.specs.Grammar.{request_at}
 use Rattle.zq_resp.specs.Laws.{Gives, Run, Turn, first_fault, given, given_by, stream}
 use Rattle.zq_resp.specs.Stream.{Breaks, Feeds, Reaches, Requests, Splits, Stops, handed, has_words}
+use Rattle.zq_resp.proofs.Memory.{count_more}
 use Rattle.zq_resp.proofs.Spelled.{request_again, request_got}
 use Rattle.zq_resp.proofs.Stable.{got_stays, wrong_stays}
 
@@ -115,7 +116,7 @@ stops_on all before front had piece more fault.Protocol reaches stops =
 stops_on all before front had piece more fault.TooLong reaches stops =
     (all ++ stops.0, breaks_on all stops.0 front had piece more fault.TooLong reaches stops.1, handed_on all stops.0 before stops.2)
 stops_on all before front had piece more fault.NoMemory reaches stops =
-    (all ++ stops.0, stops.1 ++ more, piece_reaches all stops.0 front had piece more stops.1 reaches stops.2, handed_on all stops.0 before stops.3)
+    (all ++ stops.0, stops.1 ++ more, piece_reaches all stops.0 front had piece more stops.1 reaches stops.2, handed_on all stops.0 before stops.3, count_more stops.1 more stops.4)
 stops_on all before front had piece more fault.Over reaches stops = absurd stops
 
 over_step : (piece : List ℕ) (answer : Result Requests (FeedFault × Requests)) (has : Option (List ℕ)) → Feeds None piece answer has → (has ≡ None) × (given_by answer ≡ [])

@@ -8,7 +8,7 @@ use Rattle.zq_resp.specs.declared.reader.progress.Progress.TheVariants.{More, Wh
 use Rattle.zq_resp.specs.Front.{Front}
 use Rattle.zq_resp.specs.Grammar.{end_at, zero_at, digits_at, line_at}
 use Rattle.zq_resp.specs.Spelling.{number_line}
-use Rattle.zq_resp.specs.Suspended.{Fails, Goes, Ends}
+use Rattle.zq_resp.specs.Suspended.{IsWrong, Goes, Ends}
 
 abbrev pub IsLine : ℕ → Line → Type 0
 IsLine limit line.Start = Unit {0}
@@ -28,4 +28,4 @@ line_resume limit (line.Ended n) more = end_at n more
 abbrev pub LineStep : ℕ → Line → ℕ → Result (Progress Line ℕ) FeedFault → Type 0
 LineStep limit old b (Ok (More new)) = IsLine limit new × Goes line_text (line_resume limit) old new (b ∷ [])
 LineStep limit old b (Ok (Whole n)) = (n ≤ limit) × Ends line_text (line_resume limit) old (b ∷ []) n (number_line n)
-LineStep limit old b (Err e) = (more : List ℕ) → Fails e (line_resume limit old (b ∷ more))
+LineStep limit old b (Err e) = (more : List ℕ) → IsWrong e (line_resume limit old (b ∷ more))

@@ -7,7 +7,7 @@ use Rattle.zq_resp.specs.declared.reader.progress.Progress.{Progress}
 use Rattle.zq_resp.specs.declared.reader.progress.Progress.TheVariants.{More, Whole}
 use Rattle.zq_resp.specs.Front.{Front, Got, ◌>>=◌}
 use Rattle.zq_resp.specs.Grammar.{mark_at, null_at}
-use Rattle.zq_resp.specs.Suspended.{Fails, Goes}
+use Rattle.zq_resp.specs.Suspended.{IsWrong, Goes}
 
 abbrev pub null_text : Null → List ℕ
 null_text null.Minus = 45 ∷ []
@@ -22,4 +22,4 @@ null_resume null.Ended more = mark_at 10 more >>= λ rest. Got ([], rest)
 abbrev pub NullStep : Null → ℕ → Result (Progress Null (Unit {0})) FeedFault → Type 0
 NullStep old b (Ok (More new)) = Goes null_text null_resume old new (b ∷ [])
 NullStep old b (Ok (Whole done)) = (more : List ℕ) → null_resume old (b ∷ more) ≡ Got ([], more)
-NullStep old b (Err e) = (more : List ℕ) → Fails e (null_resume old (b ∷ more))
+NullStep old b (Err e) = (more : List ℕ) → IsWrong e (null_resume old (b ∷ more))

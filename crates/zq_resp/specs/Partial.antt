@@ -13,7 +13,7 @@ use Rattle.zq_resp.specs.declared.reader.progress.Progress.TheVariants.{More, Wh
 use Rattle.zq_resp.specs.Front.{Front, Got, ◌>>=◌}
 use Rattle.zq_resp.specs.Grammar.{words_at, count_at, asked_at}
 use Rattle.zq_resp.specs.Request.{AreWords}
-use Rattle.zq_resp.specs.Suspended.{views, Fails, Goes}
+use Rattle.zq_resp.specs.Suspended.{views, IsWrong, Fails, Goes}
 use Rattle.zq_resp.specs.Line.{IsLine, line_text, line_resume}
 use Rattle.zq_resp.specs.Null.{null_text, null_resume}
 use Rattle.zq_resp.specs.Words.{AreSome, words_text, words_resume}
@@ -53,7 +53,7 @@ abbrev pub ByteStep : Partial → ℕ → Result (Progress Partial (Vec (Vec ℕ
 ByteStep old b (Ok (More new)) = IsPartial new × Goes text_so_far resume old new (b ∷ [])
 ByteStep old b (Ok (Whole words)) =
     AreWords (views words) × ((more : List ℕ) → resume old (b ∷ more) ≡ Got (views words, more))
-ByteStep old b (Err e) = (more : List ℕ) → Fails e (resume old (b ∷ more))
+ByteStep old b (Err e) = (more : List ℕ) → IsWrong e (resume old (b ∷ more))
 
 -- a step within the words is a step of the request
 abbrev pub in_words : Progress Words (Vec (Vec ℕ Global) Global) → Progress Partial (Vec (Vec ℕ Global) Global)

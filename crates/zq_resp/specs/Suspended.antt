@@ -17,6 +17,13 @@ Fails TooLong read = read ≡ Wrong TooLong
 Fails NoMemory read = Unit {0}
 Fails Over read = ⊥
 
+-- The bytes are wrong for that reason: no memory was asked for.
+abbrev pub IsWrong : {X : Type 0} → FeedFault → Front X → Type 0
+IsWrong Protocol read = read ≡ Wrong Protocol
+IsWrong TooLong read = read ≡ Wrong TooLong
+IsWrong NoMemory read = ⊥
+IsWrong Over read = ⊥
+
 -- A suspended reading has read a text, and gives something with more bytes. From an old state to a new one the text
 -- grows by the bytes taken, and what more bytes give stays the same.
 pub record Goes {P X : Type 0} (text : P → List ℕ) (resume : P → List ℕ → Front X) (old new : P) (taken : List ℕ) : Type 0 where

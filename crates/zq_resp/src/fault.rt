@@ -14,7 +14,7 @@ pub enum FeedFault {
     TooLong,
     /// An earlier call failed.
     Over,
-    /// Memory for a word or a request was refused.
+    /// Memory for a word or a request was refused. It comes behind the line of a count of one word or more.
     NoMemory,
 }
 

@@ -3,7 +3,7 @@
 ghost use Rattle.std.specs.Prelude.{◌≡◌, ◌<◌, ◌≤◌, [], IfErr, IfOk, Err, List, Ok, Some, length, take, ℕ};
 ghost use Rattle.zq_resp.specs.Front.{Part};
 ghost use Rattle.zq_resp.specs.Grammar.{request_at};
-ghost use Rattle.zq_resp.specs.Stream.{Feeds, answered, is_inside, listed};
+ghost use Rattle.zq_resp.specs.Stream.{FailsFirst, Feeds, answered, is_inside, listed};
 
 mod line;
 mod null;
@@ -76,7 +76,8 @@ impl Reader {
     /// - `Protocol`: at the first byte with which the text so far begins no request.
     /// - `TooLong`: at the digit that makes a count above 65,536 or a length above 1,048,576, and at byte
     ///   16,777,217 of a request, also where that byte would be `Protocol`.
-    /// - `NoMemory`: memory was refused. The piece was read up to the request that needed it.
+    /// - `NoMemory`: memory was refused. The piece was read up to the request that needed it, at least to the end of the
+    ///   line of its count. All requests before that one are there.
     ///
     /// Memory is taken for bytes that have come, never for a declared count or length.
     pub fn feed(&mut self, alloc: Global, piece: &[u8]) -> Result<Vec<Request>, FeedError>
@@ -84,20 +85,14 @@ impl Reader {
     {
         let mut requests = Vec::new(alloc);
         let Some(unfinished) = self.unfinished.take() else {
-            return Err(FeedError {
-                fault: FeedFault::Over,
-                before: requests,
-            });
+            return Err(stopped(FeedFault::Over, requests));
         };
         match read_on(alloc, unfinished, piece, &mut self.spent, &mut requests) {
             Ok(unfinished) => {
                 self.unfinished = Some(unfinished);
                 Ok(requests)
             }
-            Err(fault) => Err(FeedError {
-                fault,
-                before: requests,
-            }),
+            Err(fault) => Err(stopped(fault, requests)),
         }
     }
 
@@ -106,7 +101,8 @@ impl Reader {
     /// of the piece is taken, or what follows is to be taken next.
     ///
     /// It does what [`Reader::feed`] does with the bytes taken, and at a fault, which is one of those named there, what that
-    /// does with the piece. Each later call answers `Over`.
+    /// does with the piece. The fault is one of the first request: those before it were answered by earlier calls. Each
+    /// later call answers `Over`.
     pub fn next_request(
         &mut self,
         alloc: Global,
@@ -115,7 +111,9 @@ impl Reader {
         ensures within { IfOk result (λ found. found.1 ≤ length piece.now) }
         ensures some { IfOk result (λ found. 0 < length piece.now → 0 < found.1) }
         ensures fed { IfOk result (λ found. Feeds self.old (take found.1 piece.now) (Ok (listed found.0)) self.new) }
+        ensures ended { IfOk result (λ found. found.1 < length piece.now → self.new ≡ Some []) }
         ensures fault { IfErr result (λ why. Feeds self.old piece.now (Err (why, [])) self.new) }
+        ensures first { IfErr result (λ why. FailsFirst self.old piece.now why) }
     {
         let Some(unfinished) = &self.unfinished else {
             return Err(FeedFault::Over);
@@ -142,7 +140,9 @@ impl Reader {
         ensures within { IfOk result (λ found. found.1 ≤ length piece.now) }
         ensures some { IfOk result (λ found. 0 < length piece.now → 0 < found.1) }
         ensures fed { IfOk result (λ found. Feeds self.old (take found.1 piece.now) (Ok (listed found.0)) self.new) }
+        ensures ended { IfOk result (λ found. found.1 < length piece.now → self.new ≡ Some []) }
         ensures fault { IfErr result (λ why. Feeds self.old piece.now (Err (why, [])) self.new) }
+        ensures first { IfErr result (λ why. FailsFirst self.old piece.now why) }
     {
         let Some(unfinished) = self.unfinished.take() else {
             return Err(FeedFault::Over);
@@ -174,5 +174,16 @@ impl Reader {
         ensures { self.new ≡ self.old }
     {
         self.spent.keep(request);
+    }
+}
+
+/// The fault, with the requests that ended before it: all that were found.
+fn stopped(fault: FeedFault, requests: Vec<Request>) -> FeedError
+    ensures fault { result.fault ≡ fault }
+    ensures before { result.before.items ≡ requests.items }
+{
+    FeedError {
+        fault,
+        before: requests,
     }
 }

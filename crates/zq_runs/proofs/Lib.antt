@@ -8,3 +8,4 @@ pub mod MovedBooks
 pub mod SiteBooks
 pub mod Questions
 pub mod NearBooks
+pub mod FewMembers

@@ -1,11 +1,11 @@
 //! What the sites of a world answer.
 
-ghost use Rattle.std.specs.Prelude.{List, Ok, false, true, ℕ, ◌≡◌};
+ghost use Rattle.std.specs.Prelude.{List, Ok, false, length, true, ℕ, ◌<◌, ◌≡◌, ◌≤◌};
 ghost use Rattle.zq_model.specs.Image.{image_of};
 ghost use Rattle.zq_model.specs.Meaning.{IsWholeQueue, Scored};
 ghost use Rattle.zq_model.specs.Operation.{Operation};
 ghost use Rattle.zq_model.specs.Rule.{Rule};
-ghost use Rattle.zq_model.specs.Sets.{AreSame};
+ghost use Rattle.zq_model.specs.Sets.{AreSame, IsWorld};
 ghost use Rattle.zq_moves.specs.Moves.{Queues};
 ghost use Rattle.zq_runs.specs.Events.{Event, set_at};
 ghost use Rattle.zq_runs.specs.Doing.{done, unchanged};
@@ -36,6 +36,12 @@ pub fn reading()
     ensures answers { (rule : Rule) (K sites : ℕ) (events : List Event) → IsPlayable rule K sites events → (moment site : ℕ) (queues : Queues) →
         ((key : List ℕ) → IsWholeQueue rule (set_at (run rule K events) moment site) key (queues key)) → (words : List Word) →
         answer_of rule K (set_at (run rule K events) moment site) words ≡ answer_over queues (command_of words) }
+{}
+
+/// A key has no more members in what the operations of a world mean than heaps have dots in all, 2 to the 58th.
+pub fn counting()
+    ensures few { (rule : Rule) (K : ℕ) (S : List Operation) → 0 < K → IsWorld K S → (key : List ℕ) →
+        length (queues_over rule S (heaps_in K) key) ≤ 288230376151711744 }
 {}
 
 /// A request that names a command which only reads is such a command, or is refused. A site that is asked it changes

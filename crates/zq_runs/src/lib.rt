@@ -9,7 +9,7 @@ mod books;
 mod joins;
 mod sets;
 
-pub use answers::{asking, converging, reading};
+pub use answers::{asking, converging, counting, reading};
 pub use books::{doing, drawing, holding, recording};
 pub use joins::meeting;
 pub use sets::{gathering, telling};

@@ -32,7 +32,7 @@ impl Linker {
         inbox: &Mailbox,
         hasher: Seeded,
         carrier: &mut C,
-        witness: &T,
+        witness: &mut T,
     ) {
         let Linker {
             station,

@@ -91,7 +91,7 @@ fn link_one<R: Wait>(rt: &R, alloc: Global, linker: Linker, mailboxes: &[Mailbox
     let number = site_of(&linker);
     let mut carrier = Straight::new(rt, number, mailboxes);
     if let Some(inbox) = mailboxes.get(usize::from(number.value())) {
-        linker.run(rt, alloc, inbox, hasher, &mut carrier, &Silent);
+        linker.run(rt, alloc, inbox, hasher, &mut carrier, &mut Silent);
     }
 }
 

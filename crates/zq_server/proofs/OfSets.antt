@@ -1,6 +1,6 @@
 -- The books of a server of a site that one session alone uses, by the set of operations of which they have the images.
 
-use Rattle.std.proofs.Common.{Bool, List, Some, [], ap, arith, false, inl, inr, length, map, refl, subst, suc, sym, take, true, true≢false, zero, ℕ, ◌+◌, ◌<◌, ◌∙◌, ◌∷◌, ◌≡◌}
+use Rattle.std.proofs.Common.{Bool, List, Some, [], ap, arith, false, inl, inr, length, map, refl, subst, suc, sym, take, true, true≢false, zero, ℕ, ◌+◌, ◌<◌, ◌∙◌, ◌∷◌, ◌≡◌, ◌≤◌, ◌⊎◌}
 use Rattle.std.proofs.lemmas.List.{length-map}
 use Rattle.std.proofs.lemmas.List.FromFn.{length-map-range_with_len}
 use Rattle.std.proofs.lemmas.Option.{none-some, same_Some}
@@ -20,12 +20,15 @@ use Rattle.zq_model.specs.Rule.{Greatest}
 use Rattle.zq_model.specs.Sets.{IsClosed, IsHeaps, IsIn, IsWorld, SITES}
 use Rattle.zq_moves.specs.Lent.{books_after, queues_of}
 use Rattle.zq_moves.specs.Moves.{Move, Queues}
+use Rattle.zq_notes.proofs.ReadOff.{for_reply, listed_short}
+use Rattle.zq_notes.specs.Readings.{IsOrShort, is_list}
 use Rattle.zq_plans.specs.Plan.{Plan, plan_of}
 use Rattle.zq_plans.specs.Replies.{Reply, bytes_of}
-use Rattle.zq_plans.specs.Run.{Memory, Number, Runs, Want, cut_error, cut_pop, cut_reply, part, popped_of, whole}
+use Rattle.zq_plans.specs.Run.{ForReply, IsReadShort, IsWhy, MayLack, Memory, Number, Runs, Takes, Want, cut_error, cut_pop, cut_reply, part, popped_of, takes_of, whole}
 use Rattle.zq_posheap.proofs.Lists.{behind}
 use Rattle.zq_resp.specs.Request.{IsRequest}
 use Rattle.zq_runs.proofs.BooksOf.{with_at_here}
+use Rattle.zq_runs.proofs.FewMembers.{few_members}
 use Rattle.zq_runs.proofs.InRange.{AreShort, moves_sound}
 use Rattle.zq_runs.proofs.KeptRuns.{short_over}
 use Rattle.zq_runs.proofs.MovedBooks.{all_stand, closed_then, world_then}
@@ -39,6 +42,7 @@ use Rattle.zq_server.specs.Plain.{RunsCommand, RunsReading, SITE, next_begun, no
 use Rattle.zq_words.proofs.CommandLimits.{within_limits}
 use Rattle.zq_words.specs.Command.{Command, Del, Ping, Zadd, ZaddIncr, Zcard, Zcount, Zincrby, Zpopmin, Zpopnear, Zrange, Zrank, Zrem, Zrevrank, Zscore, command_of}
 use Rattle.zq_words.specs.Limits.{IsWithinLimits}
+use Rattle.zq_words.specs.Shown.{takes_memory}
 use Rattle.zq_words.specs.Words.{Word}
 
 -- ---- nothing done
@@ -146,20 +150,40 @@ reads_only (Zpopmin key count) queues reads = absurd (true≢false (sym reads))
 reads_only (Zpopnear key) queues reads = absurd (true≢false (sym reads))
 reads_only (Del keys) queues reads = absurd (true≢false (sym reads))
 
-module _ (K : ℕ) (S : List Operation) where
-  -- the set stays, and the reply is an answer
-  abbrev IsReadAs : Word → List Book → Word → Type 0
-  IsReadAs answer new bytes = IsOfSet K S new × IsAnswer answer bytes
+-- it asks for no memory but for its reply
+not_takes : (command : Command) → is_reading command ≡ true → takes_memory (Ok command) ≡ false
+not_takes (Zscore key member) reads = refl
+not_takes (Zcard key) reads = refl
+not_takes (Zcount key min max) reads = refl
+not_takes (Zrank key member) reads = refl
+not_takes (Zrevrank key member) reads = refl
+not_takes (Zrange key range is_turned with_scores) reads = refl
+not_takes (Ping message) reads = refl
+not_takes (Zadd key flags pairs) reads = absurd (true≢false (sym reads))
+not_takes (ZaddIncr key flags increment member) reads = refl
+not_takes (Zincrby key increment member) reads = refl
+not_takes (Zrem key members) reads = refl
+not_takes (Zpopmin key count) reads = refl
+not_takes (Zpopnear key) reads = refl
+not_takes (Del keys) reads = refl
 
-  none_moved : (strict : Bool) (plan : Plan) (cut : ℕ → Want → Reply) (site stamp : ℕ) (old new : List Book) (bytes : Word) → plan.moves ≡ [] → cut 0 ≡ cut_error 0 → IsOfSet K S old →
-      Runs site stamp strict plan cut old new bytes → IsReadAs (bytes_of plan.reply) new bytes
-  none_moved strict plan cut site stamp old new bytes none error of (whole books says) =
+no_move : (site k : ℕ) (books : List Book) → IsWhy site (slice_get [] k) books Number → ⊥
+no_move site zero books why = why
+no_move site (suc k) books why = why
+
+module _ (K : ℕ) (S : List Operation) where
+  none_moved : (is_long : Bool) (counted : ℕ) (plan : Plan) (cut : ℕ → Want → Reply) (site stamp : ℕ) (old new : List Book) (bytes : Word) → plan.moves ≡ [] → cut 0 ≡ cut_error 0 → IsOfSet K S old →
+      Runs site stamp (ForReply is_long counted) plan cut old new bytes →
+      IsOfSet K S new × ((bytes ≡ bytes_of plan.reply) ⊎ (IsReadShort is_long counted × (bytes ≡ bytes_of (cut_error 0 Memory))))
+  none_moved is_long counted plan cut site stamp old new bytes none error of (whole books says) =
       (subst (IsOfSet K S) (sym (books ∙ ap (λ moves. books_after site stamp moves old) none)) of, inl says)
-  none_moved strict plan cut site stamp old new bytes none error of (part k want few books why says) =
+  none_moved is_long counted plan cut site stamp old new bytes none error of (part k Number few books why says) =
+      absurd (no_move site k new (subst (λ moves. IsWhy site (slice_get moves k) new Number) none why))
+  none_moved is_long counted plan cut site stamp old new bytes none error of (part k Memory few books why says) =
       let most = ap length none in
       let first : k ≡ 0 = omega (arith, few, most) in
       let same : new ≡ old = books ∙ ap (λ n. books_after site stamp (take n plan.moves) old) first in
-      (subst (IsOfSet K S) (sym same) of, inr (want, says ∙ ap (λ n. bytes_of (cut n want)) first ∙ ap (λ f. bytes_of (f want)) error))
+      (subst (IsOfSet K S) (sym same) of, inr (why, says ∙ ap (λ n. bytes_of (cut n Memory)) first ∙ ap (λ f. bytes_of (f Memory)) error))
 
   cut_none : (command : Command) (queues : Queues) → cut_reply command queues 0 ≡ cut_error 0
   cut_none command queues = elim (popped_of command) as (λ o. (λ want. cut_pop o queues 0 want) ≡ cut_error 0) [ None ↦ refl | Some popped ↦ refl ]
@@ -168,23 +192,51 @@ module _ (K : ℕ) (S : List Operation) where
     stays : new ≡ old → IsOfSet K S new
     stays same = subst (IsOfSet K S) (sym same) of
 
-    command_read : (command : Command) → is_reading command ≡ true → RunsCommand old command new bytes → IsReadAs (bytes_of (plan_of command (queues_of Greatest old)).reply) new bytes
-    command_read command reads (pings message is same says) = absurd (true≢false (sym (ap is_reading (sym is) ∙ reads)))
-    command_read command reads (unread takes same says) = (stays same, inr (Memory, says))
-    command_read command reads (worn apart last same says) = (stays same, inr (Number, says))
-    command_read command reads (runs apart low ran) =
-        let mid = next_begun old in
-        let queues = queues_of Greatest mid in
-        let only = reads_only command queues reads in
-        let read = none_moved _ (plan_of command queues) (cut_reply command queues) SITE (greatest_stamp old + 1) mid new bytes only (cut_none command queues) (of_set_begun K S old of) ran in
-        (read.0, subst (λ (q : Queues). IsAnswer (bytes_of (plan_of command q).reply) bytes) (queues_begun old) read.1)
+    -- the set stays, and the reply is an answer
+    abbrev IsReadAs : Bool → Word → Type 0
+    IsReadAs is_list answer = IsOfSet K S new × IsAnswer old is_list answer bytes
 
-    pub reads_set : (words : List Word) → is_question words ≡ true → RunsReading old (command_of words) new bytes → IsOfSet K S new × IsAnswer (answer_of Greatest K S words) bytes
+    mid : IsOfSet K S (next_begun old)
+    mid = of_set_begun K S old of
+
+    few : (key : List ℕ) → length (queues_of Greatest (next_begun old) key) ≤ 288230376151711744
+    few key = few_members K S of.world key Greatest (queues_of Greatest (next_begun old) key) (queues_meant K S (next_begun old) mid key)
+
+    read_by : (command : Command) (queues : Queues) → queues ≡ queues_of Greatest (next_begun old) → is_reading command ≡ true →
+        Runs SITE (greatest_stamp old + 1) (takes_of command queues) (plan_of command queues) (cut_reply command queues) (next_begun old) new bytes →
+        IsOfSet K S new × IsOrShort (is_list queues (Ok command)) (bytes_of (plan_of command queues).reply) bytes
+    read_by command queues same reads ran =
+        let takes = for_reply command queues reads in
+        let read = none_moved takes.0 takes.1 (plan_of command queues) (cut_reply command queues) SITE (greatest_stamp old + 1) (next_begun old) new bytes (reads_only command queues reads) (cut_none command queues) mid
+        (subst (λ t. Runs SITE (greatest_stamp old + 1) t (plan_of command queues) (cut_reply command queues) (next_begun old) new bytes) takes.2 ran) in (
+          read.0,
+          elim read.1 [
+            | inl says ↦ inl says
+            | inr short ↦ inr (
+              listed_short command queues reads (λ key. subst (λ (q : Queues). length (q key) ≤ 288230376151711744) (sym same) (few key))
+                  (subst (λ t. MayLack t 0 None []) (sym takes.2) short.0),
+              short.1,
+            )
+          ],
+        )
+
+    command_read : (command : Command) → is_reading command ≡ true → RunsCommand old command new bytes →
+        IsReadAs (is_list (queues_of Greatest old) (Ok command)) (bytes_of (plan_of command (queues_of Greatest old)).reply)
+    command_read command reads (pings message is same says) = absurd (true≢false (sym (ap is_reading (sym is) ∙ reads)))
+    command_read command reads (unread takes same says) = absurd (true≢false (sym takes ∙ not_takes command reads))
+    command_read command reads (worn apart last same says) = (stays same, inr (last, says))
+    command_read command reads (runs apart low ran) =
+        let queues = queues_of Greatest (next_begun old) in
+        let read = read_by command queues refl reads ran in
+        (read.0, inl (subst (λ (q : Queues). IsOrShort (is_list q (Ok command)) (bytes_of (plan_of command q).reply) bytes) (queues_begun old) read.1))
+
+    pub reads_set : (words : List Word) → is_question words ≡ true → RunsReading old (command_of words) new bytes →
+        IsOfSet K S new × IsAnswer old (is_list (queues_of Greatest old) (command_of words)) (answer_of Greatest K S words) bytes
     reads_set words question answered =
-        subst (λ (q : Queues). IsOfSet K S new × IsAnswer (answer_over q (command_of words)) bytes) (queues_are K S old of)
-        (elim (command_of words) as (λ r. command_of words ≡ r → RunsReading old r new bytes → IsReadAs (answer_over (queues_of Greatest old) r) new bytes) [
+        subst (λ (q : Queues). IsOfSet K S new × IsAnswer old (is_list (queues_of Greatest old) (command_of words)) (answer_over q (command_of words)) bytes) (queues_are K S old of)
+        (elim (command_of words) as (λ r. command_of words ≡ r → RunsReading old r new bytes → IsReadAs (is_list (queues_of Greatest old) r) (answer_over (queues_of Greatest old) r)) [
           | Ok command ↦ λ read ran. command_read command (questions_read words command question read) ran
-          | Err why ↦ λ _ ran. (stays ran.0, inl ran.1)
+          | Err why ↦ λ _ ran. (stays ran.0, inl (inl ran.1))
         ] refl answered)
 
 -- ---- every request
@@ -256,9 +308,9 @@ module _ (K : ℕ) (S : List Operation) (old new : List Book) (bytes : Word) (of
   kept : new ≡ old → Grown K S new
   kept same = (S, subst (IsOfSet K S) (sym same) of, λ o i. i)
 
-  plan_grown : (strict : Bool) (stamp : ℕ) (plan : Plan) (cut : ℕ → Want → Reply) → AreSound plan.moves → Runs SITE stamp strict plan cut (next_begun old) new bytes → Grown K S new
-  plan_grown strict stamp plan cut sound (whole books says) = moved_set K S stamp plan.moves (next_begun old) new (of_set_begun K S old of) sound unworn books
-  plan_grown strict stamp plan cut sound (part k want few books why says) =
+  plan_grown : (takes : Takes) (stamp : ℕ) (plan : Plan) (cut : ℕ → Want → Reply) → AreSound plan.moves → Runs SITE stamp takes plan cut (next_begun old) new bytes → Grown K S new
+  plan_grown takes stamp plan cut sound (whole books says) = moved_set K S stamp plan.moves (next_begun old) new (of_set_begun K S old of) sound unworn books
+  plan_grown takes stamp plan cut sound (part k want few books why says) =
       moved_set K S stamp (take k plan.moves) (next_begun old) new (of_set_begun K S old of) (λ m i. sound m (in_taken m k plan.moves i)) unworn books
 
   command_grown : (command : Command) → IsWithinLimits command → RunsCommand old command new bytes → Grown K S new

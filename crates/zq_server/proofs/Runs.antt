@@ -30,13 +30,12 @@ answered-join answers a b c xs ys first second p q =
 
 -- The reply was made and not written.
 pub stopped-one : {S : Type 0} (answers : Relation S) (a b : S) (request : List (List ℕ)) (reply : Reply)
-    → answers a request reply b → IsStopped answers a b (request ∷ []) []
+    → answers a request reply b → IsStopped answers a b (request ∷ []) [] (reply ∷ [])
 stopped-one answers a b request reply h = record {
   first = request ∷ [];
   others = [];
   split = refl;
   replies = [];
-  unwritten = reply ∷ [];
   runs = (b, h, refl);
   at_most_one = omega arith;
   all_else = λ none. refl;
@@ -45,27 +44,26 @@ stopped-one answers a b request reply h = record {
 
 -- All was written.
 pub stopped-whole : {S : Type 0} (answers : Relation S) (a b : S) (requests : Requests) (bytes : List ℕ)
-    → IsAnswered answers a b requests bytes → IsStopped answers a b requests bytes
+    → IsAnswered answers a b requests bytes → IsStopped answers a b requests bytes []
 stopped-whole answers a b requests bytes p = record {
   first = requests;
   others = [];
   split = sym (append-nil requests);
   replies = p.0;
-  unwritten = [];
   runs = subst (λ replies. Runs answers a requests replies b) (sym (append-nil p.0)) p.1;
   at_most_one = omega arith;
   all_else = λ none. refl;
   written = p.2;
 }
 
-pub stopped-begun : {S : Type 0} (answers : Relation S) (a b : S) (requests : Requests) (bytes : List ℕ)
-    → IsStopped answers a b requests bytes → IsBegun answers a b requests bytes
-stopped-begun answers a b requests bytes p = (
+pub stopped-begun : {S : Type 0} (answers : Relation S) (a b : S) (requests : Requests) (bytes : List ℕ) (unwritten : List Reply)
+    → IsStopped answers a b requests bytes unwritten → IsBegun answers a b requests bytes
+stopped-begun answers a b requests bytes unwritten p = (
   p.first,
   p.others,
-  all_bytes p.unwritten,
+  all_bytes unwritten,
   p.split,
-  (p.replies ++ p.unwritten, p.runs, rw p.written (sym (all_bytes-append p.replies p.unwritten))),
+  (p.replies ++ unwritten, p.runs, rw p.written (sym (all_bytes-append p.replies unwritten))),
 )
 
 -- What is answered whole is begun.
@@ -75,16 +73,15 @@ begun-whole answers a b requests bytes p =
     (requests, [], [], sym (append-nil requests), subst (IsAnswered answers a b requests) (sym (append-nil bytes)) p)
 
 -- Some are answered, and of those that follow the first.
-pub stopped-join : {S : Type 0} (answers : Relation S) (a b c : S) (xs ys : Requests) (first second : List ℕ)
-    → IsAnswered answers a b xs first → IsStopped answers b c ys second → IsStopped answers a c (xs ++ ys) (first ++ second)
-stopped-join answers a b c xs ys first second p q = record {
+pub stopped-join : {S : Type 0} (answers : Relation S) (a b c : S) (xs ys : Requests) (first second : List ℕ) (unwritten : List Reply)
+    → IsAnswered answers a b xs first → IsStopped answers b c ys second unwritten → IsStopped answers a c (xs ++ ys) (first ++ second) unwritten
+stopped-join answers a b c xs ys first second unwritten p q = record {
   first = xs ++ q.first;
   others = q.others;
   split = ap (λ l. xs ++ l) q.split ∙ sym (append_assoc xs q.first q.others);
   replies = p.0 ++ q.replies;
-  unwritten = q.unwritten;
-  runs = subst (λ replies. Runs answers a (xs ++ q.first) replies c) (sym (append_assoc p.0 q.replies q.unwritten))
-      (runs-join answers a b c xs q.first p.0 (q.replies ++ q.unwritten) p.1 q.runs);
+  runs = subst (λ replies. Runs answers a (xs ++ q.first) replies c) (sym (append_assoc p.0 q.replies unwritten))
+      (runs-join answers a b c xs q.first p.0 (q.replies ++ unwritten) p.1 q.runs);
   at_most_one = q.at_most_one;
   all_else = q.all_else;
   written = rw (p.2, q.written) (sym (all_bytes-append p.0 q.replies));

@@ -1,11 +1,9 @@
 -- What a session has served, with one more piece.
 use Rattle.std.proofs.Common.{◌≡◌, List, ℕ, [], ◌++◌, Option, None, Some, Result, Ok, Err, sym, ap, subst, ◌∙◌, append_assoc, append-nil, refl, ◌≤◌, length, arith, inl, inr, take, drop, take-append-drop}
-use Rattle.std.specs.Io.KnownBytes.{Appends, IsAtEnd}
-use Rattle.zq_server.proofs.GatheredBytes.{all-written, front-written, puts-cut}
-use Rattle.zq_server.specs.Gathering.{Puts, held}
 use Rattle.zq_resp.specs.Front.{Part}
 use Rattle.zq_resp.specs.Grammar.{request_at}
 use Rattle.zq_resp.specs.Stream.{Breaks, Feeds, Reaches, Requests, Splits, Stops, handed}
+use Rattle.zq_resp.specs.declared.reply.Reply.{Reply}
 use Rattle.zq_resp.specs.declared.fault.FeedFault.TheVariants as fault
 use Rattle.zq_resp.specs.declared.fault.FeedFault.{FeedFault}
 use Rattle.zq_server.specs.declared.serving.Served.{Served}
@@ -14,7 +12,7 @@ use Rattle.zq_server.specs.declared.outcome.End.{End}
 use Rattle.zq_server.specs.declared.outcome.End.TheVariants.{Clean, Inside, Protocol}
 use Rattle.zq_server.specs.declared.outcome.SessionFault.{SessionFault}
 use Rattle.zq_server.specs.declared.outcome.SessionFault.TheVariants as stop
-use Rattle.zq_server.specs.Session.{Relation, IsAnswered, IsBegun, IsClosed, IsOwed, IsReadOff, IsStopped, Serves, closing}
+use Rattle.zq_server.specs.Session.{Relation, IsAnswered, IsBegun, IsClosed, IsOwed, IsStopped, IsWanting, Serves, closing}
 use Rattle.zq_server.specs.Serving.{AnswersAll, EndsWith, ServesLast, ServesPiece}
 use Rattle.zq_server.proofs.Runs.{answered-none, answered-join, begun-whole, stopped-join, stopped-whole, stopped-begun}
 use Rattle.zq_server.proofs.Streams.{reaches-more, reaches-on, splits-on, breaks-on, splits-none, handed-append}
@@ -80,12 +78,12 @@ module _ {S : Type 0} (answers : Relation S) where
         subst (IsClosed answers old new (handed (s.all ++ p.0))) (sym (append_assoc written bytes p.2)) (closed-on old mid new s.all p.0 written (bytes ++ p.2) s.answered p.4),
       )
 
-  stopped-on : (old mid new : S) (all more : Requests) (written bytes : List ℕ)
-      → IsAnswered answers old mid (handed all) written → IsStopped answers mid new (handed more) bytes
-      → IsStopped answers old new (handed (all ++ more)) (written ++ bytes)
-  stopped-on old mid new all more written bytes p q =
-      subst (λ requests. IsStopped answers old new requests (written ++ bytes)) (sym (handed-append all more))
-      (stopped-join answers old mid new (handed all) (handed more) written bytes p q)
+  stopped-on : (old mid new : S) (all more : Requests) (written bytes : List ℕ) (unwritten : List Reply)
+      → IsAnswered answers old mid (handed all) written → IsStopped answers mid new (handed more) bytes unwritten
+      → IsStopped answers old new (handed (all ++ more)) (written ++ bytes) unwritten
+  stopped-on old mid new all more written bytes unwritten p q =
+      subst (λ requests. IsStopped answers old new requests (written ++ bytes) unwritten) (sym (handed-append all more))
+      (stopped-join answers old mid new (handed all) (handed more) written bytes unwritten p q)
 
   -- a piece of which nothing is taken yet
   pub piece-begins : (s : S) (had : List ℕ) → request_at had ≡ Part → ServesPiece answers s s had [] (Some had) [] (Ok More)
@@ -112,8 +110,10 @@ module _ {S : Type 0} (answers : Relation S) where
   piece-goes-on old mid new had front back written bytes has kept (Err stop.NoMemory) s p = (
     s.all ++ p.0,
     p.1,
-    subst (λ text. Reaches text (s.all ++ p.0) p.1) (append_assoc had front back) (reaches-on (had ++ front) has back p.1 s.all p.0 s.splits.reaches p.2),
-    stopped-on old mid new s.all p.0 written bytes s.answered p.3,
+    p.2,
+    subst (λ text. Reaches text (s.all ++ p.0) p.1) (append_assoc had front back) (reaches-on (had ++ front) has back p.1 s.all p.0 s.splits.reaches p.3),
+    stopped-on old mid new s.all p.0 written bytes p.2 s.answered p.4,
+    p.5,
   )
 
   -- a piece whose front was served
@@ -146,7 +146,7 @@ module _ {S : Type 0} (answers : Relation S) where
       inr (p.0, p.1, [], p.2, subst (IsClosed answers old new (handed p.0)) (sym (append-nil bytes)) p.3)
   owed-whole old new had piece bytes kept (Err stop.Read) p = absurd p
   owed-whole old new had piece bytes kept (Err stop.Write) p = p
-  owed-whole old new had piece bytes kept (Err stop.NoMemory) p = inl (p.0, p.1, p.2, stopped-begun answers old new (handed p.0) bytes p.3)
+  owed-whole old new had piece bytes kept (Err stop.NoMemory) p = inl (p.0, p.1, p.3, stopped-begun answers old new (handed p.0) bytes p.2 p.4)
 
   -- A front of what is owed is owed.
   owed-front : (old new : S) (text front back : List ℕ) → IsOwed answers old new text (front ++ back) → IsOwed answers old new text front
@@ -167,7 +167,7 @@ module _ {S : Type 0} (answers : Relation S) where
       → Reaches (had ++ piece) all rest → AnswersAll answers old new (handed all) bytes (Err why) → ServesPiece answers old new had piece kept bytes (Err why)
   piece-stops old new had piece bytes rest all kept stop.Read r p = absurd p
   piece-stops old new had piece bytes rest all kept stop.Write r p = inl (all, rest, r, p)
-  piece-stops old new had piece bytes rest all kept stop.NoMemory r p = (all, rest, r, p)
+  piece-stops old new had piece bytes rest all kept stop.NoMemory r p = (all, rest, p.0, r, p.2, inl p.1)
 
   -- a piece whose requests are answered
   piece-is-more : (old new : S) (had piece bytes : List ℕ) (requests : Requests) (kept : Option (List ℕ))
@@ -195,12 +195,12 @@ module _ {S : Type 0} (answers : Relation S) where
       subst (λ piece. ServesPiece answers old new had piece kept bytes (Err why)) (take-append-drop taken piece)
       (piece-is-cut old new had (take taken piece) (drop taken piece) bytes requests fed kept why (subst (λ b. Feeds b (take taken piece) (Ok requests) fed) is f) p)
 
-  -- the requests before a fault are the first of the text's
+  -- The requests before a fault are the first of the text's. What follows them is wrong, or there was no memory for it.
   reached : (text : List ℕ) (why : FeedFault) (requests : Requests) → Stops text why requests
-      → (all : Requests) × (rest : List ℕ) × Reaches text all rest × (requests ≡ handed all)
-  reached text fault.Protocol requests f = (f.0, f.1.rest, f.1.reaches, f.2)
-  reached text fault.TooLong requests f = (f.0, f.1.rest, f.1.reaches, f.2)
-  reached text fault.NoMemory requests f = f
+      → (all : Requests) × (rest : List ℕ) × Reaches text all rest × (requests ≡ handed all) × IsWanting rest []
+  reached text fault.Protocol requests f = (f.0, f.1.rest, f.1.reaches, f.2, inr (inr (fault.Protocol, f.1.wrong)))
+  reached text fault.TooLong requests f = (f.0, f.1.rest, f.1.reaches, f.2, inr (inr (fault.TooLong, f.1.wrong)))
+  reached text fault.NoMemory requests f = (f.0, f.1, f.2, f.3, inr (inl f.4))
   reached text fault.Over requests f = absurd f
 
   -- a piece that is the last
@@ -219,7 +219,7 @@ module _ {S : Type 0} (answers : Relation S) where
       inl (r.0, r.1, r.2, subst (λ handed_out. IsBegun answers old new handed_out bytes) r.3 p)
   piece-ends old new had piece bytes requests kept why (Err stop.NoMemory) f p =
       let r = reached (had ++ piece) why requests f in
-      (r.0, r.1, r.2, subst (λ handed_out. IsStopped answers old new handed_out bytes) r.3 p)
+      (r.0, r.1, [], r.2, subst (λ handed_out. IsStopped answers old new handed_out bytes []) r.3 p, r.4)
 
   piece-is-last : (old new : S) (had piece bytes : List ℕ) (requests : Requests) (kept : Option (List ℕ)) (why : FeedFault) (result : Result Served SessionFault)
       → Feeds (Some had) piece (Err (why, requests)) kept → ServesLast answers old new why requests bytes result → ServesPiece answers old new had piece kept bytes result
@@ -231,32 +231,12 @@ module _ {S : Type 0} (answers : Relation S) where
   piece-last old new had piece bytes requests before kept why result is f p =
       piece-is-last old new had piece bytes requests kept why result (subst (λ b. Feeds b piece (Err (why, requests)) kept) is f) p
 
-  -- a piece's answer, once what is gathered is written too
-  pub piece-written : (old new : S) (had piece bytes gathered : List ℕ) (kept first mid last : Option (List ℕ)) (result : Result Served SessionFault)
-      → ServesPiece answers old new had piece kept bytes result → Puts {T = Served} (held first []) (held mid gathered) bytes result → Appends mid last gathered
-      → (written : List ℕ) × Appends first last written × ServesPiece answers old new had piece kept written result
-  piece-written old new had piece bytes gathered kept first mid last (Ok served) p q w = (bytes, all-written first mid last gathered bytes q w, p)
-  piece-written old new had piece bytes gathered kept first mid last (Err stop.Read) p q w = absurd p
-  piece-written old new had piece bytes gathered kept first mid last (Err stop.Write) p q w =
-      let f = front-written first mid last gathered gathered [] bytes q (sym (append-nil gathered)) w in
-      (f.0, f.3, owed-written old new had piece bytes f.0 f.1 kept (Err stop.Write) p f.2)
-  piece-written old new had piece bytes gathered kept first mid last (Err stop.NoMemory) p q w = (bytes, all-written first mid last gathered bytes q w, p)
-
-  -- the same, where the writer fails then
-  pub piece-unwritten : (old new : S) (had piece bytes gathered : List ℕ) (kept first mid last : Option (List ℕ)) (result : Result Served SessionFault) (at : ℕ)
-      → ServesPiece answers old new had piece kept bytes result → Puts {T = Served} (held first []) (held mid gathered) bytes result → Appends mid last (take at gathered)
-      → (written : List ℕ) × Appends first last written × IsOwed answers old new (had ++ piece) written
-  piece-unwritten old new had piece bytes gathered kept first mid last result at p q w =
-      let cut = puts-cut Served (held first []) (held mid gathered) bytes result q in
-      let f = front-written first mid last gathered (take at gathered) (drop at gathered) bytes cut (sym (take-append-drop at gathered)) w in
-      (f.0, f.3, owed-written old new had piece bytes f.0 f.1 kept result p f.2)
-
   -- a fault within a piece
   pub goes-no-further : (old mid new : S) (text written had piece bytes : List ℕ) (kept : Option (List ℕ)) (why : SessionFault)
       → Stands old mid text written had → length piece ≤ 65536 → ServesPiece answers mid new had piece kept bytes (Err why) → Serves answers old new (text ++ piece) (written ++ bytes) (Err why)
   goes-no-further old mid new text written had piece bytes kept stop.Read s small p = absurd p
   goes-no-further old mid new text written had piece bytes kept stop.Write s small p = owed-on old mid new text written had piece bytes s p
-  goes-no-further old mid new text written had piece bytes kept stop.NoMemory s small p = record {
+  goes-no-further old mid new text written had piece bytes kept stop.NoMemory s small p = inr (record {
     before = text;
     piece = piece;
     text_is = refl;
@@ -269,11 +249,13 @@ module _ {S : Type 0} (answers : Relation S) where
     answered = s.answered;
     more = p.0;
     rest = p.1;
-    reaches = p.2;
+    reaches = p.3;
     last = bytes;
-    stopped = p.3;
+    unwritten = p.2;
+    stopped = p.4;
+    wanting = p.5;
     bytes_are = refl;
-  }
+  })
 
   -- a session that stops between two pieces
   pub serves-so-far : (old new : S) (text written had : List ℕ) → Stands old new text written had → Serves answers old new text written (Err stop.Read)
@@ -285,26 +267,4 @@ module _ {S : Type 0} (answers : Relation S) where
   serves-to-end old new text written had Protocol s e = absurd e
 
   pub serves-nothing : (s : S) → Serves answers s s [] [] (Err stop.NoMemory)
-  serves-nothing s = record {
-    before = [];
-    piece = [];
-    text_is = refl;
-    one_read = omega arith;
-    all = [];
-    had = [];
-    splits = splits-none;
-    mid = s;
-    written = [];
-    answered = answered-none answers s;
-    more = [];
-    rest = [];
-    reaches = splits-none.reaches;
-    last = [];
-    stopped = stopped-whole answers s s [] [] (answered-none answers s);
-    bytes_are = refl;
-  }
-
-pub read-off : (end : End) (remaining : Option (List ℕ)) → IsAtEnd remaining → IsReadOff (Ok end) remaining
-read-off Clean remaining h = h
-read-off Inside remaining h = h
-read-off Protocol remaining h = tt
+  serves-nothing s = inl (record { nothing_read = refl; nothing_written = refl; none_answered = refl })

@@ -1,14 +1,17 @@
 -- What the books of a server of a site that one session alone uses mean.
 
-use Rattle.std.specs.Prelude.{List, Some, length, slice_get, ℕ, ◌≡◌, ◌⊎◌}
+use Rattle.std.specs.Prelude.{Bool, List, Some, length, slice_get, ℕ, ◌≡◌, ◌⊎◌}
 use Rattle.zq_history.specs.Books.{Book}
+use Rattle.zq_journal.specs.Books.{LAST_STAMP}
 use Rattle.zq_model.specs.Bounded.{HasShortNames}
 use Rattle.zq_model.specs.Image.{image_of}
 use Rattle.zq_model.specs.Operation.{Operation}
 use Rattle.zq_model.specs.Rule.{Greatest}
 use Rattle.zq_model.specs.Sets.{IsClosed, IsHeaps, IsIn, IsWorld}
+use Rattle.zq_notes.specs.Readings.{IsOrShort}
 use Rattle.zq_plans.specs.Replies.{bytes_of}
-use Rattle.zq_plans.specs.Run.{Want, cut_error}
+use Rattle.zq_plans.specs.Run.{Number, cut_error}
+use Rattle.zq_runs.specs.Books.{greatest_stamp}
 use Rattle.zq_words.specs.Words.{Word}
 
 -- the book is that of this heap, of K, and has the image of this set there
@@ -27,9 +30,10 @@ pub record IsOfSet (K : ℕ) (S : List Operation) (books : List Book) : Type 0 w
   pub number : length books ≡ K
   pub each : (heap : ℕ) (book : Book) → slice_get books heap ≡ Some book → HasImageOf K S heap book
 
--- the answer, or the error of a command that was not begun
-abbrev pub IsAnswer : Word → Word → Type 0
-IsAnswer answer bytes = (bytes ≡ answer) ⊎ ((want : Want) × (bytes ≡ bytes_of (cut_error 0 want)))
+-- the answer, or, where that is a list with something in it, that there was no memory for it; or that no command is begun, since a book's stamp is the last
+abbrev pub IsAnswer : List Book → Bool → Word → Word → Type 0
+IsAnswer books is_list answer bytes =
+    IsOrShort is_list answer bytes ⊎ ((greatest_stamp books ≡ LAST_STAMP) × (bytes ≡ bytes_of (cut_error 0 Number)))
 
 -- the set has all that another has
 abbrev pub HasAll : List Operation → List Operation → Type 0

@@ -1,5 +1,6 @@
 -- What one piece of the input is answered with.
-use Rattle.std.specs.Prelude.{◌≡◌, ◌≢◌, ◌≤◌, ℕ, List, [], ◌++◌, length, Option, Some, None, Result, Ok, Err}
+use Rattle.std.specs.Prelude.{◌≡◌, ◌≢◌, ℕ, List, [], ◌++◌, Option, Some, None, Result, Ok, Err}
+use Rattle.zq_resp.specs.declared.reply.Reply.{Reply}
 use Rattle.zq_resp.specs.declared.fault.FeedFault.{FeedFault}
 use Rattle.zq_resp.specs.declared.fault.FeedFault.TheVariants.{Protocol, TooLong, Over, NoMemory}
 use Rattle.zq_resp.specs.Stream.{Requests, Reaches, Splits, Breaks, handed}
@@ -10,14 +11,15 @@ use Rattle.zq_server.specs.declared.outcome.End.TheVariants.{Clean, Inside}
 use Rattle.zq_server.specs.declared.outcome.End.TheVariants as end
 use Rattle.zq_server.specs.declared.outcome.SessionFault.{SessionFault}
 use Rattle.zq_server.specs.declared.outcome.SessionFault.TheVariants as stop
-use Rattle.zq_server.specs.Session.{Relation, IsAnswered, IsBegun, IsClosed, IsStopped, IsOwed, IsReadOff, Serves}
+use Rattle.zq_server.specs.Session.{Relation, IsAnswered, IsBegun, IsClosed, IsStopped, IsOwed, IsWanting, Serves}
 
 -- The bytes for some requests, by how it ended.
 abbrev pub AnswersAll : {S : Type 0} → Relation S → S → S → Requests → List ℕ → Result (Unit {0}) SessionFault → Type 0
 AnswersAll answers old new requests bytes (Ok done) = IsAnswered answers old new requests bytes
 AnswersAll answers old new requests bytes (Err stop.Read) = ⊥
 AnswersAll answers old new requests bytes (Err stop.Write) = IsBegun answers old new requests bytes
-AnswersAll answers old new requests bytes (Err stop.NoMemory) = IsStopped answers old new requests bytes
+AnswersAll answers old new requests bytes (Err stop.NoMemory) =
+    (unwritten : List Reply) × (unwritten ≢ []) × IsStopped answers old new requests bytes unwritten
 
 -- a fault for which the input is closed
 abbrev pub IsBreak : FeedFault → Type 0
@@ -32,7 +34,7 @@ ServesLast answers old new why requests bytes (Ok More) = ⊥
 ServesLast answers old new why requests bytes (Ok Broken) = IsBreak why × IsClosed answers old new requests bytes
 ServesLast answers old new why requests bytes (Err stop.Read) = ⊥
 ServesLast answers old new why requests bytes (Err stop.Write) = IsBegun answers old new requests bytes
-ServesLast answers old new why requests bytes (Err stop.NoMemory) = IsStopped answers old new requests bytes
+ServesLast answers old new why requests bytes (Err stop.NoMemory) = IsStopped answers old new requests bytes []
 
 -- The bytes for a piece that follows the bytes of an unfinished request. After a fault of the writer a front of what is owed.
 abbrev pub ServesPiece : {S : Type 0} → Relation S → S → S → List ℕ → List ℕ → Option (List ℕ) → List ℕ → Result Served SessionFault → Type 0
@@ -43,7 +45,8 @@ ServesPiece answers old new had piece kept bytes (Ok Broken) =
 ServesPiece answers old new had piece kept bytes (Err stop.Read) = ⊥
 ServesPiece answers old new had piece kept bytes (Err stop.Write) = IsOwed answers old new (had ++ piece) bytes
 ServesPiece answers old new had piece kept bytes (Err stop.NoMemory) =
-    (all : Requests) × (rest : List ℕ) × Reaches (had ++ piece) all rest × IsStopped answers old new (handed all) bytes
+    (all : Requests) × (rest : List ℕ) × (unwritten : List Reply) × Reaches (had ++ piece) all rest
+    × IsStopped answers old new (handed all) bytes unwritten × IsWanting rest unwritten
 
 -- how input ends that ends with these bytes of a request
 abbrev pub EndsWith : List ℕ → End → Type 0
@@ -51,13 +54,8 @@ EndsWith had Clean = had ≡ []
 EndsWith had Inside = had ≢ []
 EndsWith had end.Protocol = ⊥
 
--- what was read, served until it ended, or until as many reads were made as a session makes: each brought a byte at least
+-- what was read, served until it ended, or until as many reads were made as a session makes
 abbrev pub ServesAll : {S : Type 0} → Relation S → S → S → List ℕ → List ℕ → Result (Option End) SessionFault → Type 0
 ServesAll answers old new text bytes (Ok (Some end)) = Serves answers old new text bytes (Ok end)
-ServesAll answers old new text bytes (Ok None) = (4611686018427387904 ≤ length text) × Serves answers old new text bytes (Err stop.Read)
+ServesAll answers old new text bytes (Ok None) = Serves answers old new text bytes (Err stop.Read)
 ServesAll answers old new text bytes (Err fault) = Serves answers old new text bytes (Err fault)
-
-abbrev pub IsReadThrough : Result (Option End) SessionFault → Option (List ℕ) → Type 0
-IsReadThrough (Ok (Some end)) remaining = IsReadOff (Ok end) remaining
-IsReadThrough (Ok None) remaining = Unit {0}
-IsReadThrough (Err fault) remaining = Unit {0}

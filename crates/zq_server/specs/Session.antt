@@ -4,7 +4,9 @@ use Rattle.std.specs.Io.KnownBytes.{IsAtEnd}
 use Rattle.zq_resp.specs.declared.reply.Reply.{Reply}
 use Rattle.zq_resp.specs.declared.fault.FeedFault.{FeedFault}
 use Rattle.zq_resp.specs.Reply.{all_bytes}
-use Rattle.zq_resp.specs.Stream.{Requests, Reaches, Splits, Breaks, handed}
+use Rattle.zq_resp.specs.Front.{Wrong}
+use Rattle.zq_resp.specs.Grammar.{request_at}
+use Rattle.zq_resp.specs.Stream.{Requests, Reaches, Splits, Breaks, HasCount, handed}
 use Rattle.zq_server.specs.declared.outcome.End.{End}
 use Rattle.zq_server.specs.declared.outcome.End.TheVariants.{Clean, Inside, Protocol}
 use Rattle.zq_server.specs.declared.outcome.SessionFault.{SessionFault}
@@ -46,16 +48,25 @@ IsBegun answers old new requests bytes =
 
 -- The bytes are the replies to the first of the requests, where memory was refused. At most one reply that was made is
 -- missing, the last one. Where none is missing, all the requests are answered.
-pub record IsStopped {S : Type 0} (answers : Relation S) (old new : S) (requests : Requests) (bytes : List ℕ) : Type 0 where
+pub record IsStopped {S : Type 0} (answers : Relation S) (old new : S) (requests : Requests) (bytes : List ℕ) (unwritten : List Reply) : Type 0 where
   pub first : Requests
   pub others : Requests
   pub split : requests ≡ first ++ others
   pub replies : List Reply
-  pub unwritten : List Reply
   pub runs : Runs answers old first (replies ++ unwritten) new
   pub at_most_one : length unwritten ≤ 1
   pub all_else : unwritten ≡ [] → others ≡ []
   pub written : bytes ≡ all_bytes replies
+
+-- What memory was refused for: a reply that was made, the next request, or the words that close the session.
+abbrev pub IsWanting : List ℕ → List Reply → Type 0
+IsWanting rest unwritten = (unwritten ≢ []) ⊎ (HasCount rest ⊎ ((why : FeedFault) × (request_at rest ≡ Wrong why)))
+
+-- Memory was refused before anything was read.
+pub record IsUnread {S : Type 0} (old new : S) (text bytes : List ℕ) : Type 0 where
+  pub nothing_read : text ≡ []
+  pub nothing_written : bytes ≡ []
+  pub none_answered : old ≡ new
 
 -- Memory was refused for what the last read brought. All that ended before that read is answered and written.
 pub record IsRefused {S : Type 0} (answers : Relation S) (old new : S) (text bytes : List ℕ) : Type 0 where
@@ -73,7 +84,9 @@ pub record IsRefused {S : Type 0} (answers : Relation S) (old new : S) (text byt
   pub rest : List ℕ
   pub reaches : Reaches (had ++ piece) more rest
   pub last : List ℕ
-  pub stopped : IsStopped answers mid new (handed more) last
+  pub unwritten : List Reply
+  pub stopped : IsStopped answers mid new (handed more) last unwritten
+  pub wanting : IsWanting rest unwritten
   pub bytes_are : bytes ≡ written ++ last
 
 -- The bytes are the front of what the text is owed.
@@ -92,7 +105,7 @@ Serves answers old new text bytes (Ok Protocol) =
 Serves answers old new text bytes (Err Read) =
     (all : Requests) × (rest : List ℕ) × Splits text all rest × IsAnswered answers old new (handed all) bytes
 Serves answers old new text bytes (Err Write) = IsOwed answers old new text bytes
-Serves answers old new text bytes (Err NoMemory) = IsRefused answers old new text bytes
+Serves answers old new text bytes (Err NoMemory) = IsUnread old new text bytes ⊎ IsRefused answers old new text bytes
 
 -- An end that is no fault of the protocol comes where the reader has no more.
 abbrev pub IsReadOff : Result End SessionFault → Option (List ℕ) → Type 0

@@ -1,13 +1,12 @@
 //! Replies that are gathered, so that one write takes many of them.
 
-ghost use Rattle.std.specs.Io.KnownBytes.{Appends};
 ghost use Rattle.std.specs.Prelude.{◌≡◌, ◌++◌, IsTrue, MatchResult, [], ℕ, take};
 ghost use Rattle.zq_resp.specs.Reply.{is_writable, reply_bytes};
 ghost use Rattle.zq_server.specs.Gathering.{Gives, held};
+ghost use Rattle.zq_server.specs.Steps.{Says};
 
+use crate::ends::Ends;
 use crate::outcome::SessionFault;
-use crate::transfer::put_all;
-use std::io::Write;
 use zq_resp::{Reply, write_reply};
 
 // As many bytes of replies are written at once.
@@ -18,17 +17,20 @@ const GATHERED: usize = 65_536;
 ///
 /// - `NoMemory`: the reply is missing, and what was gathered still waits.
 /// - `Write`: the first of the bytes are written, up to where the writer failed.
-pub fn gather<W: Write>(
+pub fn gather<R, W, E: Ends<R, W>>(
+    ends: &E,
+    reader: &mut R,
     writer: &mut W,
     out: &mut Vec<u8>,
     reply: &Reply,
 ) -> Result<(), SessionFault>
     requires { IsTrue (is_writable reply.now) }
-    ensures { Gives (held (W.contents writer.old) out.old.items) (held (W.contents writer.new) out.new.items) (reply_bytes reply.now) result }
+    ensures { Gives E.does (held (reader.old, writer.old) out.old.items)
+        (held (reader.new, writer.new) out.new.items) (reply_bytes reply.now) result }
 {
     put_reply(out, reply)?;
     if out.len() >= GATHERED {
-        write_gathered(writer, out)?;
+        write_gathered(ends, reader, writer, out)?;
     }
     Ok(())
 }
@@ -46,12 +48,18 @@ fn put_reply(out: &mut Vec<u8>, reply: &Reply) -> Result<(), SessionFault>
 }
 
 /// Writes what is gathered. Nothing waits then; after a fault of the writer the rest is lost.
-pub fn write_gathered<W: Write>(writer: &mut W, out: &mut Vec<u8>) -> Result<(), SessionFault>
+pub fn write_gathered<R, W, E: Ends<R, W>>(
+    ends: &E,
+    reader: &mut R,
+    writer: &mut W,
+    out: &mut Vec<u8>,
+) -> Result<(), SessionFault>
     ensures { MatchResult result
-        (λ done. (out.new.items ≡ []) × Appends (W.contents writer.old) (W.contents writer.new) out.old.items)
-        (λ fault. (fault ≡ SessionFault.Write) × (out.new.items ≡ []) × ((at : ℕ) × Appends (W.contents writer.old) (W.contents writer.new) (take at out.old.items))) }
+        (λ done. (out.new.items ≡ []) × Says E.does (reader.old, writer.old) (reader.new, writer.new) out.old.items)
+        (λ fault. (fault ≡ SessionFault.Write) × (out.new.items ≡ [])
+        × ((at : ℕ) × Says E.does (reader.old, writer.old) (reader.new, writer.new) (take at out.old.items))) }
 {
-    match put_all(writer, out) {
+    match ends.say(reader, writer, out) {
         Ok(()) => {
             out.clear();
             Ok(())

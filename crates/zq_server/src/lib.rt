@@ -1,7 +1,9 @@
 //! Sessions of a server that speaks the protocol of Redis.
 #![tactic(auto)]
 
+mod ends;
 mod gathering;
+mod histories;
 mod meanings;
 mod outcome;
 mod passing;
@@ -10,9 +12,11 @@ mod serving;
 mod stream;
 mod transfer;
 
+pub use ends::Ends;
+pub use histories::passing_meaning;
 pub use meanings::meaning;
 pub use outcome::{End, SessionFault, status};
 pub use passing::Passing;
 pub use plain::Plain;
 pub use serving::Answers;
-pub use stream::session;
+pub use stream::{converse, session};

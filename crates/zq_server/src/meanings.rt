@@ -7,6 +7,7 @@ ghost use Rattle.zq_model.specs.Operation.{Operation};
 ghost use Rattle.zq_model.specs.Rule.{Greatest};
 ghost use Rattle.zq_model.specs.Sets.{IsHeaps};
 ghost use Rattle.zq_moves.specs.Lent.{queues_of};
+ghost use Rattle.zq_notes.specs.Readings.{is_list};
 ghost use Rattle.zq_resp.specs.Reply.{reply_bytes};
 ghost use Rattle.zq_resp.specs.Request.{IsRequest};
 ghost use Rattle.zq_resp.specs.declared.reply.Reply.{Reply as Replies};
@@ -14,10 +15,12 @@ ghost use Rattle.zq_runs.specs.Books.{AreUnworn};
 ghost use Rattle.zq_runs.specs.Reading.{answer_of, is_question};
 ghost use Rattle.zq_server.specs.Meaning.{HasAll, IsAnswer, IsOfSet};
 ghost use Rattle.zq_server.specs.Plain.{AnswersByPlan, next_begun, no_keys};
+ghost use Rattle.zq_words.specs.Command.{command_of};
 ghost use Rattle.zq_words.specs.Words.{Word};
 
 /// The queues over the books of a closed set are those that the set means, also as a command begins with them, so that every
-/// plan is read off the set. A request that only reads is answered what the set answers, or is not begun. Each request
+/// plan is read off the set. A request that only reads is answered what the set answers, or, where
+/// that is a list with something in it, that there is no memory; or it is not begun, since a book's stamp is the last. Each request
 /// leaves the books of a closed set that has all of the one before, where no number of a book is past its last value.
 pub fn meaning()
     ensures opens { (K : ℕ) → IsHeaps K → IsOfSet K [] (no_keys K) }
@@ -25,7 +28,8 @@ pub fn meaning()
         IsWholeQueue Greatest S key (queues_of Greatest books key) }
     ensures begins { (books : List Book) → queues_of Greatest (next_begun books) ≡ queues_of Greatest books }
     ensures reads { (K : ℕ) (S : List Operation) (old new : List Book) (words : List Word) (reply : Replies) → IsOfSet K S old → is_question words ≡ true →
-        AnswersByPlan old words reply new → IsOfSet K S new × IsAnswer (answer_of Greatest K S words) (reply_bytes reply) }
+        AnswersByPlan old words reply new → IsOfSet K S new ×
+        IsAnswer old (is_list (queues_of Greatest old) (command_of words)) (answer_of Greatest K S words) (reply_bytes reply) }
     ensures goes_on { (K : ℕ) (S : List Operation) (old new : List Book) (words : List Word) (reply : Replies) → IsOfSet K S old → IsRequest words →
         AnswersByPlan old words reply new → AreUnworn new → (T : List Operation) × IsOfSet K T new × HasAll T S }
 {}

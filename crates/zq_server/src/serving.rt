@@ -1,16 +1,16 @@
 //! Answers to the requests of one piece of the input.
 
-ghost use Rattle.std.specs.Prelude.{◌≡◌, ◌++◌, ◌∷◌, [], IsTrue, List, MatchResult, ℕ, Some, true};
+ghost use Rattle.std.specs.Prelude.{◌≡◌, ◌++◌, ◌∷◌, ◌↔◌, [], IsTrue, List, MatchResult, ℕ, Some};
 ghost use Rattle.zq_resp.specs.Reply.{is_writable};
 ghost use Rattle.zq_resp.specs.declared.reply.Reply.{Reply};
 ghost use Rattle.zq_server.specs.Gathering.{Puts, held};
 ghost use Rattle.zq_server.specs.Session.{closing};
 ghost use Rattle.zq_server.specs.Serving.{AnswersAll, IsBreak, ServesPiece};
 
+use crate::ends::Ends;
 use crate::gathering::gather;
 use crate::outcome::SessionFault;
 use std::alloc::Global;
-use std::io::Write;
 use zq_resp::{FeedFault, Reader, Reply, Request, write_reply};
 
 /// What answers requests.
@@ -39,17 +39,19 @@ pub enum Served {
 ///   missing, and the requests after that one are not answered.
 /// - `Write`: the first of the bytes are written, up to where the writer failed, and the requests after
 ///   the one whose reply was gathered last are not answered.
-pub fn serve_piece<A: Answers, W: Write>(
+pub fn serve_piece<A: Answers, R, W, E: Ends<R, W>>(
     alloc: Global,
     answerer: &mut A,
     input: &mut Reader,
     piece: &[u8],
+    ends: &E,
+    reader: &mut R,
     writer: &mut W,
     out: &mut Vec<u8>,
 ) -> Result<Served, SessionFault>
     ensures { (had : List ℕ) → input.old ≡ Some had → (bytes : List ℕ)
         × ServesPiece A.answers answerer.old answerer.new had piece.now input.new bytes result
-        × Puts (held (W.contents writer.old) out.old.items) (held (W.contents writer.new) out.new.items) bytes result }
+        × Puts E.does (held (reader.old, writer.old) out.old.items) (held (reader.new, writer.new) out.new.items) bytes result }
 {
     // What is kept of an earlier piece is less than a request.
     let _inside = input.inside();
@@ -58,7 +60,7 @@ pub fn serve_piece<A: Answers, W: Write>(
         match input.next_request(alloc, &piece[at..]) {
             Ok((found, taken)) => {
                 if let Some(request) = found {
-                    answer_one(alloc, answerer, &request, writer, out)?;
+                    answer_one(alloc, answerer, &request, ends, reader, writer, out)?;
                     input.give_back(request);
                 }
                 at += taken;
@@ -70,19 +72,21 @@ pub fn serve_piece<A: Answers, W: Write>(
 }
 
 /// Answers a request.
-fn answer_one<A: Answers, W: Write>(
+fn answer_one<A: Answers, R, W, E: Ends<R, W>>(
     alloc: Global,
     answerer: &mut A,
     request: &Request,
+    ends: &E,
+    reader: &mut R,
     writer: &mut W,
     out: &mut Vec<u8>,
 ) -> Result<(), SessionFault>
     ensures { (bytes : List ℕ)
         × AnswersAll A.answers answerer.old answerer.new (request.now ∷ []) bytes result
-        × Puts (held (W.contents writer.old) out.old.items) (held (W.contents writer.new) out.new.items) bytes result }
+        × Puts E.does (held (reader.old, writer.old) out.old.items) (held (reader.new, writer.new) out.new.items) bytes result }
 {
     let reply = answerer.answer(alloc, request);
-    gather(writer, out, &reply)
+    gather(ends, reader, writer, out, &reply)
 }
 
 /// Ends the input at a fault.
@@ -100,7 +104,7 @@ fn end(fault: FeedFault, out: &mut Vec<u8>) -> Result<Served, SessionFault>
 
 // Whether the fault closes the input.
 fn breaks(fault: FeedFault) -> bool
-    ensures { result ≡ true → IsBreak fault }
+    ensures { IsTrue result ↔ IsBreak fault }
 {
     match fault {
         FeedFault::Protocol | FeedFault::TooLong => true,

@@ -11,3 +11,4 @@ pub mod Rules
 pub mod SiteRules
 pub mod Breaks
 pub mod SiteBreaks
+pub mod Words

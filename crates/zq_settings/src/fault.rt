@@ -15,6 +15,10 @@ pub enum SettingsFault {
 }
 
 impl fmt::Display for SettingsFault {
+    ghost use Rattle.zq_settings.specs.Words.{fault_words};
+
+    ghost output = { fault_words };
+
     fn fmt<W: fmt::Write>(&self, f: &mut fmt::Formatter<W>) -> fmt::Result {
         match self {
             SettingsFault::Refused(why) => write!(f, "{why}"),

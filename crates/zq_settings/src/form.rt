@@ -2,6 +2,7 @@
 
 ghost use Rattle.std.specs.Prelude.{◌≡◌};
 ghost use Rattle.zq_settings.specs.Keys.{is_known};
+ghost use Rattle.zq_settings.specs.Words.{keys_text};
 
 /// A kind of table, with keys of its own.
 #[derive(Clone, Copy, Debug, PartialEq, Eq)]
@@ -27,7 +28,9 @@ impl Form {
     }
 
     /// What has these keys, and which they are, in words.
-    pub(crate) fn keys(self) -> &'static str {
+    pub(crate) fn keys(self) -> &'static str
+        ensures { result.now ≡ keys_text self }
+    {
         match self {
             Form::Sites => {
                 "settings, which are ports, heaps, workers, connections, seed and rule"

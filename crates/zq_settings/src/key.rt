@@ -2,6 +2,7 @@
 
 ghost use Rattle.std.specs.Prelude.{◌≡◌};
 ghost use Rattle.zq_settings.specs.Keys.{name_of};
+ghost use Rattle.zq_settings.specs.Words.{owner_of, takes_of};
 
 /// A key that settings may have.
 #[derive(Clone, Copy, Debug, PartialEq, Eq)]
@@ -59,7 +60,9 @@ impl Key {
     }
 
     /// Whose key it is, before its name.
-    pub(crate) fn owner(self) -> &'static str {
+    pub(crate) fn owner(self) -> &'static str
+        ensures { result.now ≡ owner_of self }
+    {
         match self {
             Key::PeerSite | Key::PeerAddress => "a peer's ",
             _ => "",
@@ -67,7 +70,9 @@ impl Key {
     }
 
     /// What the key's value has to be, in words.
-    pub(crate) fn takes(self) -> &'static str {
+    pub(crate) fn takes(self) -> &'static str
+        ensures { result.now ≡ takes_of self }
+    {
         match self {
             Key::Ports => "an array of 1 to 64 different port numbers from 1 to 65535",
             Key::Heaps => "a whole number from 2 to 16",

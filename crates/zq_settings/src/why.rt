@@ -1,5 +1,10 @@
 //! Why a text of settings is refused.
 
+ghost use Rattle.std.specs.Fmt.{DisplaysOnOk};
+ghost use Rattle.std.specs.Prelude.{Some, option_map};
+ghost use Rattle.zq_settings.specs.Words.{fault_text, words_of};
+ghost use Rattle.zq_settings.specs.declared.why.Why.TheVariants.{Exposed};
+
 use crate::form::Form;
 use crate::key::Key;
 use crate::name::Name;
@@ -45,6 +50,8 @@ pub enum Why {
 }
 
 impl fmt::Display for Why {
+    ghost output = { words_of };
+
     /// What is wrong, on one line, and what belongs there.
     fn fmt<W: fmt::Write>(&self, f: &mut fmt::Formatter<W>) -> fmt::Result {
         match self {
@@ -83,11 +90,14 @@ impl fmt::Display for Why {
 }
 
 /// What is wrong with the key's value, and what the key takes.
-fn write_fault<W: fmt::Write>(
+fn write_fault<W: fmt::Write, F: fmt::Display + Drop>(
     f: &mut fmt::Formatter<W>,
     key: Key,
-    fault: impl fmt::Display + Drop,
-) -> fmt::Result {
+    fault: F,
+) -> fmt::Result
+    ensures { DisplaysOnOk W.write_str_gives f.old result
+        (option_map (fault_text key) (F.output fault)) f.new }
+{
     let owner = key.owner();
     let name = key.name();
     let takes = key.takes();
@@ -95,7 +105,9 @@ fn write_fault<W: fmt::Write>(
 }
 
 /// That the key's address is open to others, and what belongs there.
-fn write_exposed<W: fmt::Write>(f: &mut fmt::Formatter<W>, key: Key) -> fmt::Result {
+fn write_exposed<W: fmt::Write>(f: &mut fmt::Formatter<W>, key: Key) -> fmt::Result
+    ensures { DisplaysOnOk W.write_str_gives f.old result (words_of (Exposed key)) f.new }
+{
     let owner = key.owner();
     let name = key.name();
     write!(

@@ -132,10 +132,10 @@ stopped_back site heaps p q back = record {
 
 view_seen : (v : View Kept) (b : Bool) → (idle_view v && b) ≡ true → IsSome (seen_by v)
 view_seen (Vacant n out) b is = absurd (cc)
-view_seen (Idle low reached x) b is = refl
-view_seen (Met low x y) b is = absurd (cc)
-view_seen (Waiting n x) b is = absurd (cc)
-view_seen (Holding n x) b is = absurd (cc)
+view_seen (Idle low reached x turns) b is = refl
+view_seen (Met low x y turns) b is = absurd (cc)
+view_seen (Waiting n x turns) b is = absurd (cc)
+view_seen (Holding n x turns) b is = absurd (cc)
 view_seen Spent b is = absurd (cc)
 
 -- a seat that is there has seen a value

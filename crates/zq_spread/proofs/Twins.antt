@@ -16,7 +16,7 @@ use Rattle.zq_moves.specs.Lent.{books_after, is_home, made, made_in, operation_i
 use Rattle.zq_moves.specs.Moves.{Move, Queues}
 use Rattle.zq_plans.specs.Plan.{Plan, plan_of}
 use Rattle.zq_plans.specs.Replies.{Reply}
-use Rattle.zq_plans.specs.Run.{IsRun, IsWhyOf, LAST_COUNT, Memory, Number, Runs, Want, cut_reply, is_strict, is_worn, part, whole}
+use Rattle.zq_plans.specs.Run.{ForCopies, ForMoves, ForReply, IsRun, IsWhyOf, LAST_COUNT, MayLack, Memory, Number, Runs, Takes, Want, cut_reply, is_worn, part, takes_of, whole}
 use Rattle.zq_words.specs.Command.{Command}
 use Rattle.zq_words.specs.Words.{Word}
 
@@ -125,31 +125,35 @@ same_any site move (a ∷ us) (b ∷ vs) [] ys are = elim are [ ]
 same_any site move (a ∷ us) (b ∷ vs) (x ∷ xs) [] are = elim are [ ]
 same_any site move (a ∷ us) (b ∷ vs) (x ∷ xs) (y ∷ ys) are = λ i. same_worn a.tail b.tail site move x y are.0 i || same_any site move us vs xs ys are.1 i
 
-why_twins : (strict : Bool) (site : ℕ) (next : Option Move) (want : Want) (us vs xs ys : List Book) → AreTwins us vs xs ys → IsWhyOf strict site next xs want → IsWhyOf strict site next ys want
-why_twins true site None want us vs xs ys are why = why
-why_twins true site (Some move) Memory us vs xs ys are why = λ worn. why (same_any site move us vs xs ys are ∙ worn)
-why_twins true site (Some move) Number us vs xs ys are why = sym (same_any site move us vs xs ys are) ∙ why
-why_twins false site next Memory us vs xs ys are why = tt
-why_twins false site None Number us vs xs ys are why = why
-why_twins false site (Some move) Number us vs xs ys are why = sym (same_any site move us vs xs ys are) ∙ why
+lack_twins : (takes : Takes) (site : ℕ) (next : Option Move) (us vs xs ys : List Book) → AreTwins us vs xs ys → MayLack takes site next xs → MayLack takes site next ys
+lack_twins (ForReply is_long counted) site next us vs xs ys are lacks = lacks
+lack_twins ForMoves site None us vs xs ys are lacks = lacks
+lack_twins ForMoves site (Some move) us vs xs ys are lacks = λ worn. lacks (same_any site move us vs xs ys are ∙ worn)
+lack_twins ForCopies site None us vs xs ys are lacks = lacks
+lack_twins ForCopies site (Some move) us vs xs ys are lacks = tt
+
+why_twins : (takes : Takes) (site : ℕ) (next : Option Move) (want : Want) (us vs xs ys : List Book) → AreTwins us vs xs ys → IsWhyOf takes site next xs want → IsWhyOf takes site next ys want
+why_twins takes site next Memory us vs xs ys are why = lack_twins takes site next us vs xs ys are why
+why_twins takes site None Number us vs xs ys are why = why
+why_twins takes site (Some move) Number us vs xs ys are why = sym (same_any site move us vs xs ys are) ∙ why
 
 -- ---- runs
 
-runs_twins : (site stamp : ℕ) (strict : Bool) (plan : Plan) (cut : ℕ → Want → Reply) (us vs new : List Book) (reply : Word) → AreTwins us vs us vs → Runs site stamp strict plan cut us new reply →
-    (left : List Book) × Runs site stamp strict plan cut vs left reply × AreTwins us vs new left
-runs_twins site stamp strict plan cut us vs new reply are (whole is answer) =
+runs_twins : (site stamp : ℕ) (takes : Takes) (plan : Plan) (cut : ℕ → Want → Reply) (us vs new : List Book) (reply : Word) → AreTwins us vs us vs → Runs site stamp takes plan cut us new reply →
+    (left : List Book) × Runs site stamp takes plan cut vs left reply × AreTwins us vs new left
+runs_twins site stamp takes plan cut us vs new reply are (whole is answer) =
     let left = books_after site stamp plan.moves vs in
     let twins : AreTwins us vs new left = subst (λ n. AreTwins us vs n left) (sym is) (after_twins site stamp plan.moves us vs us vs are) in
     (left, whole refl answer, twins)
-runs_twins site stamp strict plan cut us vs new reply are (part k want most is why answer) =
+runs_twins site stamp takes plan cut us vs new reply are (part k want most is why answer) =
     let left = books_after site stamp (take k plan.moves) vs in
     let twins : AreTwins us vs new left = subst (λ n. AreTwins us vs n left) (sym is) (after_twins site stamp (take k plan.moves) us vs us vs are) in
-    (left, part k want most refl (why_twins strict site (slice_get plan.moves k) want us vs new left twins why) answer, twins)
+    (left, part k want most refl (why_twins takes site (slice_get plan.moves k) want us vs new left twins why) answer, twins)
 
 -- a command that ran over books runs over those that are like them
 pub run_twins : (rule : Rule) (site stamp : ℕ) (command : Command) (us vs new : List Book) (reply : Word) → AreTwins us vs us vs → IsRun rule site stamp command us new reply →
     (left : List Book) × IsRun rule site stamp command vs left reply × AreTwins us vs new left
 run_twins rule site stamp command us vs new reply are ran =
     let same = same_queues rule us vs us vs are in
-    runs_twins site stamp (is_strict command) (plan_of command (queues_of rule vs)) (cut_reply command (queues_of rule vs)) us vs new reply are
-    (subst (λ (q : Queues). Runs site stamp (is_strict command) (plan_of command q) (cut_reply command q) us new reply) same ran)
+    runs_twins site stamp (takes_of command (queues_of rule vs)) (plan_of command (queues_of rule vs)) (cut_reply command (queues_of rule vs)) us vs new reply are
+    (subst (λ (q : Queues). Runs site stamp (takes_of command q) (plan_of command q) (cut_reply command q) us new reply) same ran)

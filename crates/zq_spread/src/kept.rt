@@ -18,12 +18,6 @@ use zq_ticketlock::Keeps;
 /// The last stamp.
 pub(crate) const LAST: u64 = 4_611_686_018_427_387_904;
 
-/// From this length on a tail is cut.
-pub(crate) const LONG: usize = 4096;
-
-/// How many records a cut leaves.
-pub(crate) const KEPT: usize = 2048;
-
 /// The book of a heap, and how many records and merges the passes have made in it.
 #[derive(Drop)]
 pub struct Kept {
@@ -44,8 +38,7 @@ impl Keeps for Kept {
 }
 
 impl Kept {
-    /// Cuts the tail where it is long, and raises the stamp to that of a call.
-    #[tactic(auto, unfolding(zq_history::specs::Reach::LONG, zq_history::specs::Reach::KEPT))]
+    /// Cuts the tail to its limits, and raises the stamp to that of a call.
     pub(crate) fn begin(&mut self, stamp: u64)
         requires stamp { self.old.book.stamp ≤ stamp }
         requires bounded { stamp ≤ LAST_STAMP }
@@ -54,10 +47,7 @@ impl Kept {
     {
         // A call's work begins with a cut and a stamp.
         working();
-        let length = self.book.tail_len();
-        if length >= LONG {
-            let _ = self.book.advance(length - KEPT);
-        }
+        self.book.cut();
         self.book.touch(stamp);
     }
 

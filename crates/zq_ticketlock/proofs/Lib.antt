@@ -1,4 +1,5 @@
 pub mod Stages
+pub mod Logs
 pub mod Standings
 pub mod Vacancies
 pub mod Looks

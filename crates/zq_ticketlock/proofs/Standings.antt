@@ -84,12 +84,12 @@ module _ {T : Type 0} (holds : T → Type 0) (follows : T → T → Type 0) wher
       → (before.out ≡ true → after.out ≡ true)
       → (other : ℕ) (v : View T) → Knows holds follows before other v → Knows holds follows after other v
   still_knows before after value serving next owner out other (Vacant n empty) k = absurd k
-  still_knows before after value serving next owner out other (Idle low reached x) k =
+  still_knows before after value serving next owner out other (Idle low reached x turns) k =
       let low_is = k.0 in let reached_is = k.1 in (omega arith, omega arith, subst (λ (y : T). follows y x) (sym value) k.2)
-  still_knows before after value serving next owner out other (Met low x y) k =
+  still_knows before after value serving next owner out other (Met low x y turns) k =
       let low_is = k.0 in (omega arith, subst (λ (z : T). follows z x) (sym value) k.1, subst (λ (z : T). follows z y) (sym value) k.2)
-  still_knows before after value serving next owner out other (Waiting n x) k =
+  still_knows before after value serving next owner out other (Waiting n x turns) k =
       let from = k.0 in let below = k.1 in (omega arith, omega arith, owner n k.1 ∙ k.2, subst (λ (y : T). follows y x) (sym value) k.3)
-  still_knows before after value serving next owner out other (Holding n x) k =
+  still_knows before after value serving next owner out other (Holding n x turns) k =
       let below = k.1 in (k.0 ∙ sym serving, omega arith, owner n k.1 ∙ k.2, out k.3, value ∙ k.4)
   still_knows before after value serving next owner out other Spent k = tt

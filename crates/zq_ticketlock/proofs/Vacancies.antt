@@ -7,7 +7,8 @@ use Rattle.std.specs.Prelude.{slice_index}
 use Rattle.atomic_table.specs.Table.{State, Act, Valid, Allows, carried_after, gives, opening, step, stepped, takes}
 use Rattle.zq_ticketlock.specs.declared.view.View.{View}
 use Rattle.zq_ticketlock.specs.declared.view.View.TheVariants.{Vacant, Idle}
-use Rattle.zq_ticketlock.specs.Views.{Sat}
+use Rattle.zq_ticketlock.specs.Log.{AreLogged, Log}
+use Rattle.zq_ticketlock.specs.Views.{Sat, turns_by}
 use Rattle.zq_ticketlock.specs.Order.{Standing, Knows, IsKept, IsRuled, IsVacant, hollow}
 use Rattle.zq_ticketlock.specs.Steps.{Emptied, Filled}
 use Rattle.zq_ticketlock.proofs.Standings.{kept, only_view}
@@ -61,18 +62,25 @@ module _ {T : Type 0} (holds : T → Type 0) (follows : T → T → Type 0) wher
       (Vacant n true, takes 0 None, refl, inl (record { ticket = n; out = true; words = refl; homes = refl; views = refl }), refl)
 
   -- the lock stands where one seat has seen the value
-  stands_first : (x : T) (n : ℕ) → holds x → ((z : T) → follows z z) → IsKept holds follows (record { words = n ∷ n ∷ []; homes = maybe.some (Some x) ∷ []; views = Idle n n x ∷ [] })
+  stands_first : (x : T) (n : ℕ) → holds x → ((z : T) → follows z z) → IsKept holds follows (record { words = n ∷ n ∷ []; homes = maybe.some (Some x) ∷ []; views = Idle n n x [] ∷ [] })
   stands_first x n sound reflexive =
-      let at : Standing T = record { value = x; out = false; owner = λ _. 0; serving = n; next = n } in
-      kept holds follows at (Idle n n x ∷ []) (record {
+      let log : Log T = record { first = n; at = λ _. record { given = x; home = x } } in
+      let at : Standing T = record { value = x; out = false; owner = λ _. 0; serving = n; next = n; turns = []; log = log } in
+      kept holds follows at (Idle n n x [] ∷ []) (record {
         order = omega arith;
         sound = sound;
         held = λ out. absurd (let p : false ≡ true = out in cc);
         knows = first at (omega arith) (omega arith) (reflexive x);
+        logged = none;
+        chain = record { next = λ k from below. absurd (omega arith); last = λ k from is. absurd (omega arith) };
+        opened = omega arith;
       })
     where
-      first : (at : Standing T) → n ≤ at.serving → n ≤ at.next → follows at.value x → (seat : ℕ) (v : View T) → get_elem? (Idle n n x ∷ []) seat ≡ maybe.some v → Knows holds follows at seat v
-      first at low come known zero v here = subst (Knows holds follows at 0) (some-injective (Idle n n x) v here) (low, come, known)
+      none : (seat : ℕ) (v : View T) → get_elem? (Idle n n x [] ∷ []) seat ≡ maybe.some v → AreLogged (record { first = n; at = λ _. record { given = x; home = x } }) n (turns_by v)
+      none seat v here = subst (λ (u : View T). AreLogged (record { first = n; at = λ _. record { given = x; home = x } }) n (turns_by u)) (only_view (Idle n n x []) v seat here).1 tt
+
+      first : (at : Standing T) → n ≤ at.serving → n ≤ at.next → follows at.value x → (seat : ℕ) (v : View T) → get_elem? (Idle n n x [] ∷ []) seat ≡ maybe.some v → Knows holds follows at seat v
+      first at low come known zero v here = subst (Knows holds follows at 0) (some-injective (Idle n n x []) v here) (low, come, known)
       first at low come known (suc seat) v here = absurd (some-ne-none v (sym here))
 
   -- and may put a value home
@@ -80,7 +88,7 @@ module _ {T : Type 0} (holds : T → Type 0) (follows : T → T → Type 0) wher
       → Allows Rule slots seat me 0 (λ k. k) (Filled (step slots 0 0 0 maybe.none) me)
   fills slots seat n x me is sound reflexive =
       allowed_vacant slots seat n true me ((0, Some x) ∷ []) (Filled (step slots 0 0 0 maybe.none)) is
-      (Idle n n x, gives, tt, inr (stands_first x n sound reflexive), λ y same. ap (λ (u : T). let p : Sat T = (Idle n n u, []) in p) (let e : Some x ≡ Some y = ap head_of same in cc))
+      (Idle n n x [], gives, tt, inr (stands_first x n sound reflexive), λ y same. ap (λ (u : T). let p : Sat T = (Idle n n u [], []) in p) (let e : Some x ≡ Some y = ap head_of same in cc))
     where
       head_of : List (ℕ × Option T) → Option T
       head_of [] = None

@@ -1,7 +1,9 @@
 pub mod Boxes
 pub mod Views
+pub mod Log
 pub mod Order
 pub mod Steps
 pub mod Seats
+pub mod Limits
 pub mod Lending
 pub mod Prefixes

@@ -1,8 +1,9 @@
 -- Views: what a seat knows of its lock, in stages.
 use Rattle.std.specs.Prelude.{ℕ, ◌==◌, ◌&&◌, Bool, true, false, not, Option, Some, None, is_none, List, [], ◌∷◌}
 use Rattle.atomic_table.specs.Table.{Me}
+use Rattle.zq_ticketlock.specs.declared.turns.Entry.{Entry}
 use Rattle.zq_ticketlock.specs.declared.view.View.{View}
-use Rattle.zq_ticketlock.specs.declared.view.View.TheVariants.{Vacant, Idle, Waiting, Holding}
+use Rattle.zq_ticketlock.specs.declared.view.View.TheVariants.{Vacant, Idle, Met, Waiting, Holding}
 
 -- a seat's view, and the slots that it has out
 abbrev pub Sat : Type 0 → Type 0
@@ -11,19 +12,32 @@ Sat T = Me (Option T) (View T)
 module _ {T : Type 0} where
   -- the value that was seen last, where it is one
   abbrev pub seen_by : View T → Option T
-  seen_by (Idle low reached x) = Some x
-  seen_by (Waiting n x) = Some x
-  seen_by (Holding n x) = Some x
+  seen_by (Idle low reached x turns) = Some x
+  seen_by (Waiting n x turns) = Some x
+  seen_by (Holding n x turns) = Some x
   seen_by _ = None
+
+  -- the holds of the seat that have ended, the latest first, each by its ticket
+  abbrev pub turns_by : View T → List (Entry T)
+  turns_by (Idle low reached x turns) = turns
+  turns_by (Met low x y turns) = turns
+  turns_by (Waiting n x turns) = turns
+  turns_by (Holding n x turns) = turns
+  turns_by _ = []
+
+  -- and once it has put this value home
+  abbrev pub turns_with : T → View T → List (Entry T)
+  turns_with y (Holding n x turns) = record { ticket = n; turn = record { given = x; home = y } } ∷ turns
+  turns_with y view = turns_by view
 
   -- the number that an idle seat has last read in `serving`
   abbrev pub low_of : View T → ℕ
-  low_of (Idle low reached x) = low
+  low_of (Idle low reached x turns) = low
   low_of _ = 0
 
   -- the number to which an idle seat knows that `next` has come
   abbrev pub reached_of : View T → ℕ
-  reached_of (Idle low reached x) = reached
+  reached_of (Idle low reached x turns) = reached
   reached_of _ = 0
 
   -- the ticket with which a vacant lock opens
@@ -33,7 +47,7 @@ module _ {T : Type 0} where
 
   -- the ticket of a seat that waits
   abbrev pub ticket_of : View T → ℕ
-  ticket_of (Waiting n x) = n
+  ticket_of (Waiting n x turns) = n
   ticket_of _ = 0
 
   abbrev pub nothing_out : List (ℕ × Option T) → Bool
@@ -50,15 +64,15 @@ module _ {T : Type 0} where
   vacant_view _ = false
 
   abbrev pub idle_view : View T → Bool
-  idle_view (Idle low reached x) = true
+  idle_view (Idle low reached x turns) = true
   idle_view _ = false
 
   abbrev pub waiting_view : ℕ → View T → Bool
-  waiting_view k (Waiting n x) = n == k
+  waiting_view k (Waiting n x turns) = n == k
   waiting_view k _ = false
 
   abbrev pub holding_view : ℕ → View T → Bool
-  holding_view k (Holding n x) = n == k
+  holding_view k (Holding n x turns) = n == k
   holding_view k _ = false
 
   -- the seat is that of a vacant lock, whose slot is at home

@@ -1,7 +1,7 @@
 //! The value of a lock, out with a seat.
 
 ghost use Rattle.std.specs.Prelude.{◌≡◌, ◌<◌, true};
-ghost use Rattle.zq_ticketlock.specs.declared.lock.TheConstants.{LAST_TICKET};
+ghost use Rattle.zq_ticketlock.specs.Limits.{last_ticket};
 ghost use Rattle.zq_ticketlock.specs.Views.{is_holding};
 
 use crate::boxed::Boxed;
@@ -13,7 +13,7 @@ pub struct Held<T> {
     pub(crate) ticket: u64,
     pub(crate) value: Boxed<T>,
     ghost holding: { is_holding ticket place.me ≡ true },
-    ghost in_range: { ticket < LAST_TICKET },
+    ghost in_range: { ticket < last_ticket },
 }
 
 impl<T> Held<T> {

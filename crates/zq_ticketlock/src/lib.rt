@@ -1,7 +1,10 @@
 //! A ticket lock whose seats remember what they saw.
 //!
 //! A thread uses the lock by a seat. A seat remembers the last value that it saw under the lock, and each value that
-//! it is given later follows that one, by an order of the value's own ([`Keeps`]).
+//! it is given later follows that one, by an order of the value's own ([`Keeps`]). It also remembers its turns: what it
+//! was given and what it put home each time that it held the lock, by its ticket. So a caller can be held to have changed
+//! nothing. The turns of all seats are those of one history: each hold was given what the hold by the ticket before it put
+//! home. Proofs alone speak of all this, and it costs nothing.
 //!
 //! The lock has two words: `next` is the ticket that is drawn next, and `serving` the one that is served. They change
 //! in six kinds of step alone, each a function of its own:
@@ -16,7 +19,7 @@
 //! A lock opens with all its memory and no value. Its only seat puts the first value in by two loads of `serving`. The
 //! value lies in a box, so that taking it out and putting it home moves a pointer, however large it is.
 //!
-//! A thread with a ticket looks a few hundred times, and then sleeps until a release wakes it. Where two tickets are out,
+//! A thread with a ticket looks 2,000 times, and then sleeps until a release wakes it. Where two tickets are out,
 //! a thread that comes sleeps at a *door* before it draws its own, until it is called in. So the lock serves threads in
 //! the order of their tickets, and not in the order in which they called: at the door there is none, though whoever waits
 //! there is mostly called in first come, first served. `try_lock` passes by the door and never sleeps.
@@ -34,6 +37,7 @@ mod lock;
 mod order;
 mod seat;
 mod steps;
+mod turns;
 mod vacant;
 mod view;
 mod waiting;

@@ -36,14 +36,16 @@ pub struct TicketLock<T: Keeps> {
 }
 
 impl<T: Keeps> TicketLock<T> {
-    ghost use Rattle.std.specs.Prelude.{◌≡◌, ◌≤◌, Some, IfOk, IfErr};
-    ghost use Rattle.zq_ticketlock.specs.Seats.{id_of, lock_of, seen, served};
+    ghost use Rattle.std.specs.Prelude.{◌≡◌, ◌≤◌, Some, [], IfOk, IfErr};
+    ghost use Rattle.zq_ticketlock.specs.Limits.{last_ticket};
+    ghost use Rattle.zq_ticketlock.specs.Seats.{id_of, lock_of, seen, served, turns};
 
     /// A lock over the value, with its first seat, which has seen the value. Where there is no memory, the value is given back.
     pub fn new(alloc: Global, value: T) -> Result<(TicketLock<T>, Seat<T>), (NoMemory, T)>
         requires { T.holds value }
         ensures lock { IfOk result (λ made. lock_of made.1 ≡ id_of made.0) }
         ensures seen { IfOk result (λ made. seen made.1 ≡ Some value) }
+        ensures turns { IfOk result (λ made. turns made.1 ≡ []) }
         ensures served { IfOk result (λ made. served made.1 ≡ 0) }
         ensures refused { IfErr result (λ e. e.1 ≡ value) }
     {
@@ -57,9 +59,10 @@ impl<T: Keeps> TicketLock<T> {
         ticket: u64,
     ) -> Result<(TicketLock<T>, Seat<T>), (NoMemory, T)>
         requires holds { T.holds value }
-        requires in_range { ticket ≤ LAST_TICKET }
+        requires in_range { ticket ≤ last_ticket }
         ensures lock { IfOk result (λ made. lock_of made.1 ≡ id_of made.0) }
         ensures seen { IfOk result (λ made. seen made.1 ≡ Some value) }
+        ensures turns { IfOk result (λ made. turns made.1 ≡ []) }
         ensures served { IfOk result (λ made. served made.1 ≡ ticket) }
         ensures refused { IfErr result (λ e. e.1 ≡ value) }
     {

@@ -1,7 +1,7 @@
 //! Seats: what a thread uses a lock with.
 
 ghost use Rattle.std.specs.Prelude.{◌≡◌, ◌<◌, true};
-ghost use Rattle.zq_ticketlock.specs.declared.lock.TheConstants.{LAST_TICKET};
+ghost use Rattle.zq_ticketlock.specs.Limits.{last_ticket};
 ghost use Rattle.zq_ticketlock.specs.Views.{is_idle, is_waiting};
 
 use crate::boxed::Boxed;
@@ -19,7 +19,7 @@ pub(crate) struct Ticket<T> {
     pub(crate) place: atomic_table::Seat<Option<Boxed<T>>, View<T>>,
     pub(crate) number: u64,
     ghost waiting: { is_waiting number place.me ≡ true },
-    ghost in_range: { number < LAST_TICKET },
+    ghost in_range: { number < last_ticket },
 }
 
 impl<T> Seat<T> {

@@ -28,14 +28,14 @@ pub struct Vacant<T: Keeps> {
 }
 
 impl<T: Keeps> Vacant<T> {
-    ghost use Rattle.std.specs.Prelude.{◌≡◌, ◌≤◌, Some, IfOk};
-    ghost use Rattle.zq_ticketlock.specs.declared.lock.TheConstants.{LAST_TICKET};
-    ghost use Rattle.zq_ticketlock.specs.Seats.{id_of, lock_of, opens_at, seen, served};
+    ghost use Rattle.std.specs.Prelude.{◌≡◌, ◌≤◌, Some, [], IfOk};
+    ghost use Rattle.zq_ticketlock.specs.Limits.{last_ticket};
+    ghost use Rattle.zq_ticketlock.specs.Seats.{id_of, lock_of, opens_at, seen, served, turns};
 
     /// The memory of a lock, whose first ticket will have this number. At [`LAST_TICKET`](crate::LAST_TICKET) none will be
     /// drawn.
     pub fn new(alloc: Global, ticket: u64) -> Result<Vacant<T>, NoMemory>
-        requires in_range { ticket ≤ LAST_TICKET }
+        requires in_range { ticket ≤ last_ticket }
         ensures opens { IfOk result (λ vacant. opens_at vacant ≡ ticket) }
     {
         let room = Boxed::reserve(alloc)?;
@@ -60,6 +60,7 @@ impl<T: Keeps> Vacant<T> {
         requires holds { T.holds value }
         ensures lock { lock_of result.1 ≡ id_of result.0 }
         ensures seen { seen result.1 ≡ Some value }
+        ensures turns { turns result.1 ≡ [] }
         ensures served { served result.1 ≡ opens_at self }
     {
         let Vacant {

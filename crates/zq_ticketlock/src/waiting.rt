@@ -1,6 +1,6 @@
 //! How a thread waits for its turn: before it draws a ticket, and with one. No clause speaks of who waits for how long.
 ghost use Rattle.std.specs.Prelude.{◌≡◌, Some};
-ghost use Rattle.zq_ticketlock.specs.Seats.{id_of, ticket_lock, ticket_seen, held_lock, given, value_of};
+ghost use Rattle.zq_ticketlock.specs.Seats.{id_of, ticket_lock, ticket_seen, ticket_turns, held_lock, held_turns, given, value_of, held_logged, ticket_logged};
 ghost use Rattle.zq_ticketlock.specs.Steps.{FollowsSeen};
 
 use crate::held::Held;
@@ -72,6 +72,8 @@ impl<T: Keeps> TicketLock<T> {
         ensures holds { T.holds (value_of result) }
         ensures follows { FollowsSeen T.follows (value_of result) (ticket_seen ticket) }
         ensures given { given result ≡ Some (value_of result) }
+        ensures turns { held_turns result ≡ ticket_turns ticket }
+        ensures logged { held_logged result ≡ ticket_logged ticket }
     {
         let mut spins = SPINS;
         for _ in rt.forever() {

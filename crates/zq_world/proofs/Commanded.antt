@@ -21,7 +21,7 @@ use Rattle.zq_moves.specs.Lent.{queues_of}
 use Rattle.zq_moves.specs.Moves.{Queues}
 use Rattle.zq_plans.specs.Plan.{Plan, plan_of}
 use Rattle.zq_plans.specs.Replies.{bytes_of}
-use Rattle.zq_plans.specs.Run.{LAST_COUNT, Number, cut_error, cut_reply}
+use Rattle.zq_plans.specs.Run.{ForCopies, LAST_COUNT, Number, cut_error, cut_reply}
 use Rattle.zq_resp.specs.Reply.{reply_bytes}
 use Rattle.zq_resp.specs.declared.reply.Reply.{Reply}
 use Rattle.zq_runs.proofs.InRange.{moves_sound}
@@ -124,14 +124,14 @@ module _ (played : Played) (player : Player) (held : Holds played player) (site 
         let its_queues : Queues = queues_of rule (ran.old ∷ []) in
         let book = its.each ran.place ran.old ran.found in
         let first = first_for rule K st site books.items its w1 w2 key ran.old held.two ruled ran.first in
-        let alone = subst (λ (r : Rule). EndsOver site stamp false (plan_of (Zpopnear key) (queues_of r (ran.old ∷ []))) (cut_reply (Zpopnear key) (queues_of r (ran.old ∷ [])))
+        let alone = subst (λ (r : Rule). EndsOver site stamp ForCopies (plan_of (Zpopnear key) (queues_of r (ran.old ∷ []))) (cut_reply (Zpopnear key) (queues_of r (ran.old ∷ [])))
         (lending_told (ran.old ∷ []) made) (lending_told (ran.new ∷ []) told) bytes false) book.ruled ran.run in
         let ran_all = ran_wide rule K site stamp st books.items world its (site_lending books.items of_its) ran.place ran.old ran.found key all first ran.new made told bytes alone in
         let same = ap (plan_of (Zpopnear key)) (sym (one_is rule K st site books.items its ran.place ran.old ran.found)) ∙ same_plan key its_queues all first in
         let sound = subst (λ (p : Plan). AreSound p.moves) same
         (moves_sound (Zpopnear key) (queues_over rule S (ran.place ∷ [])) limits (short_over rule K S (ran.place ∷ []) world short)) in
         let done = ran_done rule K site stamp held.playable.heaps below st books.items made world (kept.now.closed site) its held.stands.told (plan_of (Zpopnear key) all) (cut_reply (Zpopnear key) all)
-        (slice_set books.items ran.place ran.new) told bytes sound (subst AreUnworn ran.left_is unworn) (ran.heaps K book.heaps among).1 false ran_all in
+        (slice_set books.items ran.place ran.new) told bytes sound (subst AreUnworn ran.left_is unworn) (ran.heaps K book.heaps among).1 ForCopies ran_all in
         subst (λ (xs : List Book). IsDoneAt rule K site st (done_by K site stamp (plan_of (Zpopnear key) all) (λ k. cut_reply (Zpopnear key) all k Number) st) xs told bytes) (sym ran.left_is) done
 
     -- what ran is done

@@ -18,7 +18,7 @@ use Rattle.zq_moves.specs.Lent.{books_after, queues_of}
 use Rattle.zq_moves.specs.Moves.{Move, Queues}
 use Rattle.zq_plans.specs.Plan.{Plan, plan_of}
 use Rattle.zq_plans.specs.Replies.{Reply}
-use Rattle.zq_plans.specs.Run.{IsWhy, IsWhyOf, Memory, Number, Want, cut_reply, is_strict}
+use Rattle.zq_plans.specs.Run.{Memory, Number, Takes, Want, cut_reply, takes_of}
 use Rattle.zq_runs.proofs.InRange.{moves_sound}
 use Rattle.zq_runs.proofs.KeptRuns.{short_over}
 use Rattle.zq_runs.proofs.MovedBooks.{all_stand, done_part, done_whole, others_stay, some_stand, why_some}
@@ -41,11 +41,6 @@ pub record IsDoneAt (rule : Rule) (K site : ℕ) (st : State) (done : Done) (boo
   pub says : reply ≡ done.reply
   pub others : (other : ℕ) (theirs : List Book) → (other == site) ≡ false → AreBooksOf rule K st other theirs → AreBooksOf rule K done.now other theirs
 
-why_of : (strict : Bool) (site : ℕ) (next : Option Move) (books : List Book) → IsWhyOf strict site next books Number → IsWhy site next books Number
-why_of true site None books why = absurd why
-why_of true site (Some move) books why = why
-why_of false site next books why = why
-
 module _ (rule : Rule) (K site stamp : ℕ) (heaps : IsHeaps K) (below : site < SITES) (st : State) (books : List Book) (made : List Placed) (world : IsWorld K (st.sets site)) (closed : IsClosed (st.sets site))
     (are : AreBooksOf rule K st site books) (listed : made ≡ map (placed K) st.made) where
   same_made : operations_in made ≡ st.made
@@ -64,9 +59,9 @@ module _ (rule : Rule) (K site stamp : ℕ) (heaps : IsHeaps K) (below : site < 
 
   module _ (plan : Plan) (cut : ℕ → Want → Reply) (new : List Book) (told : List Placed) (reply : Word) (sound : AreSound plan.moves) (unworn : AreUnworn new) (among : AreAmong K told) where
     -- a run that no memory cut
-    pub ran_done : (strict : Bool) → EndsOver site stamp strict plan cut (lending_told books made) (lending_told new told) reply false →
+    pub ran_done : (takes : Takes) → EndsOver site stamp takes plan cut (lending_told books made) (lending_told new told) reply false →
         IsDoneAt rule K site st (done_by K site stamp plan (λ k. cut k Number) st) new told reply
-    ran_done strict (whole lent says) =
+    ran_done takes (whole lent says) =
         let is = ap (λ (l : Lending). l.books) lent in
         let stands = all_stand rule K site stamp heaps below plan.moves st books new world closed sound are unworn is in
         let done = done_whole K site stamp plan (λ k. cut k Number) st stands.0 in
@@ -76,10 +71,10 @@ module _ (rule : Rule) (K site stamp : ℕ) (heaps : IsHeaps K) (below : site < 
           says = says;
           others = λ other theirs apart its. others_stay rule K site stamp other plan.moves st theirs apart its;
         })
-    ran_done strict (part k Memory low lent why says memory) = absurd (true≢false (sym (memory refl)))
-    ran_done strict (part k Number low lent why says memory) =
+    ran_done takes (part k Memory low lent why says memory) = absurd (true≢false (sym (memory refl)))
+    ran_done takes (part k Number low lent why says memory) =
         let is = ap (λ (l : Lending). l.books) lent in
-        let reason = why_of strict site (slice_get plan.moves k) new why in
+        let reason = why in
         let stands = some_stand rule K site stamp heaps below k plan.moves st books new world closed sound are unworn low is reason in
         let done = done_part K site stamp plan (λ n. cut n Number) st k stands.0 (why_some site k plan.moves new reason) in
         subst (λ (d : Done). IsDoneAt rule K site st d new told reply) (sym done) (record {
@@ -92,11 +87,11 @@ module _ (rule : Rule) (K site stamp : ℕ) (heaps : IsHeaps K) (below : site < 
   -- a command over all books
   pub command_done : (command : Command) (new : List Book) (told : List Placed) (reply : Word) → rule_in books ≡ rule → ((o : Operation) → IsIn o (st.sets site) → HasShortNames o) → IsWithinLimits command →
       AreUnworn new → AreAmong K told →
-      EndsOver site stamp (is_strict command) (plan_of command (queues_of (rule_in books) books)) (cut_reply command (queues_of (rule_in books) books)) (lending_told books made) (lending_told new told) reply false →
+      EndsOver site stamp (takes_of command (queues_of (rule_in books) books)) (plan_of command (queues_of (rule_in books) books)) (cut_reply command (queues_of (rule_in books) books)) (lending_told books made) (lending_told new told) reply false →
       IsDoneAt rule K site st (done_by K site stamp (plan_of command (queues_over rule (st.sets site) (heaps_in K))) (λ k. cut_reply command (queues_over rule (st.sets site) (heaps_in K)) k Number) st) new told reply
   command_done command new told reply ruled short limits unworn among ends =
       let q : Queues = queues_over rule (st.sets site) (heaps_in K) in
       let same : queues_of (rule_in books) books ≡ q = ap (λ r. queues_of r books) ruled ∙ queues_are rule K st site books are in
       let sound = moves_sound command q limits (short_over rule K (st.sets site) (heaps_in K) world short) in
-      ran_done (plan_of command q) (cut_reply command q) new told reply sound unworn among (is_strict command)
-      (subst (λ (qs : Queues). EndsOver site stamp (is_strict command) (plan_of command qs) (cut_reply command qs) (lending_told books made) (lending_told new told) reply false) same ends)
+      ran_done (plan_of command q) (cut_reply command q) new told reply sound unworn among (takes_of command q)
+      (subst (λ (qs : Queues). EndsOver site stamp (takes_of command qs) (plan_of command qs) (cut_reply command qs) (lending_told books made) (lending_told new told) reply false) same ends)

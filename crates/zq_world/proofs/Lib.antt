@@ -19,3 +19,4 @@ mod Readings
 mod RanBooks
 mod Commanded
 mod NearDones
+mod FewRows

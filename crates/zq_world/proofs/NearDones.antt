@@ -23,7 +23,7 @@ use Rattle.zq_moves.specs.Lent.{is_home, queues_of}
 use Rattle.zq_moves.specs.Moves.{Move, Queue, Queues}
 use Rattle.zq_plans.specs.Plan.{Plan, drops, is_there, plan_of}
 use Rattle.zq_plans.specs.Replies.{bytes_of}
-use Rattle.zq_plans.specs.Run.{IsWhy, Memory, Number, cut_reply, is_worn}
+use Rattle.zq_plans.specs.Run.{ForCopies, IsWhy, Memory, Number, cut_reply, is_worn}
 use Rattle.zq_runs.proofs.MovedBooks.{read_within, why_some}
 use Rattle.zq_runs.proofs.NearBooks.{alone_is, same_plan}
 use Rattle.zq_runs.proofs.SiteBooks.{queues_are}
@@ -129,8 +129,8 @@ module _ (rule : Rule) (K site stamp : ℕ) (st : State) (books : List Book) (wo
 
   -- a run over the book alone that no memory cut is one over all, of each plan that pops the same pair
   pub ran_wide : (all : Queues) → slice_get (its key) 0 ≡ slice_get (all key) 0 → (new : Book) (made told : List Placed) (reply : Word) →
-      EndsOver site stamp false (plan_of (Zpopnear key) its) (cut_reply (Zpopnear key) its) (lending_told (old ∷ []) made) (lending_told (new ∷ []) told) reply false →
-      EndsOver site stamp false (plan_of (Zpopnear key) all) (cut_reply (Zpopnear key) all) (lending_told books made) (lending_told (slice_set books h new) told) reply false
+      EndsOver site stamp ForCopies (plan_of (Zpopnear key) its) (cut_reply (Zpopnear key) its) (lending_told (old ∷ []) made) (lending_told (new ∷ []) told) reply false →
+      EndsOver site stamp ForCopies (plan_of (Zpopnear key) all) (cut_reply (Zpopnear key) all) (lending_told books made) (lending_told (slice_set books h new) told) reply false
   ran_wide all first new made told reply (whole is says) =
       let plan = same_plan key its all first in
       let moves = (plan_of (Zpopnear key) its).moves in

@@ -1,14 +1,12 @@
 //! How operations and images pass from one site to another: as the bytes of their frames.
 
-ghost use Rattle.std.specs.Prelude.{IfOk, IfErr, List, Ok, length, ℕ, ◌<◌, ◌^◌, ◌≡◌};
+ghost use Rattle.std.specs.Prelude.{IfOk, IfErr, List, Ok, length, ℕ, ◌<◌, ◌≡◌};
 ghost use Rattle.zq_delta.specs.Reading.{found_at};
 ghost use Rattle.zq_delta.specs.Spelling.{op_spelling};
 ghost use Rattle.zq_delta.specs.declared.version.Version.TheVariants as delta;
 ghost use Rattle.zq_merge.specs.State.{state_at, state_spelling};
 ghost use Rattle.zq_merge.specs.declared.version.Version.TheVariants as merge;
-ghost use Rattle.zq_model.specs.Image.{image_of};
 ghost use Rattle.zq_model.specs.Operation.{Operation};
-ghost use Rattle.zq_model.specs.Rows.{rows_of};
 ghost use Rattle.zq_model.specs.Rule.{Rule};
 ghost use Rattle.zq_model.specs.Sets.{IsIn};
 ghost use Rattle.zq_runs.specs.Events.{Event, set_at};
@@ -30,7 +28,6 @@ pub fn carrying()
     ensures operations { (rule : Rule) (K sites : ℕ) (events : List Event) → IsPlayable rule K sites events → (o : Operation) → IsIn o (run rule K events).now.made →
         found_at (op_spelling delta.Two (placed K o)) ≡ Ok (placed K o, length (op_spelling delta.Two (placed K o))) }
     ensures images { (rule : Rule) (K sites : ℕ) (events : List Event) → IsPlayable rule K sites events → (moment site heap : ℕ) → heap < K →
-        length (rows_of (image_of (set_at (run rule K events) moment site) heap)) < 2 ^ 64 →
         state_at (state_spelling merge.Three (heap_at rule K (set_at (run rule K events) moment site) heap)) ≡ Ok (heap_at rule K (set_at (run rule K events) moment site) heap) }
 {}
 

@@ -1,8 +1,9 @@
 -- Why the bytes of a file give no settings.
 
-use Rattle.std.specs.Prelude.{List, ℕ}
+use Rattle.std.specs.Prelude.{List, Option, Some, codes, ℕ}
 use Rattle.std.specs.Str.{IsUtf8}
 use Rattle.zq_settings.specs.Texts.{IsRefusal, IsSiteRefusal}
+use Rattle.zq_settings.specs.Words.{fault_words}
 use Rattle.zq_settings.specs.declared.fault.SettingsFault.TheVariants.{NoMemory}
 use Rattle.zqueue.specs.declared.configured.Unsettled.TheVariants.{Fault, NotText}
 use Rattle.zqueue.specs.declared.configured.Unsettled.{Unsettled}
@@ -23,3 +24,8 @@ IsSiteUnsettled bytes (Fault fault) = IsSiteRefusal bytes fault
 abbrev pub refusal_of : Unsettled → Refusal
 refusal_of (Fault NoMemory) = Memory
 refusal_of _ = Settings
+
+-- and in words
+abbrev pub words_of : Unsettled → Option (List ℕ)
+words_of NotText = Some (codes "the file is not UTF-8")
+words_of (Fault fault) = fault_words fault

@@ -1,6 +1,9 @@
 -- What the program writes and answers where it does not do what it was asked.
 
-use Rattle.std.specs.Prelude.{List, codes, ℕ}
+use Rattle.std.specs.Io.KnownBytes.{Appends}
+use Rattle.std.specs.Prelude.{Err, List, Ok, Option, Result, codes, ℕ, ◌≡◌, ◌⊎◌}
+use Rattle.zq_serve.specs.declared.fault.ServeFault.{ServeFault}
+use Rattle.zq_serve.specs.declared.fault.ServeFault.TheVariants as fault
 use Rattle.zqueue.specs.declared.refusal.Refusal.{Refusal}
 use Rattle.zqueue.specs.declared.refusal.Refusal.TheVariants.{Device, Memory, Settings, Usage}
 
@@ -15,3 +18,22 @@ status_of Usage = 3
 status_of Settings = 3
 status_of Device = 4
 status_of Memory = 4
+
+-- what a writer held before and holds after, and the status, where the refusal was written, or the device failed at that
+abbrev pub Refuses : Option (List ℕ) → Option (List ℕ) → Refusal → ℕ → Type 0
+Refuses old new refusal status = (Appends old new (line_of refusal) × (status ≡ status_of refusal)) ⊎ (status ≡ 4)
+
+-- the same of a program that may have done what it was asked: then nothing is written, and the status is 0
+abbrev pub Finishes : Option (List ℕ) → Option (List ℕ) → Result (Unit {0}) Refusal → ℕ → Type 0
+Finishes old new (Ok done) status = (new ≡ old) × (status ≡ 0)
+Finishes old new (Err refusal) status = Refuses old new refusal status
+
+-- a file that cannot be read is never wrong settings
+abbrev pub IsUnread : Refusal → Type 0
+IsUnread refusal = (refusal ≡ Device) ⊎ (refusal ≡ Memory)
+
+-- how the program ends after it served
+abbrev pub ended_of : Result (Unit {0}) ServeFault → Result (Unit {0}) Refusal
+ended_of (Ok done) = Ok done
+ended_of (Err fault.Device) = Err Device
+ended_of (Err fault.NoMemory) = Err Memory

@@ -18,6 +18,10 @@ pub enum Unsettled {
 }
 
 impl fmt::Display for Unsettled {
+    ghost use Rattle.zqueue.specs.Configured.{words_of};
+
+    ghost output = { words_of };
+
     fn fmt<W: fmt::Write>(&self, f: &mut fmt::Formatter<W>) -> fmt::Result {
         match self {
             Unsettled::NotText => f.write_str("the file is not UTF-8"),

@@ -5,7 +5,7 @@ ghost use Rattle.std.specs.Prelude.{Bool, List, ◌≡◌, ◌⊎◌};
 ghost use Rattle.zq_drill.specs.Report.{IsOutcome, report};
 ghost use Rattle.zq_model.specs.Meaning.{Scored};
 
-use crate::refusal::{DEVICE, Refusal, refuse};
+use crate::refusal::{Refusal, refuse};
 use std::alloc::Global;
 use std::io::Write;
 use std::sync::Wait;
@@ -21,7 +21,9 @@ pub fn drill_out<R: Threads + Wait + Sync, W: Write>(
     rounds: u32,
     out: &mut W,
 ) -> u8
-    ensures { ((equal : Bool) × (lists : List (List Scored)) × IsOutcome lists equal × Appends (W.contents out.old) (W.contents out.new) (report lists equal) × (result ≡ 0)) ⊎ (result ≡ DEVICE) }
+    ensures { ((equal : Bool) × (lists : List (List Scored)) × IsOutcome lists equal
+        × Appends (W.contents out.old) (W.contents out.new) (report lists equal)
+        × (result ≡ 0)) ⊎ (result ≡ 4) }
 {
     match drill(rt, alloc, seed, rounds, out) {
         Ok(_) => 0,

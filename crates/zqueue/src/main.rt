@@ -15,7 +15,7 @@ mod tests;
 use asked::{Command, asked};
 use drilling::drill_out;
 use piping::pipe;
-use refusal::{DEVICE, Refusal, refuse};
+use refusal::{DEVICE, Refusal, finish, refuse};
 use serving::{serve_file, serve_site_file};
 use std::alloc::AllocError;
 use std::io;
@@ -33,14 +33,14 @@ README.md says what each of them does, and docs/COMMANDS.md what clients can sen
 fn main(rt: HostRuntime) -> ExitCode {
     let code = match asked(&rt) {
         Ok(Some(Command::Pipe)) => pipe(rt.alloc(), &mut rt.reader(), &mut io::writer(&rt)),
-        Ok(Some(Command::Serve(path))) => match serve_file(&rt, rt.alloc(), path.as_str()) {
-            Ok(()) => 0,
-            Err(refusal) => refuse(refusal, &mut io::writer(&rt)),
-        },
-        Ok(Some(Command::Site(path))) => match serve_site_file(&rt, rt.alloc(), path.as_str()) {
-            Ok(()) => 0,
-            Err(refusal) => refuse(refusal, &mut io::writer(&rt)),
-        },
+        Ok(Some(Command::Serve(path))) => {
+            let ended = serve_file(&rt, rt.alloc(), path.as_str());
+            finish(ended, &mut io::writer(&rt))
+        }
+        Ok(Some(Command::Site(path))) => {
+            let ended = serve_site_file(&rt, rt.alloc(), path.as_str());
+            finish(ended, &mut io::writer(&rt))
+        }
         Ok(Some(Command::Drill { seed, rounds })) => {
             drill_out(&rt, rt.alloc(), seed, rounds, &mut io::writer(&rt))
         }

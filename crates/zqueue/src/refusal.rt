@@ -1,8 +1,7 @@
 //! How the program says that it did not do what it was asked.
 
-ghost use Rattle.std.specs.Io.KnownBytes.{Appends};
-ghost use Rattle.std.specs.Prelude.{◌≡◌, ◌⊎◌};
-ghost use Rattle.zqueue.specs.Refusal.{line_of, status_of};
+ghost use Rattle.std.specs.Prelude.{◌≡◌};
+ghost use Rattle.zqueue.specs.Refusal.{Finishes, Refuses, line_of, status_of};
 
 use std::io::Write;
 
@@ -51,10 +50,20 @@ impl Refusal {
 
 /// Writes the line of the refusal, and answers its status; where the line cannot be written, that of a device.
 pub fn refuse<W: Write>(refusal: Refusal, writer: &mut W) -> u8
-    ensures { (Appends (W.contents writer.old) (W.contents writer.new) (line_of refusal) × (result ≡ status_of refusal)) ⊎ (result ≡ DEVICE) }
+    ensures { Refuses (W.contents writer.old) (W.contents writer.new) refusal result }
 {
     match writer.write_all(refusal.line()) {
         Ok(()) => refusal.status(),
         Err(_) => DEVICE,
+    }
+}
+
+/// The status of a program that did what it was asked, which is 0, or did not: then the line of the refusal is written.
+pub fn finish<W: Write>(ended: Result<(), Refusal>, writer: &mut W) -> u8
+    ensures { Finishes (W.contents writer.old) (W.contents writer.new) ended result }
+{
+    match ended {
+        Ok(()) => 0,
+        Err(refusal) => refuse(refusal, writer),
     }
 }

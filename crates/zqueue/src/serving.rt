@@ -1,5 +1,8 @@
 //! Serving the sites of a settings file.
 
+ghost use Rattle.std.specs.Prelude.{◌≡◌};
+ghost use Rattle.zqueue.specs.Refusal.{ended_of};
+
 use crate::configured::{configured, site_configured};
 use crate::refusal::Refusal;
 use crate::settling::{read_file, settled};
@@ -58,7 +61,9 @@ where
 }
 
 /// How the program ends after it served.
-fn ended(served: Result<(), ServeFault>) -> Result<(), Refusal> {
+fn ended(served: Result<(), ServeFault>) -> Result<(), Refusal>
+    ensures { result ≡ ended_of served }
+{
     match served {
         Ok(()) => Ok(()),
         Err(ServeFault::Device) => Err(Refusal::Device),

@@ -1,7 +1,8 @@
 //! Settings of a file, or how the program refuses it.
 
-ghost use Rattle.std.specs.Prelude.{IfErr, IfOk, ◌≡◌};
+ghost use Rattle.std.specs.Prelude.{IfErr, IfOk, ◌≡◌, ◌≢◌};
 ghost use Rattle.zqueue.specs.Configured.{refusal_of};
+ghost use Rattle.zqueue.specs.Refusal.{IsUnread};
 ghost use Rattle.zqueue.specs.declared.configured.Unsettled.{Unsettled};
 
 use crate::configured::Unsettled;
@@ -12,12 +13,25 @@ use std::io::ErrorKind;
 use std::rt::Files;
 use zq_settings::SettingsFault;
 
-/// The bytes of the file.
-pub fn read_file<R: Files + Alloc<A = Global>>(rt: &R, path: &str) -> Result<Vec<u8>, Refusal> {
+/// The bytes of the file. A file that is not there or cannot be read is a device that failed.
+pub fn read_file<R: Files + Alloc<A = Global>>(rt: &R, path: &str) -> Result<Vec<u8>, Refusal>
+    ensures { IfErr result IsUnread }
+{
     match fs::read(rt, path) {
         Ok(bytes) => Ok(bytes),
-        Err(error) if error.kind() == ErrorKind::OutOfMemory => Err(Refusal::Memory),
-        Err(_) => Err(Refusal::Device),
+        Err(error) => Err(unread(error.kind())),
+    }
+}
+
+/// How the program refuses a file that could not be read.
+fn unread(kind: ErrorKind) -> Refusal
+    ensures memory { kind ≡ ErrorKind.OutOfMemory → result ≡ Refusal.Memory }
+    ensures device { kind ≢ ErrorKind.OutOfMemory → result ≡ Refusal.Device }
+    ensures unread { IsUnread result }
+{
+    match kind {
+        ErrorKind::OutOfMemory => Refusal::Memory,
+        _ => Refusal::Device,
     }
 }
 

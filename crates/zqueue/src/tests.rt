@@ -4,7 +4,8 @@ use crate::asked::{Command, asked};
 use crate::configured::{Unsettled, configured, site_configured};
 use crate::drilling::drill_out;
 use crate::piping::pipe;
-use crate::refusal::{Refusal, refuse};
+use crate::refusal::{Refusal, finish, refuse};
+use crate::serving::{serve_file, serve_site_file};
 use std::env::{Env, FillError};
 use std::test::Fail;
 use zq_settings::{SettingsFault, Why};
@@ -126,6 +127,28 @@ fn each_refusal_has_its_line_and_status(rt: HostRuntime) {
         assert_eq!(rt; refuse(refusal, &mut written), status);
         assert_eq!(rt; written.as_slice(), line);
     }
+}
+
+#[test]
+fn a_file_that_is_no_settings_is_refused_with_its_status(rt: HostRuntime) {
+    // A file that is not there, a folder, and a file without bytes, which lacks the keys that have to be there.
+    let rows: [(&str, &[u8], u8); 3] = [
+        ("no-such-file.toml", b"zqueue: device\n", 4),
+        ("/", b"zqueue: device\n", 4),
+        ("/dev/null", b"zqueue: settings\n", 3),
+    ];
+    for (path, line, status) in rows {
+        let sites = serve_file(&rt, rt.alloc(), path);
+        let site = serve_site_file(&rt, rt.alloc(), path);
+        for ended in [sites, site] {
+            let mut written = Vec::new(rt.alloc());
+            assert_eq!(rt; finish(ended, &mut written), status);
+            assert_eq!(rt; written.as_slice(), line);
+        }
+    }
+    let mut written = Vec::new(rt.alloc());
+    assert_eq!(rt; finish(Ok(()), &mut written), 0);
+    assert!(rt; written.is_empty());
 }
 
 /// How the bytes of a settings file are read.

@@ -3,7 +3,7 @@ use super::calls::{Deed, act, drop_a, merge, number_given, shown, take};
 use std::alloc::Global;
 use std::test::Fail;
 use zq_dots::{Act, Op, Rule, SiteNo};
-use zq_journal::{Book, MergeFault, TakeFault};
+use zq_journal::{Book, MergeFault, TailLimits, TakeFault};
 use zq_posheap::Seeded;
 use zq_shard::{MakeFault, Shard, Taken};
 
@@ -12,10 +12,7 @@ use zq_shard::{MakeFault, Shard, Taken};
 fn put_often(book: &mut Book, alloc: Global, times: i64) -> Result<(), Fail> {
     let site = SiteNo::new(0).ok_or("a site")?;
     for time in 1..=times {
-        let long = book.tail_len();
-        if long >= 4096 {
-            book.advance(long - 2048)?;
-        }
+        book.cut();
         let stamp = book.stamp();
         book.make(alloc, site, stamp, b"q", b"a", act(Deed::Put(time))?)?;
     }
@@ -32,6 +29,38 @@ fn a_long_tail_is_cut(rt: HostRuntime) -> Result<(), Fail> {
     }
     assert_eq!(rt; book.shard().score(b"q", b"a"), Some(4097));
     assert!(rt; book.audit(rt.alloc())?);
+    Ok(())
+}
+
+/// How many records a book of these limits has after so many Puts of two bytes each, of which the first `handed` may be cut.
+fn left(alloc: Global, limits: TailLimits, handed: Option<u64>, puts: i64) -> Result<usize, Fail> {
+    let mut book = Book::new(alloc, Shard::new(alloc, 0, 1));
+    book.set_limits(limits);
+    book.set_handed(handed);
+    put_often(&mut book, alloc, puts)?;
+    Ok(book.tail_len())
+}
+
+#[test]
+fn a_tail_is_cut_to_its_limits(rt: HostRuntime) -> Result<(), Fail> {
+    let of = |long, kept, bytes| TailLimits { long, kept, bytes };
+    for (limits, handed, puts, records) in [
+        // Two of four are left,
+        (of(4, 2, None), None, 5, 3),
+        (of(4, 2, None), None, 7, 3),
+        // but what was not handed on stays.
+        (of(4, 2, None), Some(1), 5, 4),
+        (of(4, 2, None), Some(1), 6, 5),
+        (of(1, 0, None), Some(0), 5, 5),
+        // Two have at most five bytes.
+        (of(9, 9, Some(5)), None, 6, 3),
+        (of(9, 9, Some(5)), Some(3), 6, 3),
+        (of(9, 9, Some(0)), None, 3, 1),
+        // No more are cut than there are.
+        (of(0, 9, None), None, 3, 3),
+    ] {
+        assert_eq!(rt; left(rt.alloc(), limits, handed, puts)?, records);
+    }
     Ok(())
 }
 

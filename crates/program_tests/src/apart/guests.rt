@@ -10,7 +10,7 @@ use std::random::RandomSource;
 use std::sync::Wait;
 use std::test::Fail;
 use std::thread::Threads;
-use std::time::Clock;
+use std::time::{Clock, Duration, Instant};
 use std::{str, thread};
 use zq_apart::serve_site;
 use zq_settings::SiteSettings;
@@ -35,19 +35,78 @@ pub enum Guests<'a> {
     Strangers(&'a [&'a [u8]], SocketAddr),
     /// A peer of a smaller number, which listens here.
     Dialled(&'a TcpListener),
+    /// Each dials in here, and looks at the nonce that it is given.
+    Curious(SocketAddr),
+    /// A peer of a greater number, which dials in here again while its first link is up.
+    Twice(SocketAddr),
 }
 
-/// Dials in with these bytes, and waits until the site lets go.
+/// Dials in with these bytes, and waits until the site lets go: what the site said.
 pub fn dial_in<N: Net<Listener = TcpListener, Stream = TcpStream>, R: Clock>(
     net: &N,
     rt: &R,
     alloc: Global,
     bytes: &[u8],
     door: SocketAddr,
-) -> Result<(), Fail> {
+) -> Result<Vec<u8>, Fail> {
     let mut stream = connect(net, rt, door.port())?;
     stream.write_all(bytes)?;
-    let _ = read_out(alloc, &stream);
+    Ok(read_out(alloc, &stream))
+}
+
+/// How many strangers look at a nonce. That a byte that is drawn is the same for all of them happens once in 2 ^ 56 times.
+const LOOKS: usize = 8;
+
+/// Dials in again and again, and looks whether each of the 16 bytes of the nonce varies.
+pub fn look_at_nonces<N: Net<Listener = TcpListener, Stream = TcpStream>, R: Clock>(
+    net: &N,
+    rt: &R,
+    alloc: Global,
+    door: SocketAddr,
+) -> Result<(), Fail> {
+    let mut varied = [false; 16];
+    let first = dial_in(net, rt, alloc, greeting(1, 2, 0).as_slice(), door)?;
+    for _look in 1..LOOKS {
+        let said = dial_in(net, rt, alloc, greeting(1, 2, 0).as_slice(), door)?;
+        for place in 0..16usize {
+            if said.get(13 + place) != first.get(13 + place) {
+                varied[place] = true;
+            }
+        }
+    }
+    if first.len() == 29 && varied == [true; 16] {
+        return Ok(());
+    }
+    Err("a byte of the nonce stays".into())
+}
+
+/// Dials in as a peer that has no secret: the link, once a Have has come over it.
+pub fn link_up<N: Net<Listener = TcpListener, Stream = TcpStream>, R: Clock>(
+    net: &N,
+    rt: &R,
+    door: SocketAddr,
+) -> Result<TcpStream, Fail> {
+    let mut stream = connect(net, rt, door.port())?;
+    stream.write_all(greeting(1, 2, 0).as_slice())?;
+    let mut heard = [0u8; 18];
+    stream.read_exact(&mut heard)?;
+    Ok(stream)
+}
+
+/// Puts a second link in the place of the first, which the site then ends, and holds it until the site ends, which is once
+/// its client has left.
+pub fn link_twice<N: Net<Listener = TcpListener, Stream = TcpStream>, R: Clock>(
+    net: &N,
+    rt: &R,
+    alloc: Global,
+    door: SocketAddr,
+    clients: u16,
+) -> Result<(), Fail> {
+    let first = link_up(net, rt, door)?;
+    let second = link_up(net, rt, door)?;
+    let _ = read_out(alloc, &first);
+    drop(connect(net, rt, clients)?);
+    let _ = read_out(alloc, &second);
     Ok(())
 }
 
@@ -59,21 +118,28 @@ pub fn greet(listener: &TcpListener, bytes: &[u8]) -> Result<TcpStream, Fail> {
     Ok(stream)
 }
 
-/// What the site says first where it is greeted: its greeting, and the length and the kind of a Have.
-pub fn heard_of(listener: &TcpListener) -> Result<[u8; 18], Fail> {
+/// What the site says first where it is greeted: its greeting, and the length and the kind of a Have. It also says whether
+/// that came within a second.
+pub fn heard_of<R: Clock>(rt: &R, listener: &TcpListener) -> Result<([u8; 18], bool), Fail> {
     let mut stream = greet(listener, b"")?;
+    let start = Instant::now(rt)?;
     let mut heard = [0u8; 18];
     stream.read_exact(&mut heard)?;
-    Ok(heard)
+    let soon = start.elapsed(rt)? < Duration::from_secs(1);
+    Ok((heard, soon))
 }
 
-/// Breaks the link twice, once with a frame that is none and one that is too long, and hears what the site says then.
-pub fn break_twice(alloc: Global, listener: &TcpListener) -> Result<(), Fail> {
-    drop(heard_of(listener)?);
+/// Breaks the link twice, once with a frame that is none and one that is too long, and hears what the site says then. One of
+/// the links that are up brings a Have within a second, where the site would say what it has every five seconds.
+pub fn break_twice<R: Clock>(rt: &R, alloc: Global, listener: &TcpListener) -> Result<(), Fail> {
+    let (_, first_soon) = heard_of(rt, listener)?;
     let stream = greet(listener, b"\x00\x00\x00\x01\x09\xff\xff\xff\xff")?;
     let _ = read_out(alloc, &stream);
     drop(stream);
-    let heard = heard_of(listener)?;
+    let (heard, then_soon) = heard_of(rt, listener)?;
+    if !first_soon && !then_soon {
+        return Err("a Have comes late".into());
+    }
     if heard.get(..13) == Some(greeting(1, 2, 0).as_slice()) && heard.get(17) == Some(&5) {
         return Ok(());
     }
@@ -91,10 +157,12 @@ pub fn entertain<N: Net<Listener = TcpListener, Stream = TcpStream>, R: Clock>(
     match guests {
         Guests::Strangers(strangers, door) => {
             for bytes in *strangers {
-                dial_in(net, rt, alloc, bytes, *door)?;
+                drop(dial_in(net, rt, alloc, bytes, *door)?);
             }
         }
-        Guests::Dialled(listener) => break_twice(alloc, listener)?,
+        Guests::Dialled(listener) => break_twice(rt, alloc, listener)?,
+        Guests::Curious(door) => look_at_nonces(net, rt, alloc, *door)?,
+        Guests::Twice(door) => return link_twice(net, rt, alloc, *door, clients),
     }
     drop(connect(net, rt, clients)?);
     Ok(())

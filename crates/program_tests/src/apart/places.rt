@@ -47,6 +47,19 @@ pub fn free_places<R: Net<Listener = TcpListener, Stream = TcpStream>>(
     Ok(places)
 }
 
+/// The settings of a site that is alone, and whose clients connect at an address of their own.
+pub fn settings_at(alloc: Global, own: Place, bind: &str) -> Result<SiteSettings, Fail> {
+    let Place {
+        site,
+        clients,
+        peers,
+    } = own;
+    let text = format!(in alloc;
+        "site = {site}\nport = {clients}\nbind = \"{bind}\"\nlisten = \"127.0.0.1:{peers}\"\nconnections = 1\n"
+    )?;
+    Ok(site_settings(alloc, text.as_str())?)
+}
+
 /// The settings of one of the sites, of two heaps, which accepts one connection. The other places are its peers.
 pub fn settings_of(
     alloc: Global,
@@ -86,11 +99,21 @@ pub fn connect<N: Net<Listener = TcpListener, Stream = TcpStream>, R: Clock>(
     rt: &R,
     port: u16,
 ) -> Result<TcpStream, Fail> {
+    let stream = reach(net, rt, SocketAddr::from((LOOPBACK, port))).ok_or("nobody listens")?;
+    Ok(stream)
+}
+
+/// A stream to the address, once somebody listens there.
+pub fn reach<N: Net<Listener = TcpListener, Stream = TcpStream>, R: Clock>(
+    net: &N,
+    rt: &R,
+    address: SocketAddr,
+) -> Option<TcpStream> {
     for _try in 0..2000 {
-        match TcpStream::connect(net, ("127.0.0.1", port)) {
-            Ok(stream) => return Ok(stream),
+        match TcpStream::connect(net, address) {
+            Ok(stream) => return Some(stream),
             Err(_) => thread::sleep(rt, Duration::from_millis(5)),
         }
     }
-    Err("nobody listens".into())
+    None
 }

@@ -25,7 +25,7 @@ enum Row {
 
 use Row::{Down, Up};
 
-const ROWS: [Row; 15] = [
+const ROWS: [Row; 18] = [
     Up("ZRANGE q 3 5", 3, 3),
     Up("ZRANGE q 400 404", 400, 5),
     Up("ZRANGE q 655 -1", 655, 45),
@@ -41,6 +41,9 @@ const ROWS: [Row; 15] = [
     Up("ZRANGE q -inf +inf BYSCORE LIMIT 690 20", 690, 10),
     Down("ZRANGE q 60 (20 BYSCORE REV LIMIT 200 7", 287, 7),
     Down("ZRANGE q +inf 10 BYSCORE REV LIMIT 600 -1", 99, 20),
+    Up("ZRANGE q 690 1000000000000", 690, 10),
+    Down("ZRANGE q 690 1000000000000 REV", 9, 10),
+    Up("ZRANGE q 80 +inf BYSCORE LIMIT 40 1000000000000", 680, 20),
 ];
 
 /// A site's books with the members, which come out of order.

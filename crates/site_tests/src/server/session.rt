@@ -6,7 +6,7 @@ use std::alloc::Global;
 use std::io;
 use std::io::{ErrorKind, Read, Write};
 use zq_resp::{Reply, Request};
-use zq_server::{Answers, End, SessionFault, session, status};
+use zq_server::{Answers, End, Ends, SessionFault, converse, session, status};
 
 // Answers PONG to every request.
 #[derive(Drop)]
@@ -221,4 +221,63 @@ fn requests_before_want_of_memory_are_answered(rt: HostRuntime) {
             assert_eq!(rt; written.as_slice(), b"+PONG\r\n".as_slice());
         }
     }
+}
+
+// What is to be read, a piece a read.
+#[derive(Drop)]
+struct Script<'a> {
+    pieces: &'a [&'a [u8]],
+    asked: usize,
+}
+
+// Notes in one list what is done, in order: a `?` for each read, and the bytes that are written.
+struct Desk;
+
+impl<'a> Ends<Script<'a>, Vec<u8>> for Desk {
+    ghost does = { λ _ _ _. Unit {0} };
+
+    fn hear(
+        &self,
+        reader: &mut Script<'a>,
+        writer: &mut Vec<u8>,
+        buffer: &mut [u8],
+    ) -> Result<usize, SessionFault> {
+        let _ = writer.push(b'?');
+        let Some(piece) = reader.pieces.get(reader.asked) else {
+            return Ok(0);
+        };
+        reader.asked = reader.asked.saturating_add(1);
+        let count = piece.len().min(buffer.len());
+        buffer[..count].copy_from_slice(&piece[..count]);
+        Ok(count)
+    }
+
+    fn say(
+        &self,
+        _reader: &mut Script<'a>,
+        writer: &mut Vec<u8>,
+        bytes: &[u8],
+    ) -> Result<(), SessionFault> {
+        let _ = writer.extend_from_slice(bytes);
+        Ok(())
+    }
+}
+
+#[test]
+fn replies_are_written_before_the_next_read(rt: HostRuntime) {
+    let mut script = Script {
+        pieces: &[
+            b"*1\r\n$4\r\nPING\r\n*1\r\n$4\r\nPI",
+            b"NG\r\n",
+            b"*1\r\n$4\r\nPING\r\n",
+        ],
+        asked: 0,
+    };
+    let mut note = Vec::new(rt.alloc());
+    let end = converse(rt.alloc(), &mut Pong, &Desk, &mut script, &mut note);
+    assert_eq!(rt; end, Ok(End::Clean));
+    assert_eq!(rt;
+        note.as_slice(),
+        b"?+PONG\r\n?+PONG\r\n?+PONG\r\n?".as_slice()
+    );
 }

@@ -3,7 +3,7 @@ ghost use Rattle.zq_node.specs.Node.{IsNode};
 
 use super::making::{frame_of, made};
 use super::nodes::{Has, check_heard, opened};
-use crate::{MOST_PARKED, Node};
+use crate::Node;
 use std::alloc::Global;
 use std::process::Abort;
 use std::sync::Wait;
@@ -106,8 +106,8 @@ fn what_a_heap_had_is_known(rt: HostRuntime) -> Result<(), Fail> {
     check_all(&rt, rt.alloc(), &HEAP_FIRST)
 }
 
-/// All of so many operations but the first, then one more, then the first, then the one more again. As many are parked as
-/// there may be, so that the one more is dropped where it is heard first.
+/// All of so many operations but the first, then one more, then the first, then the one more again. 1,024 are parked, as
+/// many as may be, so that the one more is dropped where it is heard first.
 fn check_crowd<R: Wait + Abort>(
     rt: &R,
     alloc: Global,
@@ -119,7 +119,7 @@ fn check_crowd<R: Wait + Abort>(
     requires node { IsNode node.old }
 {
     let full = Has {
-        parked: MOST_PARKED,
+        parked: 1024,
         members: 0,
         known: 0,
     };
@@ -134,7 +134,7 @@ fn check_crowd<R: Wait + Abort>(
     check_heard(rt, alloc, node, last, taken(1026))
 }
 
-/// The first of as many operations as there may be parked and two more, then those between, and then the last one.
+/// Of 1,026 operations, two more than may be parked: the first, those between, and the last one.
 fn crowd(alloc: Global) -> Result<(Frame, Frame, Frame), Fail> {
     let (_, mut ops) = made(alloc, 1026)?;
     let last = frame_of(alloc, ops.pop().ok_or("an operation")?)?;
@@ -152,4 +152,18 @@ fn a_full_node_drops_one_more_and_takes_the_others_in_the_end(rt: HostRuntime) -
     let (site, pass) = opened(rt.alloc(), number)?;
     let mut node = Node::new(rt.alloc(), &site, number, 2, Rule::High, pass);
     check_crowd(&rt, rt.alloc(), &mut node, &first, &others, &last)
+}
+
+#[test]
+fn a_frame_of_more_than_may_be_parked_is_heard_whole(rt: HostRuntime) -> Result<(), Fail> {
+    let number = SiteNo::new(2).ok_or("a site")?;
+    let (_, ops) = made(rt.alloc(), 2049)?;
+    let (site, pass) = opened(rt.alloc(), number)?;
+    let mut node = Node::new(rt.alloc(), &site, number, 2, Rule::High, pass);
+    let all = Has {
+        parked: 0,
+        members: 2,
+        known: 2049,
+    };
+    check_heard(&rt, rt.alloc(), &mut node, &Frame::Ops(ops), all)
 }

@@ -1,10 +1,12 @@
 //! A request that is not whole yet.
 
-ghost use Rattle.std.specs.Prelude.{◌≡◌, ◌<◌, ◌≤◌, length, IfOk};
+ghost use Rattle.std.specs.Prelude.{◌≡◌, ◌≢◌, ◌<◌, ◌≤◌, ◌++◌, length, IfErr, IfOk};
+ghost use Rattle.zq_resp.specs.declared.fault.FeedFault.TheVariants.{NoMemory};
 ghost use Rattle.zq_resp.specs.declared.reader.partial.Partial.TheVariants as partial;
 ghost use Rattle.zq_resp.specs.Suspended.{IsStep};
 ghost use Rattle.zq_resp.specs.Line.{IsLine};
-ghost use Rattle.zq_resp.specs.Partial.{ByteStep, IsPartial, IsPlain, PartialStep, ReadsAll, in_words};
+ghost use Rattle.zq_resp.specs.Partial.{ByteStep, IsPartial, IsPlain, PartialStep, ReadsAll, in_words, text_so_far};
+ghost use Rattle.zq_resp.specs.Stream.{HasCount};
 
 use crate::fault::FeedFault;
 use crate::reader::line::Line;
@@ -40,6 +42,8 @@ impl Partial {
         requires is { IsPartial self }
         ensures taken { IfOk result (IsStep bytes.now) }
         ensures step { PartialStep self bytes.now result }
+        ensures memory { IfErr result (λ e. e ≡ NoMemory →
+            HasCount (text_so_far self ++ bytes.now)) }
     {
         match self {
             Partial::Start => start(alloc, bytes),
@@ -62,6 +66,8 @@ impl Partial {
         ensures taken { IfOk result (λ x. x.1 ≤ length bytes.now) }
         ensures all { IfOk result (ReadsAll bytes.now) }
         ensures step { PartialStep self bytes.now result }
+        ensures memory { IfErr result (λ e. e ≡ NoMemory →
+            HasCount (text_so_far self ++ bytes.now)) }
     {
         let mut partial = self;
         let mut at = 0;
@@ -82,6 +88,7 @@ fn start(alloc: Global, bytes: &[u8]) -> Result<(Progress<Partial, Vec<Vec<u8>>>
     requires { 0 < length bytes.now }
     ensures taken { IfOk result (IsStep bytes.now) }
     ensures step { PartialStep partial.Start bytes.now result }
+    ensures memory { IfErr result (λ e. e ≢ NoMemory) }
 {
     if let Some(count) = short_count(bytes) {
         return Ok((with_words(Words::new(alloc, count)), 4));

@@ -7,6 +7,7 @@ ghost use Rattle.zq_resp.specs.Grammar.{request_at};
 ghost use Rattle.zq_resp.specs.Request.{AreWords, IsWord};
 ghost use Rattle.zq_resp.specs.Suspended.{IsStep, views};
 ghost use Rattle.zq_resp.specs.Spelling.{number_line, word_text};
+ghost use Rattle.zq_resp.specs.Stream.{HasCount};
 
 use crate::fault::FeedFault;
 use crate::reader::spent::Spent;
@@ -23,12 +24,14 @@ pub fn short_request(
     ensures taken { IfOk result (λ found. IfSome found (IsStep bytes.now)) }
     ensures words { IfOk result (λ found. IfSome found (λ x. AreWords (views x.0))) }
     ensures read { IfOk result (λ found. IfSome found (λ x. request_at bytes.now ≡ Got (views x.0, drop x.1 bytes.now))) }
-    ensures memory { IfErr result (λ e. e ≡ NoMemory) }
+    ensures memory { IfErr result (λ e. (e ≡ NoMemory) × HasCount bytes.now) }
 {
-    let count = match short_count(bytes) {
-        None | Some(0) => return Ok(None),
-        Some(count) => count,
+    let Some(count) = short_count(bytes) else {
+        return Ok(None);
     };
+    if count == 0 {
+        return Ok(None);
+    }
     let mut words = match spent.take(count) {
         Some(words) => words,
         None => Vec::with_capacity(alloc, count)?,

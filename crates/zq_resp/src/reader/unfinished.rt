@@ -1,11 +1,11 @@
 //! A request that is not whole yet, with its size, and the requests that a piece ends.
 
-ghost use Rattle.std.specs.Prelude.{◌≡◌, ◌<◌, ◌++◌, ◌∷◌, [], length, Some, IfOk, OnOk, OnErr, IfErr};
+ghost use Rattle.std.specs.Prelude.{◌≡◌, ◌≢◌, ◌<◌, ◌++◌, ◌∷◌, [], length, Some, IfOk, OnOk, OnErr, IfErr};
 ghost use Rattle.zq_resp.specs.Request.{AreWords};
 ghost use Rattle.zq_resp.specs.Suspended.{IsStep, views};
 ghost use Rattle.zq_resp.specs.Partial.{text_so_far};
 ghost use Rattle.zq_resp.specs.Unfinished.{PieceGives, Stands, UnfinishedStep};
-ghost use Rattle.zq_resp.specs.Stream.{handed, is_inside, listed};
+ghost use Rattle.zq_resp.specs.Stream.{HasCount, handed, is_inside, listed};
 
 use crate::fault::FeedFault;
 use crate::reader::partial::Partial;
@@ -55,6 +55,8 @@ impl Unfinished {
         requires stands { Stands self }
         ensures taken { IfOk result (IsStep bytes.now) }
         ensures step { UnfinishedStep self bytes.now result }
+        ensures memory { IfErr result (λ e. e ≡ FeedFault.NoMemory →
+            HasCount (text_so_far self.partial ++ bytes.now)) }
     {
         let near = bytes.len().min(LONGEST_REQUEST - self.size);
         let (progress, taken) = self.partial.read(alloc, &bytes[..near])?;
@@ -111,7 +113,7 @@ fn hand_out(requests: &mut Vec<Request>, words: Vec<Vec<u8>>) -> Result<(), Feed
     requires { AreWords (views words) }
     ensures ok { OnOk result (requests.new.items ≡ requests.old.items ++ handed (views words ∷ [])) }
     ensures err { OnErr result (requests.new.items ≡ requests.old.items) }
-    ensures memory { IfErr result (λ e. e ≡ FeedFault.NoMemory) }
+    ensures memory { IfErr result (λ e. (e ≡ FeedFault.NoMemory) × (views words ≢ [])) }
 {
     if let Some(request) = request_of(words) {
         requests.push(request)?;

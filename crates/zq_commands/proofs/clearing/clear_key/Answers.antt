@@ -1,8 +1,7 @@
 use Rattle.std.proofs.Common.{Err, None, Ok, Some, ap, arith, refl, subst, sym, ◌+◌, ◌-◌}
-use Rattle.zq_commands.proofs.ClearedKeys.{cleared_cut, cleared_out, dropped_first, dropped_next}
+use Rattle.zq_commands.proofs.ClearedKeys.{cleared_cut, cleared_last, cleared_out, dropped_first, dropped_next}
 use Rattle.zq_commands.specs.Clearing.{Clears}
 use Rattle.zq_commands.specs.declared.cleared.Cleared.{Cleared}
-use Rattle.zq_commands.specs.declared.cut.Cut.TheVariants.{NoMemory}
 use Rattle.zq_commands.proofs.clearing.clear_key.Goals as goal
 
 pub loop-done-init : goal.loop-done-init
@@ -45,12 +44,12 @@ returns-in-Err-clause-cleared g c =
     let cleared : Cleared = record { done = c.loop-done.done; cut = Some c.in-Err.cut } in
     subst (λ u. Clears c.args.site c.args.stamp c.args.key.now c.args.before s u cleared) (sym c.in-Err.ensures.refused)
     (cleared_cut c.args.site c.args.stamp c.args.key.now s (g.B.Books.lent c.loop-done.books) c.args.before (c.loop-done.done - c.args.before) c.loop-done.invariant.dropped
-    cleared (omega (arith, low)) c.in-Err.cut refl (λ e. c.in-Err.ensures.worn (ap (λ cut. Err cut) e)))
+    cleared (omega (arith, low)) c.in-Err.cut refl (λ e. c.in-Err.ensures.worn (ap (λ cut. Err cut) e)) c.in-Err.ensures.there)
 
 pub returns-clause-cleared : goal.returns-clause-cleared
 returns-clause-cleared g c =
     let s = g.B.Books.lent c.args.books.now in
     let low = c.loop-done.invariant.low in
-    let cleared : Cleared = record { done = c.loop-done.done; cut = Some NoMemory } in
-    cleared_cut c.args.site c.args.stamp c.args.key.now s (g.B.Books.lent c.loop-done.books) c.args.before (c.loop-done.done - c.args.before) c.loop-done.invariant.dropped
-    cleared (omega (arith, low)) NoMemory refl (λ e. absurd (cc))
+    let cleared : Cleared = record { done = c.loop-done.done; cut = c.cut_at_last.result } in
+    cleared_last c.args.site c.args.stamp c.args.key.now s (g.B.Books.lent c.loop-done.books) c.args.before (c.loop-done.done - c.args.before) c.loop-done.invariant.dropped
+    cleared (omega (arith, low)) c.cut_at_last.ensures.none c.cut_at_last.ensures.some c.cut_at_last.ensures.there

@@ -1,4 +1,4 @@
-use Rattle.std.proofs.Common.{[], arith, false, length, subst, ◌≡◌}
+use Rattle.std.proofs.Common.{[], arith, length, subst, ◌≡◌}
 use Rattle.std.proofs.lemmas.List.{length-map}
 use Rattle.std.proofs.lemmas.List.Elements.{All-get_or}
 use Rattle.std.proofs.lemmas.Option.{get_or_from_slice_get}
@@ -7,6 +7,7 @@ use Rattle.zq_commands.proofs.InTurn.{StandsAfter}
 use Rattle.zq_commands.proofs.RanPlans.{ran_whole}
 use Rattle.zq_commands.proofs.WordsAt.{word_at}
 use Rattle.zq_plans.specs.Plan.{del_part}
+use Rattle.zq_plans.specs.Run.{ForCopies}
 use Rattle.zq_words.specs.Limits.{IsShort}
 use Rattle.zq_words.specs.Words.{views}
 use Rattle.zq_commands.proofs.clearing.clear_keys.Goals as goal
@@ -50,6 +51,6 @@ pub returns-clause-ran : goal.returns-clause-ran
 returns-clause-ran g c =
     let words = c.args.keys.now in
     let all : c.loop-key.key-index ≡ length (views words) = omega (arith, c.loop-key-test.false, c.loop-key.auto.key-index-end, length-map words (λ w. w.items)) in
-    ran_whole del_part c.args.site c.args.stamp (views words) (g.B.Books.lent c.args.books.now) (g.B.Books.lent c.loop-key.books) c.loop-key.counted c.loop-key.done false
+    ran_whole del_part c.args.site c.args.stamp (views words) (g.B.Books.lent c.args.books.now) (g.B.Books.lent c.loop-key.books) c.loop-key.counted c.loop-key.done ForCopies
     (subst (λ n. StandsAfter del_part c.args.site c.args.stamp (views words) n (g.B.Books.lent c.args.books.now) (g.B.Books.lent c.loop-key.books) c.loop-key.counted c.loop-key.done) all c.loop-key.invariant.stands)
     _ c.count_reply.ensures.bytes

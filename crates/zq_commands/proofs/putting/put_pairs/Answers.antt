@@ -7,6 +7,7 @@ use Rattle.zq_commands.proofs.InTurn.{StandsAfter, stands_next}
 use Rattle.zq_commands.proofs.RanPlans.{ran_cut, ran_whole}
 use Rattle.zq_commands.specs.Lending.{HasBook}
 use Rattle.zq_plans.specs.Plan.{zadd_part}
+use Rattle.zq_plans.specs.Run.{ForMoves}
 use Rattle.zq_words.specs.Limits.{IsPair}
 use Rattle.zq_words.specs.Shown.{pair_shown}
 use Rattle.zq_words.specs.declared.pair.Pair.{Pair}
@@ -66,7 +67,7 @@ pub returns-clause-ran : goal.returns-clause-ran
 returns-clause-ran g c =
     let pairs = c.args.pairs.now in
     let all : c.loop-pair.pair-index ≡ length (map pair_shown pairs) = omega (arith, c.loop-pair-test.false, c.loop-pair.auto.pair-index-end, length-map pairs pair_shown) in
-    ran_whole (zadd_part c.args.key.now c.args.flags) c.args.site c.args.stamp (map pair_shown pairs) (g.B.Books.lent c.args.books.now) (g.B.Books.lent c.loop-pair.books) c.loop-pair.counted c.loop-pair.done true
+    ran_whole (zadd_part c.args.key.now c.args.flags) c.args.site c.args.stamp (map pair_shown pairs) (g.B.Books.lent c.args.books.now) (g.B.Books.lent c.loop-pair.books) c.loop-pair.counted c.loop-pair.done ForMoves
     (subst (λ n. StandsAfter (zadd_part c.args.key.now c.args.flags) c.args.site c.args.stamp (map pair_shown pairs) n (g.B.Books.lent c.args.books.now) (g.B.Books.lent c.loop-pair.books) c.loop-pair.counted c.loop-pair.done) all c.loop-pair.invariant.stands)
     _ c.count_reply.ensures.bytes
 

@@ -8,6 +8,7 @@ use Rattle.zq_commands.proofs.RanPlans.{ran_cut, ran_whole}
 use Rattle.zq_commands.proofs.WordsAt.{word_at}
 use Rattle.zq_commands.specs.Lending.{HasBook}
 use Rattle.zq_plans.specs.Plan.{zrem_part}
+use Rattle.zq_plans.specs.Run.{ForMoves}
 use Rattle.zq_words.specs.Limits.{IsShort}
 use Rattle.zq_words.specs.Words.{views}
 use Rattle.zq_commands.proofs.removing.drop_members.Goals as goal
@@ -61,7 +62,7 @@ pub returns-clause-ran : goal.returns-clause-ran
 returns-clause-ran g c =
     let words = c.args.members.now in
     let all : c.loop-member.member-index ≡ length (views words) = omega (arith, c.loop-member-test.false, c.loop-member.auto.member-index-end, length-map words (λ w. w.items)) in
-    ran_whole (zrem_part c.args.key.now) c.args.site c.args.stamp (views words) (g.B.Books.lent c.args.books.now) (g.B.Books.lent c.loop-member.books) c.loop-member.removed c.loop-member.removed true
+    ran_whole (zrem_part c.args.key.now) c.args.site c.args.stamp (views words) (g.B.Books.lent c.args.books.now) (g.B.Books.lent c.loop-member.books) c.loop-member.removed c.loop-member.removed ForMoves
     (subst (λ n. StandsAfter (zrem_part c.args.key.now) c.args.site c.args.stamp (views words) n (g.B.Books.lent c.args.books.now) (g.B.Books.lent c.loop-member.books) c.loop-member.removed c.loop-member.removed) all c.loop-member.invariant.stands)
     _ c.count_reply.ensures.bytes
 

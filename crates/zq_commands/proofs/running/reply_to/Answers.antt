@@ -1,12 +1,10 @@
-use Rattle.std.proofs.Common.{All, Some, arith, false, map, refl, rules, subst, sym, true, ◌≡◌}
-use Rattle.std.proofs.lemmas.Int.{to_z-of_z}
-use Rattle.zq_commands.proofs.RanPlans.{ends_whole, ran_read}
+use Rattle.std.proofs.Common.{All, map, refl, rules, subst, sym, true, ◌≡◌}
+use Rattle.zq_commands.proofs.RanPlans.{ran_read}
 use Rattle.zq_commands.specs.Commands.{HasBooks, IsRunOver, is_reading}
 use Rattle.zq_commands.specs.Lending.{HasBook, queues_in}
-use Rattle.zq_commands.specs.Running.{EndsOver, RunsOver}
+use Rattle.zq_commands.specs.Running.{RunsOver}
 use Rattle.zq_plans.specs.Plan as plan
-use Rattle.zq_plans.specs.Ranges.{from_zero}
-use Rattle.zq_plans.specs.Run.{cut_error, cut_pop}
+use Rattle.zq_plans.specs.Run.{ForMoves, cut_error}
 use Rattle.zq_resp.specs.Reply.{reply_bytes}
 use Rattle.zq_words.specs.Shown.{pair_shown, shown}
 use Rattle.zq_commands.proofs.running.reply_to.Goals as goal
@@ -30,7 +28,7 @@ returns-in-Zadd-clause-ran g c =
     let old = g.B.Books.lent c.args.books.now in
     let new = g.B.Books.lent c.put_pairs.new.books in
     subst (λ kind. IsRunOver c.args.site c.args.stamp (shown kind) old new (reply_bytes c.put_pairs.result) true) (sym c.in-Zadd.is)
-    (subst (λ pairs. RunsOver c.args.site c.args.stamp true (plan.in_turn (plan.zadd_part c.in-Zadd.key.now c.in-Zadd.flags) (map pair_shown pairs) (queues_in old)) cut_error old new (reply_bytes c.put_pairs.result))
+    (subst (λ pairs. RunsOver c.args.site c.args.stamp ForMoves (plan.in_turn (plan.zadd_part c.in-Zadd.key.now c.in-Zadd.flags) (map pair_shown pairs) (queues_in old)) cut_error old new (reply_bytes c.put_pairs.result))
     c.as_slice.ensures c.put_pairs.ensures.ran)
 
 pub returns-in-ZaddIncr-clause-ran : goal.returns-in-ZaddIncr-clause-ran
@@ -52,22 +50,6 @@ pub returns-in-Del-clause-ran : goal.returns-in-Del-clause-ran
 returns-in-Del-clause-ran g c =
     subst (λ kind. IsRunOver c.args.site c.args.stamp (shown kind) (g.B.Books.lent c.args.books.now) (g.B.Books.lent c.clear_keys.new.books) (reply_bytes c.clear_keys.result) true) (sym c.in-Del.is)
     c.clear_keys.ensures.ran
-
-pub returns-in-Zpopnear-clause-ran : goal.returns-in-Zpopnear-clause-ran
-returns-in-Zpopnear-clause-ran g c =
-    subst (λ kind. IsRunOver c.args.site c.args.stamp (shown kind) (g.B.Books.lent c.args.books.now) (g.B.Books.lent c.pop-in-Zpopnear.new.books) (reply_bytes c.pop-in-Zpopnear.result.reply) true)
-    (sym c.in-Zpopnear.is) (ends_whole c.args.site c.args.stamp _ _ _ _ _ _ _ c.pop-in-Zpopnear.ensures.ran)
-
-pub returns-in-Zpopmin-clause-ran : goal.returns-in-Zpopmin-clause-ran
-returns-in-Zpopmin-clause-ran g c =
-    let old = g.B.Books.lent c.args.books.now in
-    let new = g.B.Books.lent c.pop.new.books in
-    let key = c.in-Zpopmin.key.now in
-    let ran = c.pop.result in
-    let same : c.from_zero-count.result ≡ from_zero c.in-Zpopmin.count = grind (arith, to_z-of_z, c.from_zero-count.ensures.value) in
-    subst (λ kind. IsRunOver c.args.site c.args.stamp (shown kind) old new (reply_bytes ran.reply) true) (sym c.in-Zpopmin.is)
-    (ends_whole c.args.site c.args.stamp _ _ _ _ _ _ _
-    (subst (λ n. EndsOver c.args.site c.args.stamp false (plan.pop key n (queues_in old)) (cut_pop (Some (key, n)) (queues_in old)) old new (reply_bytes ran.reply) ran.is_short) same c.pop.ensures.ran))
 
 pub returns-in_default-clause-ran : goal.returns-in_default-clause-ran
 returns-in_default-clause-ran g c =

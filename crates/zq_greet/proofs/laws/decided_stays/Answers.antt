@@ -1,4 +1,4 @@
-use Rattle.zq_greet.proofs.Stays.{refusal_stays, welcome_stays}
+use Rattle.zq_greet.proofs.Stays.{answer_stays, refusal_stays, welcome_stays}
 use Rattle.zq_greet.proofs.laws.decided_stays.Goals as goal
 
 pub returns-clause-welcome : goal.returns-clause-welcome
@@ -6,3 +6,6 @@ returns-clause-welcome c = welcome_stays
 
 pub returns-clause-refusal : goal.returns-clause-refusal
 returns-clause-refusal c = refusal_stays
+
+pub returns-clause-answer : goal.returns-clause-answer
+returns-clause-answer c = answer_stays

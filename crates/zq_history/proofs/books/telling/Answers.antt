@@ -15,8 +15,8 @@ use Rattle.zq_history.proofs.books.telling.Goals as goal
 -- the operations of a book's tail are a tail over the set of its base
 tail_is : (K : ℕ) (b : Book) (S : List Operation) → IsBook b → IsWorld K (tail_set S (operations_of b.tail)) → IsClosed S → b.base ≡ image_of S b.heap → IsTail b.heap S (operations_of b.tail)
 tail_is K b S is world closed base =
-    new_is_tail K b.heap S (operations_of b.tail) world closed (records_of_heap b.heap b.tail b.base is.steps)
-    (rw (sym base) (records_are_new b.heap b.tail b.base is.steps))
+    new_is_tail K b.heap S (operations_of b.tail) world closed (records_of_heap b.heaps b.heap b.tail b.base is.steps)
+    (rw (sym base) (records_are_new b.heaps b.heap b.tail b.base is.steps))
 
 state_is : (K : ℕ) (b : Book) (S : List Operation) → IsBook b → IsWorld K (tail_set S (operations_of b.tail)) → IsClosed S → b.base ≡ image_of S b.heap → b.state ≡ image_of (tail_set S (operations_of b.tail)) b.heap
 state_is K b S is world closed base =

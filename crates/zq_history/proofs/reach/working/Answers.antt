@@ -1,10 +1,12 @@
-use Rattle.std.proofs.Common.{arith, eq-eqb, refl}
+use Rattle.std.proofs.Common.{ap, arith, eq-eqb, refl, sym, ◌∙◌}
 use Rattle.std.proofs.lemmas.List.{length-append}
 use Rattle.std.proofs.lemmas.List.Folds.{list_all-append}
-use Rattle.std.specs.Prelude.{List, [], drop, true, ℕ, ◌==◌, ◌∷◌, ◌≡◌}
+use Rattle.std.specs.Prelude.{List, [], length, true, ℕ, ◌==◌, ◌∷◌, ◌≡◌}
 use Rattle.zq_history.proofs.Steps.{are_steps_over-append, steps_image-append}
-use Rattle.zq_history.proofs.Tails.{tail_after-append}
-use Rattle.zq_history.specs.Books.{Merged, Recorded, Step, stamp_of}
+use Rattle.zq_history.proofs.Works.{after_steps-append}
+use Rattle.zq_history.specs.Books.{Merged, Recorded, Step, merged, recorded, stamp_of}
+use Rattle.zq_history.specs.Reach.{begun}
+use Rattle.zq_model.specs.Sets.{SITES}
 use Rattle.zq_history.proofs.reach.working.Goals as goal
 
 same_stamp : (stamp : ℕ) → (stamp == stamp) ≡ true
@@ -17,29 +19,47 @@ returns-clause-records k = λ b a stamp steps c is over.
       heap = is.heap;
       heaps = is.heaps;
       rule = is.rule;
-      legal = are_steps_over-append a.heap steps last a.state is.legal (rw (← is.heap, ← is.state, over) refl);
+      limits = is.limits;
+      handed = is.handed;
+      legal = are_steps_over-append a.heaps a.heap steps last a.state is.legal (rw (← is.heap, ← is.heaps, ← is.state, over) refl);
       state = rw (is.state, steps_image-append steps last a.state) refl;
       own = rw (list_all-append (λ s. stamp_of s == stamp) steps last, is.own, same_stamp stamp) refl;
       stamp_is = refl;
       count = omega (arith, is.count, length-append steps last);
-      cut = is.cut;
-      most = is.most;
-      tail = rw (is.tail, tail_after-append (drop is.cut a.tail) steps last) refl;
+      is = ap (λ d. recorded d stamp c) is.is ∙ sym (after_steps-append steps last (begun stamp a));
     }
 
 pub returns-clause-merges : goal.returns-clause-merges
-returns-clause-merges k = λ b a stamp steps other is.
+returns-clause-merges k = λ b a stamp steps other is wide.
     let last : List Step = Merged stamp other ∷ [] in
     record {
       heap = is.heap;
       heaps = is.heaps;
       rule = is.rule;
-      legal = are_steps_over-append a.heap steps last a.state is.legal refl;
+      limits = is.limits;
+      handed = is.handed;
+      legal = are_steps_over-append a.heaps a.heap steps last a.state is.legal (rw (← is.state, eq-eqb (length b.state.vector) SITES wide) refl);
       state = rw (is.state, steps_image-append steps last a.state) refl;
       own = rw (list_all-append (λ s. stamp_of s == stamp) steps last, is.own, same_stamp stamp) refl;
       stamp_is = refl;
       count = omega (arith, is.count, length-append steps last);
-      cut = is.cut;
-      most = is.most;
-      tail = rw (tail_after-append (drop is.cut a.tail) steps last) refl;
+      is = ap (λ d. merged d stamp other) is.is ∙ sym (after_steps-append steps last (begun stamp a));
     }
+
+pub returns-clause-starts : goal.returns-clause-starts
+returns-clause-starts k = λ a stamp. record {
+  heap = refl;
+  heaps = refl;
+  rule = refl;
+  limits = refl;
+  handed = refl;
+  legal = refl;
+  state = refl;
+  own = refl;
+  stamp_is = refl;
+  count = omega arith;
+  is = refl;
+}
+
+pub returns-clause-leaves : goal.returns-clause-leaves
+returns-clause-leaves k = λ b a stamp steps is. is.is

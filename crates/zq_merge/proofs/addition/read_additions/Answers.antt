@@ -1,7 +1,7 @@
 use Rattle.std.proofs.Common.{arith, inl, inr}
 use Rattle.std.proofs.lemmas.Result.{err_from_is_err_and}
-use Rattle.zq_merge.proofs.AdditionLists.{added_fails, added_more}
-use Rattle.zq_merge.proofs.Repeated.{read_done}
+use Rattle.zq_merge.proofs.AdditionLists.{added_fails, added_more, added_none, added_refused}
+use Rattle.zq_merge.proofs.Repeated.{is_read, read_done}
 use Rattle.zq_merge.proofs.RisingSites.{rising_wider}
 use Rattle.zq_merge.specs.Fields.{later_addition_at}
 use Rattle.zq_merge.specs.Spelling.{addition_bytes}
@@ -26,3 +26,16 @@ returns-clause-exact c =
 
 pub returns-clause-rising : goal.returns-clause-rising
 returns-clause-rising c = rising_wider 0 c.loop-number.low SITES c.loop-number.additions.items c.loop-number.invariant.low_within c.loop-number.invariant.rising
+
+pub loop-number-init : goal.loop-number-init
+loop-number-init c = rw c.new-additions.ensures.items (added_none c.args.version c.args.whole c.args.vector.now c.args.count c.args.bytes.now.now)
+
+pub returns-in_err-push-clause-memory : goal.returns-in_err-push-clause-memory
+returns-in_err-push-clause-memory c =
+    let p = err_from_is_err_and c.from_residual-in_err-push.result c.from_residual-in_err-push.ensures.1 in
+    rw (p.1, p.2) (λ none. added_refused c.args.version c.args.whole c.args.vector.now c.args.count c.loop-number._number c.loop-number.low c.args.bytes.now.now c.loop-number.bytes.now c.loop-number.additions.items (omega arith) (inr (is_read _ _ c.in_ok-addition.ensures.exact)) c.loop-number.invariant)
+
+pub returns-in_err-addition-clause-memory : goal.returns-in_err-addition-clause-memory
+returns-in_err-addition-clause-memory c =
+    let p = err_from_is_err_and c.from_residual.result c.from_residual.ensures.1 in
+    rw (p.1, p.2) (λ none. added_refused c.args.version c.args.whole c.args.vector.now c.args.count c.loop-number._number c.loop-number.low c.args.bytes.now.now c.loop-number.bytes.now c.loop-number.additions.items (omega arith) (inl (c.in_err-addition.ensures.memory none)) c.loop-number.invariant)

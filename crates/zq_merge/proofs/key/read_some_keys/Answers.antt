@@ -1,6 +1,7 @@
 use Rattle.std.proofs.Common.{arith, inl, inr, option_map, subst, sym, None, Some, [], ◌+◌, ◌++◌, ◌∷◌}
 use Rattle.std.proofs.lemmas.Result.{err_from_is_err_and}
 use Rattle.zq_merge.proofs.BuiltStates.{AreKeysTo, built_keys, built_none, keys_fail, keys_none, keys_step}
+use Rattle.zq_merge.proofs.RefusedMembers.{keys_refused}
 use Rattle.zq_merge.proofs.Repeated.{read_done}
 use Rattle.zq_merge.specs.Built.{keys_of, members_since}
 use Rattle.zq_merge.specs.Fields.{later_key_at}
@@ -40,3 +41,8 @@ loop-number-preserved c =
 pub returns-clause-exact : goal.returns-clause-exact
 returns-clause-exact c =
     read_done (later_key_at c.args.version c.args.whole (frame_of c.args.frame.now)) (key_bytes c.args.version) c.args.count c.loop-number._number c.args.bytes.now.now c.loop-number.bytes.now (keys_of c.loop-number.shard) (omega arith) c.loop-number.invariant.read
+
+pub returns-in_err-key-clause-memory : goal.returns-in_err-key-clause-memory
+returns-in_err-key-clause-memory c =
+    let p = err_from_is_err_and c.from_residual.result c.from_residual.ensures.1 in
+    rw (p.1, p.2) (λ none. keys_refused c.args.version c.args.whole (frame_of c.args.frame.now) c.args.count c.loop-number._number c.args.bytes.now.now c.loop-number.bytes.now (option_map (λ b. b.now) c.loop-number.before) (keys_of c.loop-number.shard) c.loop-number.shard (omega arith) (c.in_err-key.ensures.memory none) c.loop-number.invariant)

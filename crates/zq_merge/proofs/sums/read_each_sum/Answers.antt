@@ -6,7 +6,7 @@ use Rattle.std.specs.Prelude.{pos, slice_index}
 use Rattle.zq_entry.proofs.SumLemmas.{sum-fits}
 use Rattle.zq_dots.proofs.Counters.{sites_is}
 use Rattle.zq_entry.specs.Sums.{IsSum, MOST_SUM}
-use Rattle.zq_merge.proofs.SumLists.{first_fails, first_found, first_more, first_none, first_read, sums_are}
+use Rattle.zq_merge.proofs.SumLists.{first_fails, first_found, first_more, first_none, first_read, first_refused, sums_are}
 use Rattle.zq_merge.specs.Reading.{sum_in}
 use Rattle.zq_model.proofs.Bounds.{within_more}
 use Rattle.zq_model.specs.Operation.{IsWithin, MOST}
@@ -40,3 +40,12 @@ returns-clause-found c =
 
 pub returns-clause-sums : goal.returns-clause-sums
 returns-clause-sums c = sums_are c.args.vector.now c.loop-number.number c.loop-number.sums.items (omega (arith, sites_is)) c.loop-number.invariant.sums
+
+pub loop-number-init : goal.loop-number-init
+loop-number-init c = rw c.new-sums.ensures.items (first_none c.args.vector.now c.args.bytes.now.now)
+
+pub returns-in_err-push_sum-clause-memory : goal.returns-in_err-push_sum-clause-memory
+returns-in_err-push_sum-clause-memory c =
+    let p = err_from_is_err_and c.from_residual-in_err-push_sum.result c.from_residual-in_err-push_sum.ensures.1 in
+    let limited : c.most.result ≡ MOST * slice_index c.args.vector.now c.loop-number.number = c.most.ensures.exact ∙ ap (λ s. MOST * slice_index c.args.vector.now s) c.site_of-site.ensures in
+    rw (p.1, p.2) (λ none. first_refused c.args.vector.now c.loop-number.number c.in_ok-sum.sum c.args.bytes.now.now c.loop-number.bytes.now c.read_sum.new.bytes.now c.loop-number.sums.items (omega (arith, dense_sites_is)) (ap (λ n. sum_in n c.loop-number.bytes.now) (sym limited) ∙ c.in_ok-sum.ensures.exact) c.loop-number.invariant)

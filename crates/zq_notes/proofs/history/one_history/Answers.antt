@@ -1,12 +1,14 @@
-use Rattle.zq_notes.proofs.OneThread.{one_thread, one_thread-swap, ordered-swap}
+use Rattle.zq_notes.proofs.OneThread.{left_by_all-swap, one_thread, one_thread-swap, ordered-swap}
 use Rattle.zq_notes.proofs.history.one_history.Goals as goal
-use Rattle.zq_notes.specs.Notes.{IsDone}
 
 pub returns-clause-one : goal.returns-clause-one
-returns-clause-one g c = λ does opening notes over. one_thread (IsDone does) opening notes over
+returns-clause-one c = one_thread
 
 pub returns-clause-swaps : goal.returns-clause-swaps
-returns-clause-swaps g c = λ does opening front n m rest same in_order all. one_thread-swap (IsDone does) opening front n m rest same in_order all
+returns-clause-swaps c = one_thread-swap
 
 pub returns-clause-ordered : goal.returns-clause-ordered
-returns-clause-ordered g c = ordered-swap
+returns-clause-ordered c = ordered-swap
+
+pub returns-clause-leaves : goal.returns-clause-leaves
+returns-clause-leaves c = λ opening front n m rest same in_order. left_by_all-swap front n m rest opening same in_order

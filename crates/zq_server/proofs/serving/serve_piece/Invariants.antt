@@ -9,7 +9,7 @@ invariant-loop-at g l =
     (l.at ≤ length l.piece)
     × ((had : List ℕ) → l.initial.input ≡ Some had → (bytes : List ℕ)
     × ServesPiece g.A.Answers.answers l.initial.answerer l.answerer had (take l.at l.piece) l.input bytes (Ok More)
-    × Gathers (held (g.W.Write.contents l.initial.writer) l.initial.out.items) (held (g.W.Write.contents l.writer) l.out.items) bytes)
+    × Gathers g.E.Ends.does (held (l.initial.reader, l.initial.writer) l.initial.out.items) (held (l.reader, l.writer) l.out.items) bytes)
 
 abbrev pub decreases-loop-at : goal.decreases-loop-at
 decreases-loop-at g l = length l.piece - l.at

@@ -1,7 +1,14 @@
-use Rattle.std.proofs.Common.{[]}
-use Rattle.zq_server.proofs.KnownBytes.{appends-none, consumes-none}
-use Rattle.zq_server.proofs.Served.{serves-nothing}
+use Rattle.zq_server.proofs.Conversations.{read-write-at-end, read-write-served}
 use Rattle.zq_server.proofs.stream.session.Goals as goal
 
-pub returns-in_default-clause-serves : goal.returns-in_default-clause-serves
-returns-in_default-clause-serves g c = ([], [], consumes-none _, appends-none _, serves-nothing g.A.Answers.answers _)
+pub returns-clause-serves : goal.returns-clause-serves
+returns-clause-serves g c =
+    let first : g.row.R.Denot × g.row.W.Denot = (c.args.reader.now, c.args.writer.now) in
+    let last : g.row.R.Denot × g.row.W.Denot = (c.converse.new.reader, c.converse.new.writer) in
+    read-write-served g.R.Read.remaining g.W.Write.contents g.A.Answers.answers first last c.args.answerer.now c.converse.new.answerer c.converse.result c.converse.ensures
+
+pub returns-clause-read_off : goal.returns-clause-read_off
+returns-clause-read_off g c =
+    let first : g.row.R.Denot × g.row.W.Denot = (c.args.reader.now, c.args.writer.now) in
+    let last : g.row.R.Denot × g.row.W.Denot = (c.converse.new.reader, c.converse.new.writer) in
+    read-write-at-end g.R.Read.remaining g.W.Write.contents g.A.Answers.answers first last c.args.answerer.now c.converse.new.answerer c.converse.result c.converse.ensures

@@ -13,6 +13,7 @@ use Rattle.zq_runs.specs.Events.{set_at}
 use Rattle.zq_runs.specs.Runs.{run}
 use Rattle.zq_dots.specs.Placed.{IsRanged}
 use Rattle.zq_world.specs.Frames.{heap_at, placed}
+use Rattle.zq_world.proofs.FewRows.{few_rows}
 use Rattle.zq_world.proofs.frames.carrying.Goals as goal
 
 pub returns-clause-operations : goal.returns-clause-operations
@@ -34,10 +35,10 @@ returns-clause-operations c rule K sites events is o i =
     ap found_at (sym (append-nil (op_spelling delta.Two (placed K o)))) ∙ found_again delta.Two (placed K o) [] ranged (its.site, tt)
 
 pub returns-clause-images : goal.returns-clause-images
-returns-clause-images c rule K sites events is moment site heap below few =
+returns-clause-images c rule K sites events is moment site heap below =
     let kept = kept_always rule K sites events is in
     let S = set_at (run rule K events) moment site in
     state_again merge.Three (heap_at rule K S heap) (record {
       kept = record { heaps = is.heaps; heap = below; bounded = bounded_set K S heap (world_at rule K sites events is moment site) (λ o i. kept.short o (within_at rule K sites events is moment site o i)) };
-      few = few;
+      few = few_rows K S heap (world_at rule K sites events is moment site);
     }) (tt, tt)

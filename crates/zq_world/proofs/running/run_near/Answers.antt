@@ -8,7 +8,7 @@ use Rattle.zq_history.specs.Books.{Book}
 use Rattle.zq_model.specs.Sets.{IsIn}
 use Rattle.zq_moves.proofs.Read.{in_place}
 use Rattle.zq_plans.specs.Plan.{plan_of}
-use Rattle.zq_plans.specs.Run.{cut_reply, is_strict}
+use Rattle.zq_plans.specs.Run.{cut_reply, takes_of}
 use Rattle.zq_resp.specs.Reply.{reply_bytes}
 use Rattle.zq_world.proofs.RanBooks.{number_left}
 use Rattle.zq_world.specs.Told.{KeepsHeaps, lending_told}
@@ -38,7 +38,7 @@ run_over-requires-clause-dated c =
 one_left : (c : After-pop) → c.push_reserved.new.self.items ≡ c.index_mut.result.now ∷ [] → length c.in_ok-left.left.books.items ≡ 1
 one_left c before =
     let lent = lending_told c.push_reserved.new.self.items c.args.made.items in
-    number_left c.args.site c.args.stamp (is_strict c.args.command.now) (plan_of c.args.command.now (queues_in lent)) (cut_reply c.args.command.now (queues_in lent)) lent
+    number_left c.args.site c.args.stamp (takes_of c.args.command.now (queues_in lent)) (plan_of c.args.command.now (queues_in lent)) (cut_reply c.args.command.now (queues_in lent)) lent
     (lending_told c.in_ok-left.left.books.items c.in_ok-left.left.made.items) (reply_bytes c.in_ok-left.left.reply) false c.in_ok-left.ensures.ran.run
     ∙ ap length before
 

@@ -1,6 +1,7 @@
 use Rattle.std.proofs.Common.{List, [], ap, arith, drop, length, refl, subst, sym, take, ℕ, ◌∙◌, ◌≡◌}
 use Rattle.zq_history.specs.Books.{Book, advanced, replayed}
 use Rattle.zq_history.specs.Reach.{IsReachedBy}
+use Rattle.zq_journal.specs.Limits.{limits_of}
 use Rattle.zq_journal.proofs.CutOff.{IsMoved, cut_is, cut_stands}
 use Rattle.zq_journal.proofs.Lasts.{length_tail}
 use Rattle.zq_journal.proofs.Wholes.{dropped_over, taken_over, vector_after}
@@ -47,13 +48,13 @@ left_is c =
 pub invariant_of-self : goal.invariant_of-self
 invariant_of-self c =
     let left : List Record = records_in c.self.inside.shard c.move_over.new.vector c.drop-drain.new.self.0.items in
-    cut_stands c.args.records c.self.inside.shard c.self.inside.vector c.move_over.new.vector (records_of c.self.inside) left c.self.inside.stamp c.self.inside.count c.self.invariant
+    cut_stands c.args.records c.self.inside.shard c.self.inside.vector c.move_over.new.vector (records_of c.self.inside) left (limits_of c.self.inside.limits) c.self.inside.handed c.self.inside.stamp c.self.inside.count c.self.invariant
     (moved_is c) (left_is c) (c.keeping.ensures.advance c.args.records (book_of c.self.inside) c.self.invariant.book)
 
 pub returns-clause-advanced : goal.returns-clause-advanced
 returns-clause-advanced c =
     let left : List Record = records_in c.self.inside.shard c.move_over.new.vector c.drop-drain.new.self.0.items in
-    cut_is c.args.records c.self.inside.shard c.self.inside.vector c.move_over.new.vector (records_of c.self.inside) left c.self.inside.stamp c.self.inside.count c.self.invariant
+    cut_is c.args.records c.self.inside.shard c.self.inside.vector c.move_over.new.vector (records_of c.self.inside) left (limits_of c.self.inside.limits) c.self.inside.handed c.self.inside.stamp c.self.inside.count c.self.invariant
     (moved_is c) (left_is c)
     ∙ ap (advanced c.args.records) c.self.view_is
 

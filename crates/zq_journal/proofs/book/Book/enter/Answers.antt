@@ -2,6 +2,7 @@ use Rattle.std.proofs.Common.{List, [], ap, arith, refl, subst, sym, true, ◌++
 use Rattle.zq_history.proofs.NewRecords.{change_is_new}
 use Rattle.zq_history.specs.Books.{Book, is_change_over, recorded}
 use Rattle.zq_history.specs.Reach.{IsWorked}
+use Rattle.zq_journal.specs.Limits.{limits_of}
 use Rattle.zq_journal.proofs.BoundedTails.{bounded_state}
 use Rattle.zq_journal.proofs.Entered.{IsPutIn, entered_is, entered_stands, next_from, record_from}
 use Rattle.zq_journal.proofs.Lasts.{longer_is}
@@ -23,14 +24,14 @@ pub put_in-requires-clause-new : goal.put_in-requires-clause-new
 put_in-requires-clause-new c =
     let s : HeapImage = c.self.inside.shard in
     let change : Change = whole s.heap s.heaps s.image.vector c.args.what in
-    let over : is_change_over s.heap s.image.vector (change_of change) ≡ true =
-    subst (λ (q : Book). is_change_over q.heap q.state.vector (change_of (whole q.heap q.heaps q.state.vector c.args.what)) ≡ true) (sym c.self.view_is) c.requires.over in
-    subst (λ o. taken_of s.image.vector o ≡ New) (operation_is change) (change_is_new s.heap s.image.vector (change_of change) over).1
+    let over : is_change_over s.heaps s.heap s.image.vector (change_of change) ≡ true =
+    subst (λ (q : Book). is_change_over q.heaps q.heap q.state.vector (change_of (whole q.heap q.heaps q.state.vector c.args.what)) ≡ true) (sym c.self.view_is) c.requires.over in
+    subst (λ o. taken_of s.image.vector o ≡ New) (operation_is change) (change_is_new s.heaps s.heap s.image.vector (change_of change) over).1
 
 pub invariant_of-self-in_err-before : goal.invariant_of-self-in_err-before
 invariant_of-self-in_err-before c =
-    subst (λ s. IsStanding s c.self.inside.vector (records_in s c.self.inside.vector c.reserve.new.self.items) c.self.inside.stamp c.self.inside.count) (sym c.in_err-before.ensures.refused)
-    (subst (λ rs. IsStanding c.self.inside.shard c.self.inside.vector (records_in c.self.inside.shard c.self.inside.vector rs) c.self.inside.stamp c.self.inside.count)
+    subst (λ s. IsStanding s c.self.inside.vector (records_in s c.self.inside.vector c.reserve.new.self.items) (limits_of c.self.inside.limits) c.self.inside.handed c.self.inside.stamp c.self.inside.count) (sym c.in_err-before.ensures.refused)
+    (subst (λ rs. IsStanding c.self.inside.shard c.self.inside.vector (records_in c.self.inside.shard c.self.inside.vector rs) (limits_of c.self.inside.limits) c.self.inside.handed c.self.inside.stamp c.self.inside.count)
     (sym c.in_ok-reserve.ensures.items) c.self.invariant)
 
 pub invariant_of-self-2 : goal.invariant_of-self-2
@@ -39,8 +40,8 @@ invariant_of-self-2 c =
     let b : Book = book_of c.self.inside in
     let change : Change = whole s.heap s.heaps s.image.vector c.args.what in
     let r : Record = record { stamp = c.args.at; what = change; before = c.in_ok-before.before } in
-    let over : is_change_over b.heap b.state.vector (change_of change) ≡ true =
-    subst (λ (q : Book). is_change_over q.heap q.state.vector (change_of (whole q.heap q.heaps q.state.vector c.args.what)) ≡ true) (sym c.self.view_is) c.requires.over in
+    let over : is_change_over b.heaps b.heap b.state.vector (change_of change) ≡ true =
+    subst (λ (q : Book). is_change_over q.heaps q.heap q.state.vector (change_of (whole q.heap q.heaps q.state.vector c.args.what)) ≡ true) (sym c.self.view_is) c.requires.over in
     let own : IsRecordable s.heap s.heaps (placed_in change) =
     subst (λ (q : Book). IsRecordable q.heap q.heaps (placed_in (whole q.heap q.heaps q.state.vector c.args.what))) (sym c.self.view_is) c.requires.recordable in
     let put : IsPutIn s c.put_in.new.shard r (placed_in change) = record {
@@ -50,17 +51,17 @@ invariant_of-self-2 c =
       rule = c.in_ok-before.ensures.rule;
       image = c.in_ok-before.ensures.image;
       had = c.in_ok-before.ensures.before;
-      bounded = bounded_state s c.self.inside.vector (records_of c.self.inside) c.self.inside.stamp c.self.inside.count c.self.invariant;
+      bounded = bounded_state s c.self.inside.vector (records_of c.self.inside) (limits_of c.self.inside.limits) c.self.inside.handed c.self.inside.stamp c.self.inside.count c.self.invariant;
     } in
     let after : List Record = records_in c.put_in.new.shard c.self.inside.vector c.push_back_reserved.new.self.items in
     let pushed : code.Record = record { stamp = c.args.at; what = c.args.what; before = c.in_ok-before.before } in
     let longer : after ≡ records_of c.self.inside ++ r ∷ [] =
-    longer_is s c.put_in.new.shard c.self.inside.vector c.self.inside.tail.items c.push_back_reserved.new.self.items pushed c.self.inside.stamp c.self.inside.count c.self.invariant.book
+    longer_is s c.put_in.new.shard c.self.inside.vector c.self.inside.tail.items c.push_back_reserved.new.self.items pushed (limits_of c.self.inside.limits) c.self.inside.handed c.self.inside.stamp c.self.inside.count c.self.invariant.book
     c.in_ok-before.ensures.heap c.in_ok-before.ensures.heaps (c.push_back_reserved.ensures.items ∙ ap (λ xs. xs ++ pushed ∷ []) c.in_ok-reserve.ensures.items) in
     let stamp_is : b.stamp ≡ c.args.self.now.stamp = ap (λ q. q.stamp) c.self.view_is in
     let count_is : b.count ≡ c.args.self.now.count = ap (λ q. q.count) c.self.view_is in
     let rises : b.stamp ≤ c.args.at = omega (arith, stamp_is, c.requires.stamp) in
-    entered_stands s c.put_in.new.shard c.self.inside.vector (records_of c.self.inside) after r c.self.inside.stamp c.self.inside.count (next_from s c.put_in.new.shard r (placed_in change) put) longer
+    entered_stands s c.put_in.new.shard c.self.inside.vector (records_of c.self.inside) after r (limits_of c.self.inside.limits) c.self.inside.handed c.self.inside.stamp c.self.inside.count (next_from s c.put_in.new.shard r (placed_in change) put) longer
     c.self.invariant (c.keeping.ensures.recording b c.args.at (change_of change) rises over c.self.invariant.book) (record_from s c.put_in.new.shard r (placed_in change) put own) c.requires.bounded
     (omega (arith, count_is, c.requires.count))
 
@@ -77,14 +78,14 @@ returns-clause-recorded c =
       rule = c.in_ok-before.ensures.rule;
       image = c.in_ok-before.ensures.image;
       had = c.in_ok-before.ensures.before;
-      bounded = bounded_state s c.self.inside.vector (records_of c.self.inside) c.self.inside.stamp c.self.inside.count c.self.invariant;
+      bounded = bounded_state s c.self.inside.vector (records_of c.self.inside) (limits_of c.self.inside.limits) c.self.inside.handed c.self.inside.stamp c.self.inside.count c.self.invariant;
     } in
     let after : List Record = records_in c.put_in.new.shard c.self.inside.vector c.push_back_reserved.new.self.items in
     let pushed : code.Record = record { stamp = c.args.at; what = c.args.what; before = c.in_ok-before.before } in
     let longer : after ≡ records_of c.self.inside ++ r ∷ [] =
-    longer_is s c.put_in.new.shard c.self.inside.vector c.self.inside.tail.items c.push_back_reserved.new.self.items pushed c.self.inside.stamp c.self.inside.count c.self.invariant.book
+    longer_is s c.put_in.new.shard c.self.inside.vector c.self.inside.tail.items c.push_back_reserved.new.self.items pushed (limits_of c.self.inside.limits) c.self.inside.handed c.self.inside.stamp c.self.inside.count c.self.invariant.book
     c.in_ok-before.ensures.heap c.in_ok-before.ensures.heaps (c.push_back_reserved.ensures.items ∙ ap (λ xs. xs ++ pushed ∷ []) c.in_ok-reserve.ensures.items) in
-    entered_is s c.put_in.new.shard c.self.inside.vector (records_of c.self.inside) after r c.self.inside.stamp c.self.inside.count (next_from s c.put_in.new.shard r (placed_in change) put) longer
+    entered_is s c.put_in.new.shard c.self.inside.vector (records_of c.self.inside) after r (limits_of c.self.inside.limits) c.self.inside.handed c.self.inside.stamp c.self.inside.count (next_from s c.put_in.new.shard r (placed_in change) put) longer
     ∙ ap (λ (q : Book). recorded q c.args.at (change_of (whole q.heap q.heaps q.state.vector c.args.what))) c.self.view_is
 
 pub returns-clause-worked : goal.returns-clause-worked

@@ -1,6 +1,8 @@
-use Rattle.std.proofs.Common.{arith}
-use Rattle.zq_node.proofs.Called.{IsTakeOf, no_rule_take, take_called, take_stopped, wrong_take}
+use Rattle.std.proofs.Common.{ap, arith}
+use Rattle.zq_node.proofs.Called.{IsTakeOf, stop_take, take_called, take_stopped, unheard_take}
 use Rattle.zq_node.proofs.node.Node.hand.Goals as goal
+use Rattle.zq_node.specs.declared.node.Node.{Node}
+use Rattle.zq_spread.specs.declared.pass.Pass.{Pass}
 
 pub returns-in-Ok-clause-called : goal.returns-in-Ok-clause-called
 returns-in-Ok-clause-called g c =
@@ -21,11 +23,16 @@ returns-in-Err-clause-stopped g c =
     let said : IsTakeOf site c.args.self.now.pass c.take.new.pass c.args.op.now c.take.result = record { wrong_heap = c.take.ensures.wrong_heap; unlocked = c.take.ensures.unlocked; called = c.take.ensures.called } in
     take_stopped site c.args.self.now.pass c.take.new.pass c.args.op.now c.take.result c.in-Err.fault c.in-Err.is said
 
-pub returns-in-Err-clause-wrong_heap : goal.returns-in-Err-clause-wrong_heap
-returns-in-Err-clause-wrong_heap g c = λ wrong of.
+pub returns-in-Err-clause-stop : goal.returns-in-Err-clause-stop
+returns-in-Err-clause-stop g c =
     let site = c.args.self.now.home.site.now in
     let said : IsTakeOf site c.args.self.now.pass c.take.new.pass c.args.op.now c.take.result = record { wrong_heap = c.take.ensures.wrong_heap; unlocked = c.take.ensures.unlocked; called = c.take.ensures.called } in
-    wrong_take site c.args.self.now.pass c.take.new.pass c.args.op.now c.take.result c.in-Err.fault c.from.result c.in-Err.is c.from.ensures said (cc) of
+    stop_take site c.args.self.now.pass c.take.new.pass c.args.op.now c.take.result c.in-Err.fault c.from.result c.in-Err.is c.from.ensures said
 
-pub returns-in-Err-clause-rule : goal.returns-in-Err-clause-rule
-returns-in-Err-clause-rule g c = λ wrong. no_rule_take c.in-Err.fault c.from.result c.from.ensures (cc)
+pub returns-in-Err-clause-unheard : goal.returns-in-Err-clause-unheard
+returns-in-Err-clause-unheard g c = λ wrong.
+    let node = c.args.self.now in
+    let site = node.home.site.now in
+    let said : IsTakeOf site node.pass c.take.new.pass c.args.op.now c.take.result = record { wrong_heap = c.take.ensures.wrong_heap; unlocked = c.take.ensures.unlocked; called = c.take.ensures.called } in
+    let same = unheard_take site node.pass c.take.new.pass c.args.op.now c.take.result c.in-Err.fault c.from.result c.in-Err.is c.from.ensures said (cc) in
+    ap (λ (p : Pass). let n : Node = record { home = node.home; pass = p; parked = node.parked } in n) same

@@ -1,14 +1,11 @@
-use Rattle.std.proofs.Common.{Err, ap, subst, sym, ◌≡◌, ◌⊎◌}
+use Rattle.std.proofs.Common.{ap, subst, sym, ◌≡◌, ◌⊎◌}
 use Rattle.std.specs.Prelude.{List}
 use Rattle.zq_dots.specs.Placed.{Placed}
-use Rattle.zq_frames.specs.declared.frame.Frame.TheVariants as heard
 use Rattle.zq_model.specs.Sets.{IsIn}
-use Rattle.zq_node.proofs.Called.{on_err}
-use Rattle.zq_node.proofs.Told.{if_err, ops_fault}
+use Rattle.zq_node.proofs.Told.{if_err}
 use Rattle.zq_node.proofs.node.Node.hear.Goals as goal
 use Rattle.zq_node.specs.Faults.{IsOwnFault}
-use Rattle.zq_node.specs.Hearing.{AreOpsHeard, HasHeard, HasSiteRule, HasStopped, IsFaultOf, IsForSite, IsOfOneHeap, sent_of}
-use Rattle.zq_node.specs.Work.{WasStopped}
+use Rattle.zq_node.specs.Hearing.{AreOpsHeard, AreOpsStopped, HasHeard, HasSiteRule, HasStopped, IsFaultOf, IsForSite, IsOfOneHeap, StopsAt, sent_of}
 use Rattle.zq_spread.specs.Calls.{IsOfSite}
 use Rattle.zq_spread.specs.declared.site.Site.{Site}
 
@@ -30,7 +27,8 @@ pub returns-in_err-sent-in-Have-clause-stopped : goal.returns-in_err-sent-in-Hav
 returns-in_err-sent-in-Have-clause-stopped g c =
     let old = c.args.self.now in
     let new = c.hear_have.new.self in
-    on_err _ _ (subst (λ f. HasStopped f old new) (sym c.in-Have.is) (c.hear_have.ensures.parked, c.hear_have.ensures.no_step))
+    let why = c.in_err-sent-in-Have.field-0.0 in
+    if_err (HasStopped c.args.frame.now old new) c.from_residual.result why c.from_residual.ensures.1 (subst (λ f. HasStopped f old new why) (sym c.in-Have.is) (c.hear_have.ensures.parked, c.hear_have.ensures.no_step))
 
 pub returns-in_err-sent-in-Have-clause-fault : goal.returns-in_err-sent-in-Have-clause-fault
 returns-in_err-sent-in-Have-clause-fault g c =
@@ -44,16 +42,18 @@ returns-in_err-sent-in-Have-clause-unheard g c =
 
 pub returns-in_err-take_all-in-Ops-clause-stopped : goal.returns-in_err-take_all-in-Ops-clause-stopped
 returns-in_err-take_all-in-Ops-clause-stopped g c =
-    let stopped : WasStopped c.in-Ops.ops.items c.args.self.now c.take_all.new.self = subst (λ l. WasStopped l c.args.self.now c.take_all.new.self) c.deref.ensures.value c.in_err-take_all-in-Ops.ensures.stopped in
-    on_err _ _ (subst (λ f. HasStopped f c.args.self.now c.take_all.new.self) (sym c.in-Ops.is) stopped)
+    let old = c.args.self.now in
+    let new = c.take_all.new.self in
+    let why = c.in_err-take_all-in-Ops.field-0.0 in
+    let stopped : AreOpsStopped c.in-Ops.ops.items old new why = subst (λ l. AreOpsStopped l old new why) c.deref.ensures.value c.in_err-take_all-in-Ops.ensures.stopped in
+    if_err (HasStopped c.args.frame.now old new) c.from_residual-in_err-take_all-in-Ops.result why c.from_residual-in_err-take_all-in-Ops.ensures.1 (subst (λ f. HasStopped f old new why) (sym c.in-Ops.is) stopped)
 
 pub returns-in_err-take_all-in-Ops-clause-fault : goal.returns-in_err-take_all-in-Ops-clause-fault
 returns-in_err-take_all-in-Ops-clause-fault g c =
     let site = c.args.self.now.home.site.now in
-    let fault = c.in_err-take_all-in-Ops.field-0.0 in
-    let why : IsFaultOf site (heard.Ops c.in-Ops.ops) fault =
-    ops_fault site (heard.Ops c.in-Ops.ops) fault (λ one. one) (λ e all. c.in_err-take_all-in-Ops.ensures.wrong_heap (ap (λ f. Err f) e) (subst (AreOfSite site) (sym c.deref.ensures.value) all)) (λ e. c.in_err-take_all-in-Ops.ensures.rule (ap (λ f. Err f) e)) in
-    if_err (IsFaultOf site c.args.frame.now) c.from_residual-in_err-take_all-in-Ops.result fault c.from_residual-in_err-take_all-in-Ops.ensures.1 (subst (λ f. IsFaultOf site f fault) (sym c.in-Ops.is) why)
+    let why = c.in_err-take_all-in-Ops.field-0.0 in
+    let place : StopsAt site c.in-Ops.ops.items why = subst (λ l. StopsAt site l why) c.deref.ensures.value c.in_err-take_all-in-Ops.ensures.stopped.place in
+    if_err (IsFaultOf site c.args.frame.now) c.from_residual-in_err-take_all-in-Ops.result why c.from_residual-in_err-take_all-in-Ops.ensures.1 (subst (λ f. IsFaultOf site f why) (sym c.in-Ops.is) place)
 
 pub returns-in_err-take_all-in-Ops-clause-unheard : goal.returns-in_err-take_all-in-Ops-clause-unheard
 returns-in_err-take_all-in-Ops-clause-unheard g c =
@@ -62,7 +62,10 @@ returns-in_err-take_all-in-Ops-clause-unheard g c =
 
 pub returns-in_err-hear_state-in-State-clause-stopped : goal.returns-in_err-hear_state-in-State-clause-stopped
 returns-in_err-hear_state-in-State-clause-stopped g c =
-    on_err _ _ (subst (λ f. HasStopped f c.args.self.now c.hear_state.new.self) (sym c.in-State.is) c.in_err-hear_state-in-State.ensures.stopped)
+    let old = c.args.self.now in
+    let new = c.hear_state.new.self in
+    let why = c.in_err-hear_state-in-State.field-0.0 in
+    if_err (HasStopped c.args.frame.now old new) c.from_residual-in_err-hear_state-in-State.result why c.from_residual-in_err-hear_state-in-State.ensures.1 (subst (λ f. HasStopped f old new why) (sym c.in-State.is) c.in_err-hear_state-in-State.ensures.stopped)
 
 pub returns-in_err-hear_state-in-State-clause-fault : goal.returns-in_err-hear_state-in-State-clause-fault
 returns-in_err-hear_state-in-State-clause-fault g c =

@@ -1,8 +1,7 @@
-use Rattle.std.proofs.Common.{arith, inl, inr, refl, sym, true, ◌<◌, ◌∙◌, ◌≡◌, ◌⊎◌}
+use Rattle.std.proofs.Common.{arith, inl, inr, refl, sym, ◌<◌, ◌∙◌, ◌≡◌, ◌⊎◌}
 use Rattle.zq_frames.specs.declared.frame.Frame.TheVariants as heard
-use Rattle.zq_model.specs.Sets.{covers}
-use Rattle.zq_node.proofs.Called.{on_err, reached_after}
-use Rattle.zq_node.proofs.Told.{if_err, merge_called, merge_stopped, merged_covers, own_fault, own_merge, state_fault}
+use Rattle.zq_node.proofs.Called.{on_err, seen_after}
+use Rattle.zq_node.proofs.Told.{Covers, covers_stays, if_err, merge_called, merge_stopped, merged_covers, own_fault, own_merge, state_fault}
 use Rattle.zq_node.proofs.node.Node.hear_state.Goals as goal
 use Rattle.zq_node.specs.Faults.{IsOwnFault, unmerged}
 use Rattle.zq_node.specs.Hearing.{IsFaultOf, IsStateStopped}
@@ -82,7 +81,7 @@ returns-clause-heard g c =
       merged = c.merge.new.pass;
       called = call;
       work = work;
-      covered = reached_after (λ b. covers b.state.vector s.image.vector ≡ true) site c.merge.new.pass c.settle_all.new.self.pass s.heap work.calls work.called (merged_covers site node.pass c.merge.new.pass s call);
+      covered = seen_after (Covers s) (covers_stays s) site c.merge.new.pass c.settle_all.new.self.pass s.heap work.calls work.called (merged_covers site node.pass c.merge.new.pass s call);
       wait = c.in_ok-settle_all.ensures.wait;
     }
 

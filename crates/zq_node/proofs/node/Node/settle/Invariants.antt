@@ -6,7 +6,9 @@ use Rattle.zq_spread.specs.Passes.{seen_at}
 
 abbrev pub invariant-loop : goal.invariant-loop
 invariant-loop g l =
-    (goal.iterator-loop g).can_next l.iterator' × (goal.iterator-loop g).is_finite l.iterator'
-    × IsNode l.self × IsSameHome l.fn.self l.self × HasWorked [] l.fn.self l.self
+    IsNode l.self × IsSameHome l.fn.self l.self × HasWorked [] l.fn.self l.self
     × ((k : ℕ) → (k ≡ l.heap → ⊥) → seen_at (pass_of l.self) k ≡ seen_at (pass_of l.fn.self) k)
     × (length (parked_of l.self) ≤ length (parked_of l.fn.self))
+
+abbrev pub decreases-loop : goal.decreases-loop
+decreases-loop g l = length (parked_of l.self)

@@ -1,6 +1,6 @@
-use Rattle.std.proofs.Common.{rules, subst, Some}
-use Rattle.zq_node.proofs.Changed.{few_with, placed_with, sites_with}
-use Rattle.zq_node.specs.Parked.{IsUpdated}
+use Rattle.std.proofs.Common.{length, rules, subst, sym, Some, ◌+◌, ◌≡◌}
+use Rattle.zq_node.proofs.Changed.{few_with, one_more, placed_with, sites_with}
+use Rattle.zq_node.specs.Parked.{HasPlaceOf, IsUpdated}
 use Rattle.zq_node.proofs.parked.Parked.park.Goals as goal
 
 pub invariant_of-self-2 : goal.invariant_of-self-2
@@ -14,3 +14,11 @@ invariant_of-self-2 c =
       sites = sites_with old new c.place_of-place.result (Some c.args.op) c.self.inside.sites changed (search rules) c.self.invariant.sites;
       few = few_with _ _ _ _ c.in_ok-insert.ensures.len (search rules);
     }
+
+pub returns-clause-more : goal.returns-clause-more
+returns-clause-more c = λ _ apart.
+    let old = c.self.inside.ops.entries in
+    let new = c.insert.new.self.entries in
+    let none : HasPlaceOf old c.args.op → ⊥ = subst (λ e. HasPlaceOf e c.args.op → ⊥) (sym c.self.view_is) apart in
+    let one : length new ≡ length old + 1 = one_more old c.args.op c.place_of-place.result _ (length new) c.self.invariant.placed c.place_of-place.ensures.place c.in_ok-insert.ensures.old c.in_ok-insert.ensures.len none in
+    subst (λ e. length new ≡ length e + 1) c.self.view_is one

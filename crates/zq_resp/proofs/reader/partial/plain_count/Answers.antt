@@ -1,11 +1,11 @@
 use Rattle.std.proofs.lemmas.Result.{err_from_is_err_and}
-use Rattle.zq_resp.proofs.Counts.{count_begins, count_fails, count_goes}
+use Rattle.zq_resp.proofs.Counts.{count_begins, count_goes, count_wrong}
 use Rattle.zq_resp.proofs.reader.partial.plain_count.Goals as goal
 
 pub returns-in_err-line : goal.returns-in_err-line
 returns-in_err-line c =
     let exit = err_from_is_err_and c.from_residual.result c.from_residual.ensures.1 in
-    rw (exit.1, exit.2) (count_fails c.in_err-line.field-0.0 c.args.line c.args.byte c.requires.plain c.in_err-line.ensures)
+    rw (exit.1, exit.2) (count_wrong c.in_err-line.field-0.0 c.args.line c.args.byte c.requires.plain c.in_err-line.ensures)
 
 pub returns-in-More : goal.returns-in-More
 returns-in-More c =

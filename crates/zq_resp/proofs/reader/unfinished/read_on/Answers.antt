@@ -1,9 +1,11 @@
 use Rattle.std.proofs.Common.{[], ◌∷◌, ◌++◌, ◌≡◌, Some, false, ap, sym, ◌∙◌, append_assoc}
 use Rattle.std.proofs.lemmas.List.{take_rest}
 use Rattle.std.proofs.lemmas.List.Elements.{filter-append}
+use Rattle.std.proofs.lemmas.Result.{err_from_is_err_and}
 use Rattle.zq_resp.specs.Suspended.{views}
 use Rattle.zq_resp.specs.Partial.{text_so_far}
 use Rattle.zq_resp.specs.Stream.{handed, has_words, is_inside}
+use Rattle.zq_resp.proofs.Memory.{refused_at}
 use Rattle.zq_resp.proofs.Shorts.{none_kept}
 use Rattle.zq_resp.proofs.Streams.{reaches_one}
 use Rattle.zq_resp.proofs.reader.unfinished.read_on.Goals as goal
@@ -47,3 +49,29 @@ loop-rest-preserved-in-Some c =
             ∙ ap (λ more. given ++ more) (sym (filter-append has_words reads.0 (words ∷ []))))),
       );
     }
+
+pub returns-in_err-hand_out : goal.returns-in_err-hand_out
+returns-in_err-hand_out c =
+    let exit = err_from_is_err_and c.from_residual-in_err-hand_out.result c.from_residual-in_err-hand_out.ensures.1 in
+    let reads = c.loop-rest.invariant.reads in
+    let outside : is_inside (Some (text_so_far c.loop-rest.unfinished.partial)) ≡ false = cc in
+    let none = none_kept (text_so_far c.loop-rest.unfinished.partial) outside in
+    let got = rw c.in-Some.is at c.in_ok-short.ensures.read in
+    let refused = c.in_err-hand_out.ensures in
+    rw (exit.1, exit.2) (
+      handed reads.0,
+      refused_at c.in_err-hand_out.field-0.0 _ c.loop-rest.rest.now _ reads.0 (views c.in-Some.short) (rw none at reads.1) got refused.memory.0 refused.memory.1,
+      refused.err ∙ reads.2,
+    )
+
+pub returns-in_err-hand_out-in-Whole : goal.returns-in_err-hand_out-in-Whole
+returns-in_err-hand_out-in-Whole c =
+    let exit = err_from_is_err_and c.from_residual-in_err-hand_out-in-Whole.result c.from_residual-in_err-hand_out-in-Whole.ensures.1 in
+    let reads = c.loop-rest.invariant.reads in
+    let step = rw c.in-Whole.is at c.in_ok-progress.ensures.step in
+    let refused = c.in_err-hand_out-in-Whole.ensures in
+    rw (exit.1, exit.2) (
+      handed reads.0,
+      refused_at c.in_err-hand_out-in-Whole.field-0.0 _ _ _ reads.0 (views c.in-Whole.words) reads.1 step.1 refused.memory.0 refused.memory.1,
+      refused.err ∙ reads.2,
+    )

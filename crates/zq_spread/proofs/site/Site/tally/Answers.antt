@@ -18,7 +18,7 @@ use Rattle.zq_spread.specs.declared.room.Room.{Room}
 use Rattle.zq_tally.specs.Words.{IsSameTotal, kept_of, parts_of, passes_of, total_of, total_table}
 use Rattle.zq_tally.specs.declared.view.TheConstants.{PARTS}
 use Rattle.zq_ticketlock.specs.Steps.{FollowsSeen}
-use Rattle.zq_ticketlock.specs.declared.lock.TheConstants.{LAST_TICKET}
+use Rattle.zq_ticketlock.specs.Limits.{last_ticket}
 
 pub gather-requires-clause-own : goal.gather-requires-clause-own
 gather-requires-clause-own g c =
@@ -192,5 +192,5 @@ returns-in-Err-clause-worn g c =
     let h : ℕ = c.from-heap.result in
     let new : Pass = c.put_seat-in-Err.new.pass in
     let last = c.in-Err.ensures.last in
-    let found : LAST_TICKET ≤ reached_at new h = subst (λ n. LAST_TICKET ≤ n) (sym c.put_seat-in-Err.ensures.reached) last in
-    subst (λ k. LAST_TICKET ≤ reached_at new k) c.from-heap.ensures found
+    let found : last_ticket ≤ reached_at new h = subst (λ n. last_ticket ≤ n) (sym c.put_seat-in-Err.ensures.reached) last in
+    subst (λ k. last_ticket ≤ reached_at new k) c.from-heap.ensures found

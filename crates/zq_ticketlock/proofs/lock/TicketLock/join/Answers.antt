@@ -1,4 +1,4 @@
-use Rattle.std.proofs.Common.{◌<◌, ◌∙◌, ap, arith}
+use Rattle.std.proofs.Common.{◌<◌, ◌++◌, ◌∙◌, ap, arith}
 use Rattle.zq_ticketlock.proofs.Stages.{idle_seat}
 use Rattle.zq_ticketlock.proofs.Looks.{settles}
 use Rattle.zq_ticketlock.proofs.Seatings.{joins}
@@ -13,7 +13,7 @@ join_seat-requires g c =
     let words : 0 < lock.table.shared.table_id.words = omega (arith, lock.sized.0) in (
       c.requires.own.0,
       c.requires.own.1,
-      ap (λ m. m.1) (idle_seat second.place.me second.idle).3,
+      ap (λ m. m.1) (idle_seat second.place.me second.idle).4,
       words,
       joins g.T.Keeps.holds g.T.Keeps.follows first.place.id second.place.id first.place.me second.place.me first.idle second.idle,
     )
@@ -32,6 +32,6 @@ load-requires g c =
     let words : 0 < lock.table.shared.table_id.words = omega (arith, lock.sized.0) in (
       told.0 ∙ c.requires.own.0,
       words,
-      settles holds follows lock.table.shared.table_id.slots seat.id one.0 one.2 other.2 seat.me
+      settles holds follows lock.table.shared.table_id.slots seat.id one.0 one.2 other.2 (one.3 ++ other.3) seat.me
           (met_view holds follows first second seat.me c.args.first.idle c.args.second.idle told.2) g.T.Keeps.reflexive,
     )

@@ -2,6 +2,8 @@ use Rattle.std.proofs.Common.{take, arith}
 use Rattle.std.proofs.lemmas.List.{take_all, length-take}
 use Rattle.std.proofs.lemmas.Result.{err_from_is_err_and}
 use Rattle.zq_resp.specs.Suspended.{views}
+use Rattle.zq_resp.specs.Partial.{text_so_far}
+use Rattle.zq_resp.proofs.Memory.{count_near}
 use Rattle.zq_resp.proofs.Limits.{near_fails, near_found, near_past, stands_on}
 use Rattle.zq_resp.proofs.reader.unfinished.Unfinished.read.Goals as goal
 
@@ -10,6 +12,11 @@ returns-in_err-progress-clause-step c =
     let exit = err_from_is_err_and c.from_residual.result c.from_residual.ensures.1 in
     rw (exit.1, exit.2)
     (near_fails c.args.self c.args.bytes.now c.min-near.result c.in_err-progress.field-0.0 c.requires.stands (omega arith) c.in_err-progress.ensures.step)
+
+pub returns-in_err-progress-clause-memory : goal.returns-in_err-progress-clause-memory
+returns-in_err-progress-clause-memory c =
+    let exit = err_from_is_err_and c.from_residual.result c.from_residual.ensures.1 in
+    rw (exit.1, exit.2) (λ is. count_near (text_so_far c.args.self.partial) c.args.bytes.now c.min-near.result (c.in_err-progress.ensures.memory is))
 
 pub returns-in-Whole-clause-step : goal.returns-in-Whole-clause-step
 returns-in-Whole-clause-step c =

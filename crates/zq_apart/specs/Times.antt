@@ -1,0 +1,25 @@
+-- How long things take at most, in nanoseconds.
+
+use Rattle.std.specs.Prelude.{ℕ, ◌*◌}
+
+abbrev seconds : ℕ → ℕ
+seconds n = n * 1_000_000_000
+
+-- a dialled peer may take so long to accept, and a peer to open a link
+abbrev pub connecting : ℕ
+connecting = seconds 5
+
+abbrev pub opening : ℕ
+opening = seconds 5
+
+-- the site tells its peers what it has so often, where nobody calls it
+abbrev pub telling : ℕ
+telling = seconds 5
+
+-- nothing may come over a link for so long: a peer that is not silent tells what it has four times meanwhile
+abbrev pub silence : ℕ
+silence = 4 * telling
+
+-- the site waits so long where a connection could not be accepted
+abbrev pub not_accepted : ℕ
+not_accepted = 100 * 1_000_000

@@ -1,0 +1,13 @@
+use Rattle.std.proofs.Common.{ap, sym, ◌∙◌}
+use Rattle.zq_history.specs.Books.{Book}
+use Rattle.zq_history.specs.Reach.{cut_by_bytes}
+use Rattle.zq_journal.proofs.Weights.{cut_to_bytes-written}
+use Rattle.zq_journal.specs.BookView.{book_of}
+use Rattle.zq_journal.proofs.book.Book.cut_by_bytes.Goals as goal
+
+pub returns-in-Some : goal.returns-in-Some
+returns-in-Some c =
+    c.cut_to_bytes.ensures
+    ∙ sym (cut_to_bytes-written c.in-Some.most c.self.inside.shard.heap c.self.inside.shard.heaps c.self.inside.vector c.self.inside.tail.items)
+    ∙ ap (λ most. cut_by_bytes most (book_of c.self.inside).tail) (sym c.in-Some.is)
+    ∙ ap (λ (b : Book). cut_by_bytes b.limits.bytes b.tail) c.self.view_is

@@ -1,0 +1,86 @@
+//! How a call cuts a book's tail.
+ghost use Rattle.std.specs.Prelude.{◌≡◌, [], length};
+ghost use Rattle.zq_history.specs.Books.{advanced};
+ghost use Rattle.zq_history.specs.Reach.{IsReachedBy, cut_by_bytes, cut_by_length, cut_of};
+ghost use Rattle.zq_journal.specs.Records.{cut_kept};
+
+use crate::book::Book;
+use crate::records::Record;
+use std::collections::VecDeque;
+use zq_history::{cutting, reaching};
+
+impl Book {
+    /// Cuts the tail where it is longer than its limits say: to its newest records, so many, and to so many bytes; but only records
+    /// that were handed on, where that is asked. It takes no memory.
+    #[inline(always)]
+    pub fn cut(&mut self)
+        ensures cut { self.new ≡ advanced (cut_of self.old) self.old }
+        ensures reached { IsReachedBy self.new self.old [] }
+    {
+        // A cut takes records of the tail alone,
+        cutting();
+        // and what it leaves is reached.
+        reaching();
+        let records = self.cut_len();
+        if records > 0 {
+            let _ = self.advance(records);
+        }
+    }
+
+    /// How many of the oldest records a cut takes.
+    #[inline(always)]
+    fn cut_len(&self) -> usize
+        ensures { result ≡ cut_of self.now }
+    {
+        // A cut takes records of the tail alone.
+        cutting();
+        let long = self.cut_by_length().max(self.cut_by_bytes());
+        match self.handed {
+            None => long,
+            Some(handed) => {
+                let before = self.count() - self.tail_len() as u64;
+                (long as u64).min(handed.saturating_sub(before)) as usize
+            }
+        }
+    }
+
+    /// How many go where there are too many.
+    #[inline(always)]
+    fn cut_by_length(&self) -> usize
+        ensures { result ≡ cut_by_length self.now.limits (length self.now.tail) }
+    {
+        let records = self.tail_len();
+        if records >= self.limits.long {
+            records.saturating_sub(self.limits.kept)
+        } else {
+            0
+        }
+    }
+
+    /// How many go where they have too many bytes.
+    #[inline(always)]
+    fn cut_by_bytes(&self) -> usize
+        ensures { result ≡ cut_by_bytes self.now.limits.bytes self.now.tail }
+    {
+        match self.limits.bytes {
+            None => 0,
+            Some(most) => cut_to_bytes(&self.tail, most),
+        }
+    }
+}
+
+/// How many of the oldest records go, so that the keys and members of the rest have at most so many bytes.
+fn cut_to_bytes(tail: &VecDeque<Record>, most: u64) -> usize
+    ensures { result ≡ cut_kept most tail.now.items }
+{
+    let mut left = most;
+    for newer in 0..tail.len() {
+        let place = tail.len() - 1 - newer;
+        let bytes = tail[place].what.bytes();
+        if bytes > left {
+            return place + 1;
+        }
+        left -= bytes;
+    }
+    0
+}

@@ -1,0 +1,139 @@
+-- The calls of running sites are a run of a world.
+
+use Rattle.std.proofs.Common.{ap, arith, refl, subst, suc, sym, zero, ◌∙◌}
+use Rattle.std.proofs.lemmas.List.{append-nil, append_assoc, length-append, take_all}
+use Rattle.std.specs.Prelude.{List, None, Option, Some, [], if◌then◌else◌, length, take, true, ℕ, ◌+◌, ◌++◌, ◌∷◌, ◌≡◌, ◌≤◌}
+use Rattle.zq_model.specs.Operation.{Operation}
+use Rattle.zq_model.specs.Rule.{Rule}
+use Rattle.zq_model.specs.Sets.{AreSame}
+use Rattle.zq_notes.proofs.Alike.{HasMoment, IsAlike, same_self, take_front}
+use Rattle.zq_notes.proofs.PlayedCalls.{IsOne, event, no_event, one_call}
+use Rattle.zq_notes.proofs.ReadOff.{AreScoresMeant}
+use Rattle.zq_notes.specs.Played.{ArePlayed, IsPlay, events_in}
+use Rattle.zq_notes.specs.Sites.{AreEventsOf, Event, has_at, made_of}
+use Rattle.zq_notes.specs.Uncut.{AreRunnable}
+use Rattle.zq_runs.specs.Events as runs
+use Rattle.zq_runs.specs.Events.{Run, is_possible}
+use Rattle.zq_runs.specs.Runs.{AreEvents, after_event, missing_from, run, run_on, start}
+use Rattle.zq_spread.specs.declared.site.Site.{Site}
+
+-- the rest of the calls, in a run that stands as the sites do before them
+pub record IsRest (rule : Rule) (K count : ℕ) (W : List Operation) (before rest : List Event) (r : Run) (plays : List (Option runs.Event)) : Type 0 where
+  pub calls : ArePlayed rule K r rest plays
+  pub there : (i : ℕ) → missing_from rule K count i (events_in plays) r ≡ None
+  pub each : AreEvents (events_in plays)
+  pub alike : (k : ℕ) → k ≤ length rest → IsAlike W (before ++ take k rest) (run_on rule K (events_in (take k plays)) r)
+
+started : (W : List Operation) → IsAlike W [] start
+started W = record {
+  sets = λ s. same_self [];
+  made = same_self [];
+  stamps = λ s h. omega arith;
+  counts = λ s h. omega arith;
+  past = λ k few. first k;
+}
+  where
+    first : (k : ℕ) → HasMoment W start (take k [])
+    first zero = record { moment = 0; there = omega arith; sets = λ s. same_self [] }
+    first (suc k) = record { moment = 0; there = omega arith; sets = λ s. same_self [] }
+
+-- no call is left
+ended : (rule : Rule) (K count : ℕ) (W : List Operation) (before : List Event) (r : Run) → IsAlike W before r → IsRest rule K count W before [] r []
+ended rule K count W before r alike = record {
+  calls = tt;
+  there = λ i. refl;
+  each = tt;
+  alike = λ k few. none k;
+}
+  where
+    none : (k : ℕ) → IsAlike W (before ++ take k []) (run_on rule K (events_in (take k [])) r)
+    none zero = subst (λ l. IsAlike W l r) (sym (append-nil before)) alike
+    none (suc k) = subst (λ l. IsAlike W l r) (sym (append-nil before)) alike
+
+-- one call more in front
+module _ (rule : Rule) (K count : ℕ) (W : List Operation) (before : List Event) (e : Event) (rest : List Event) (r : Run) (alike : IsAlike W before r) where
+  first_of : IsAlike W (before ++ []) r
+  first_of = subst (λ l. IsAlike W l r) (sym (append-nil before)) alike
+
+  further : (k : ℕ) (q : Run) → IsAlike W ((before ++ e ∷ []) ++ take k rest) q → IsAlike W (before ++ e ∷ take k rest) q
+  further k q stands = subst (λ l. IsAlike W l q) (append_assoc before (e ∷ []) (take k rest)) stands
+
+  longer : IsOne rule K count W before e r →
+      ((q : Run) → IsAlike W (before ++ e ∷ []) q → (more : List (Option runs.Event)) × IsRest rule K count W (before ++ e ∷ []) rest q more) →
+      (more : List (Option runs.Event)) × IsRest rule K count W before (e ∷ rest) r more
+  longer (no_event idle stands) on =
+      let more = on r stands in
+      let is = more.1 in (
+        None ∷ more.0,
+        record {
+          calls = (idle, is.calls);
+          there = is.there;
+          each = is.each;
+          alike = each_of more.0 is.alike;
+        },
+      )
+    where
+      each_of : (more : List (Option runs.Event)) → ((k : ℕ) → k ≤ length rest → IsAlike W ((before ++ e ∷ []) ++ take k rest) (run_on rule K (events_in (take k more)) r)) →
+          (k : ℕ) → k ≤ length (e ∷ rest) → IsAlike W (before ++ take k (e ∷ rest)) (run_on rule K (events_in (take k (None ∷ more))) r)
+      each_of more alike_on zero few = first_of
+      each_of more alike_on (suc k) few = further k (run_on rule K (events_in (take k more)) r) (alike_on k (omega (arith, few)))
+  longer (event p played possible is_event stands) on =
+      let next : Run = after_event rule K r p in
+      let more = on next stands in
+      let is = more.1 in (
+        Some p ∷ more.0,
+        record {
+          calls = (played, is.calls);
+          there = λ i. ap (λ b. if b then missing_from rule K count (i + 1) (events_in more.0) next else Some i) possible ∙ is.there (i + 1);
+          each = (is_event, is.each);
+          alike = each_of next more.0 is.alike refl;
+        },
+      )
+    where
+      each_of : (next : Run) (more : List (Option runs.Event)) → ((k : ℕ) → k ≤ length rest → IsAlike W ((before ++ e ∷ []) ++ take k rest) (run_on rule K (events_in (take k more)) next)) → next ≡ after_event rule K r p →
+          (k : ℕ) → k ≤ length (e ∷ rest) → IsAlike W (before ++ take k (e ∷ rest)) (run_on rule K (events_in (take k (Some p ∷ more))) r)
+      each_of next more alike_on same zero few = first_of
+      each_of next more alike_on same (suc k) few =
+          further k (run_on rule K (events_in (take k more)) (after_event rule K r p)) (subst (λ q. IsAlike W ((before ++ e ∷ []) ++ take k rest) (run_on rule K (events_in (take k more)) q)) same (alike_on k (omega (arith, few))))
+
+module _ (rule : Rule) (K count : ℕ) (two : 2 ≤ K) (meant : AreScoresMeant) (sites : ℕ → Site) (events : List Event) (are : AreEventsOf rule K sites events) (runnable : AreRunnable rule K count events) where
+  abbrev W : List Operation
+  W = made_of events
+
+  play_on : (before rest : List Event) → events ≡ before ++ rest → (r : Run) → IsAlike W before r → (plays : List (Option runs.Event)) × IsRest rule K count W before rest r plays
+  play_on before [] is r alike = ([], ended rule K count W before r alike)
+  play_on before (e ∷ rest) is r alike =
+      longer rule K count W before e rest r alike (one_call rule K count two meant sites events are runnable before e rest is r alike)
+      (λ q stands. play_on (before ++ e ∷ []) rest (is ∙ sym (append_assoc before (e ∷ []) rest)) q stands)
+
+  pub plays : (played : List (Option runs.Event)) × IsPlay rule K count events played
+  plays =
+      let all = play_on [] events refl start (started W) in
+      let is = all.1 in
+      let most = runnable.most in (
+        all.0,
+        record {
+          playable = record { heaps = (omega (arith, two), most); few = runnable.few; each = is.each; there = is.there 0 };
+          calls = is.calls;
+          made = made_all all.0 (is.alike (length events) (omega arith)) is.calls;
+          sets = λ before after split s.
+              let shorter : length events ≡ length before + length after = ap length split ∙ length-append before after in
+              let at = is.alike (length before) (omega (arith, shorter)) in
+              subst (λ l. AreSame ((run rule K (events_in (take (length before) all.0))).now.sets s) (has_at W s l)) (ap (take (length before)) split ∙ take_front before after) (at.sets s);
+        },
+      )
+    where
+      -- as many as the calls
+      as_long : (calls : List Event) (r : Run) (played : List (Option runs.Event)) → ArePlayed rule K r calls played → length played ≡ length calls
+      as_long [] r [] are = refl
+      as_long [] r (p ∷ played) are = absurd are
+      as_long (e ∷ calls) r [] are = absurd are
+      as_long (e ∷ calls) r (None ∷ played) are = ap suc (as_long calls r played are.1)
+      as_long (e ∷ calls) r (Some p ∷ played) are = ap suc (as_long calls (after_event rule K r p) played are.1)
+
+      made_all : (played : List (Option runs.Event)) → IsAlike W (take (length events) events) (run_on rule K (events_in (take (length events) played)) start) → ArePlayed rule K start events played →
+          AreSame (run rule K (events_in played)).now.made (made_of events)
+      made_all played at calls =
+          let same : take (length events) played ≡ played = take_all (length events) played (let long = as_long events start played calls in omega (arith, long)) in
+          subst (λ l. AreSame (run rule K (events_in l)).now.made (made_of events)) same
+          (subst (λ l. AreSame (run rule K (events_in (take (length events) played))).now.made (made_of l)) (take_all (length events) events (omega arith)) at.made)

@@ -1,0 +1,421 @@
+-- What calls answer over the images of a set is read off the set.
+
+use Rattle.std.proofs.Common.{None, Option, Some, [], ap, arith, inl, inr, subst, sym, true≢false, ◌∙◌}
+use Rattle.std.proofs.lemmas.Option.{slice_get_within}
+use Rattle.std.specs.Prelude.{Bool, Err, List, Ok, Result, false, length, map, not, refl, slice_get, slice_index, take, true, ℕ, ℤ, ◌<◌, ◌∷◌, ◌↔◌, ◌≡◌, ◌≤◌}
+use Rattle.zq_dots.specs.Placed.{Placed}
+use Rattle.zq_history.specs.Books.{Book, Step, operations_of}
+use Rattle.zq_history.specs.Reach.{begun}
+use Rattle.zq_journal.specs.Answers.{IfOps}
+use Rattle.zq_journal.specs.Books.{steps_when}
+use Rattle.zq_journal.specs.Records.{placed_at}
+use Rattle.zq_journal.specs.declared.faults.MergeFault.{MergeFault}
+use Rattle.zq_journal.specs.declared.faults.MergeFault.TheVariants as unjoined
+use Rattle.zq_journal.specs.declared.faults.TakeFault.{TakeFault}
+use Rattle.zq_journal.specs.declared.faults.TakeFault.TheVariants as unheld
+use Rattle.zq_journal.specs.declared.since.Since.{Since}
+use Rattle.zq_journal.specs.declared.since.Since.TheVariants.{Ops, TooOld}
+use Rattle.zq_model.proofs.Dots.{counter_positive, has_from, last_above}
+use Rattle.zq_model.proofs.MeantQueues.{heap_in_range, whole_queue_is}
+use Rattle.zq_model.proofs.Membership.{in_range_with_len}
+use Rattle.zq_model.proofs.OfHeaps.{in_heap_too, of_heap}
+use Rattle.zq_model.proofs.TailSets.{tail_above}
+use Rattle.zq_model.proofs.Taken.{covers_at}
+use Rattle.zq_model.proofs.Worlds.{vector_is, world_part}
+use Rattle.zq_model.specs.Heaps.{heap_of}
+use Rattle.zq_model.specs.Image.{Image, image_of}
+use Rattle.zq_model.specs.Meaning.{IsScore}
+use Rattle.zq_model.specs.Operation.{Operation, has}
+use Rattle.zq_model.specs.Queue.{queue_of}
+use Rattle.zq_model.specs.Rule.{Rule}
+use Rattle.zq_model.specs.Sets.{IsIn, IsWorld, covers, in_heap, taken_of, vector_of}
+use Rattle.zq_model.specs.Tail.{lacking}
+use Rattle.zq_moves.proofs.Lists.{in_filter, in_filter_from}
+use Rattle.zq_moves.specs.Lent as lent
+use Rattle.zq_moves.specs.Lent.{books_after, queues_of}
+use Rattle.zq_moves.specs.Moves.{Move, Queues, score_in}
+use Rattle.zq_notes.specs.Does.{AreHeapsFor, Does, IsTold}
+use Rattle.zq_notes.proofs.Tails.{in_tail_set, tail_begun}
+use Rattle.zq_notes.specs.Gathered.{AreImagesOf, HasTailOf}
+use Rattle.zq_notes.specs.Notes.{Answer, Asked, Books, Copied, Handed, Joined, Replied, Shown, ToCopy, ToMerge, ToRun, ToShow, ToTake, ToTell, Told}
+use Rattle.zq_notes.proofs.MovedSteps.{moves_are}
+use Rattle.zq_notes.specs.Readings.{AreLacked, IsAnswerOf, IsCutAt, IsOrShort, IsRunOf, IsRunOver, cut_off, in_full, is_list, moved_in, over_all, over_drawn}
+use Rattle.zq_runs.proofs.FewMembers.{few_members}
+use Rattle.zq_plans.proofs.Lifted.{cut_same, not_popping, takes_same}
+use Rattle.zq_plans.proofs.Narrow.{plans_same}
+use Rattle.zq_plans.specs.Plan.{Plan, plan_of}
+use Rattle.zq_plans.specs.Replies.{bytes_of}
+use Rattle.zq_plans.specs.Run.{ForCopies, ForMoves, ForReply, IsReadShort, IsRun, IsWhy, IsWhyOf, MayLack, Memory, Number, Takes, Want, cut_error, cut_pop, part, popped_of, takes_of, whole}
+use Rattle.zq_runs.specs.Reading.{heaps_in, is_reading, queues_over}
+use Rattle.zq_shard.specs.Shard.{HeapImage}
+use Rattle.zq_shard.specs.declared.taken.Taken.{Taken}
+use Rattle.zq_spread.specs.Answers.{IsCopied, IsMerged, IsShown, IsSince, IsTaken}
+use Rattle.zq_spread.specs.Commanded.{IsAnswered}
+use Rattle.zq_spread.specs.Dispatch.{HasNear}
+use Rattle.zq_spread.specs.Drawn.{drawn}
+use Rattle.zq_spread.specs.declared.faults.ReadFault.{ReadFault}
+use Rattle.zq_words.specs.Command.{Command, Del, Ping, Zadd, ZaddIncr, Zcard, Zcount, Zincrby, Zpopmin, Zpopnear, Zrange, Zrank, Zrem, Zrevrank, Zscore}
+use Rattle.zq_words.specs.Heaps.{heaps_of}
+use Rattle.zq_words.specs.Words.{Word}
+use Rattle.zq_words.specs.declared.heaps.Heaps.{Heaps}
+use Rattle.zq_words.specs.declared.heaps.Heaps.TheVariants.{All, Near, NoHeap, One}
+
+-- ---- replies
+
+-- a test that is not false
+not_false : (b : Bool) → false ≡ not b → b ≡ true
+not_false true is = refl
+not_false false is = absurd (true≢false (sym is))
+
+-- where there is a next move
+there_is : (k : ℕ) (moves : List Move) (P : Option Move → Type 0) → (P None → ⊥) → P (slice_get moves k) → k < length moves
+there_is k moves P none is =
+    elim (slice_get moves k) as (λ o. slice_get moves k ≡ o → P o → k < length moves) [
+      | Some move ↦ λ at _. slice_get_within moves k move at
+      | None ↦ λ _ why. absurd (none why)
+    ] refl is
+
+-- where a run was cut
+cut_at : (takes : Takes) (site k : ℕ) (moves : List Move) (books : List Book) (want : Want) → k ≤ length moves → IsWhyOf takes site (slice_get moves k) books want →
+    IsCutAt want takes k (length moves)
+cut_at takes site k moves books Number few why = there_is k moves (λ o. IsWhy site o books Number) (λ none. none) why
+cut_at (ForReply is_long counted) site k moves books Memory few why = (few, why)
+cut_at ForMoves site k moves books Memory few why = there_is k moves (λ o. MayLack ForMoves site o books) (λ none. none) why
+cut_at ForCopies site k moves books Memory few why = there_is k moves (λ o. MayLack ForCopies site o books) (λ none. none) why
+
+-- what a run comes to
+ran_over : (rule : Rule) (site stamp : ℕ) (command : Command) (old new : List Book) (reply : Word) → IsRun rule site stamp command old new reply →
+    (moves : List Move) × IsRunOver (queues_of rule old) command moves reply × (new ≡ books_after site stamp moves old)
+ran_over rule site stamp command old new reply (whole books says) = ((plan_of command (queues_of rule old)).moves, in_full refl says, books)
+ran_over rule site stamp command old new reply (part k want few books why says) =
+    let plan = plan_of command (queues_of rule old) in
+    (take k plan.moves, cut_off k want (cut_at (takes_of command (queues_of rule old)) site k plan.moves new want few why) refl says, books)
+
+-- ---- one heap
+
+-- where the plan is the same, and the words of a cut, a run over the one queues is one over the others
+run_moved : (command : Command) (queues others : Queues) (moves : List Move) (reply : Word) → plan_of command queues ≡ plan_of command others → popped_of command ≡ None → takes_of command queues ≡ takes_of command others →
+    IsRunOver queues command moves reply → IsRunOver others command moves reply
+run_moved command queues others moves reply same none takes (in_full are says) = in_full (are ∙ ap (λ (p : Plan). p.moves) same) (says ∙ ap (λ (p : Plan). bytes_of p.reply) same)
+run_moved command queues others moves reply same none takes (cut_off k want few are says) =
+    cut_off k want (subst (λ (t : Takes). IsCutAt want t k (length (plan_of command others).moves)) takes (subst (λ (p : Plan). IsCutAt want (takes_of command queues) k (length p.moves)) same few)) (are ∙ ap (λ (p : Plan). take k p.moves) same) (says ∙ ap bytes_of (cut_same command queues others k want none))
+
+-- two that have the same values are the same
+same_options : (a b : Option ℤ) → ((x : ℤ) → a ≡ Some x → b ≡ Some x) → ((x : ℤ) → b ≡ Some x → a ≡ Some x) → a ≡ b
+same_options (Some x) b forth back = sym (forth x refl)
+same_options None (Some y) forth back = back y refl
+same_options None None forth back = refl
+
+heap_named : (books : Books) (heaps : List ℕ) → ((k : ℕ) → (books k).heap ≡ k) → map (λ (b : Book). b.heap) (map books heaps) ≡ heaps
+heap_named books [] each = refl
+heap_named books (h ∷ heaps) each = let first = each h in let rest = heap_named books heaps each in λ i. first i ∷ rest i
+
+-- over books that are images of one set a member's score is the one that the set means
+abbrev pub AreScoresMeant : Type 0
+AreScoresMeant =
+    (rule : Rule) (K : ℕ) (S : List Operation) (books : List Book) → IsWorld K S → lent.AreImagesOf S books → (key member : List ℕ) (score : ℤ) → IsIn (heap_of key member K) (map (λ (b : Book). b.heap) books) →
+    (score_in (queues_of rule books key) member ≡ Some score) ↔ IsScore rule S key member score
+
+module _ (named : AreScoresMeant) (rule : Rule) (K : ℕ) (W S : List Operation) (books : Books) (world : IsWorld K S) (are : AreImagesOf rule K W S books) where
+  members_are : (heaps : List ℕ) → map (λ (b : Book). b.state.members) (map books heaps) ≡ map (λ h. (image_of S h).members) heaps
+  members_are [] = refl
+  members_are (h ∷ heaps) = let first = (are.each h).state in let rest = members_are heaps in λ i. (first i).members ∷ rest i
+
+  pub queues_are : (heaps : List ℕ) → queues_of rule (map books heaps) ≡ queues_over rule S heaps
+  queues_are heaps = λ i key. queue_of rule key (members_are heaps i)
+
+  listed : (heaps : List ℕ) → lent.AreImagesOf S (map books heaps)
+  listed [] b none = absurd none
+  listed (h ∷ heaps) b (inl same) =
+      subst (λ (c : Book). c.state ≡ image_of S c.heap) same ((are.each h).state ∙ ap (image_of S) (sym (are.each h).heap))
+  listed (h ∷ heaps) b (inr there) = listed heaps b there
+
+  -- a member's score over heaps among which its own is
+  score_over : (heaps : List ℕ) (key m : List ℕ) (x : ℤ) → IsIn (heap_of key m K) heaps → (score_in (queues_over rule S heaps key) m ≡ Some x) ↔ (score_in (queues_of rule (map books heaps) key) m ≡ Some x)
+  score_over heaps key m x _ = (
+    λ is. subst (λ (q : Queues). score_in (q key) m ≡ Some x) (sym (queues_are heaps)) is,
+    λ is. subst (λ (q : Queues). score_in (q key) m ≡ Some x) (queues_are heaps) is,
+  )
+
+  score_same : (heaps others : List ℕ) (key m : List ℕ) → IsIn (heap_of key m K) heaps → IsIn (heap_of key m K) others →
+      score_in (queues_over rule S heaps key) m ≡ score_in (queues_over rule S others key) m
+  score_same heaps others key m here there =
+      same_options _ _ (λ x is. moves heaps others x here there is) (λ x is. moves others heaps x there here is)
+    where
+      in_named : (hs : List ℕ) → IsIn (heap_of key m K) hs → IsIn (heap_of key m K) (map (λ (b : Book). b.heap) (map books hs))
+      in_named hs i = subst (IsIn (heap_of key m K)) (sym (heap_named books hs (λ k. (are.each k).heap))) i
+
+      moves : (hs os : List ℕ) (x : ℤ) → IsIn (heap_of key m K) hs → IsIn (heap_of key m K) os → score_in (queues_over rule S hs key) m ≡ Some x → score_in (queues_over rule S os key) m ≡ Some x
+      moves hs os x i j is =
+          let means = (named rule K S (map books hs) world (listed hs) key m x (in_named hs i)).0 ((score_over hs key m x i).0 is) in
+          (score_over os key m x j).1 ((named rule K S (map books os) world (listed os) key m x (in_named os j)).1 means)
+
+  -- a command of one heap plans over that heap what it plans over all
+  pub alone : (command : Command) (h : ℕ) → 0 < K → heaps_of command K ≡ One h → plan_of command (queues_over rule S (h ∷ [])) ≡ plan_of command (queues_over rule S (heaps_in K))
+  alone command h some is =
+      plans_same (queues_over rule S (h ∷ [])) (queues_over rule S (heaps_in K)) K h
+      (λ key m at. score_same (h ∷ []) (heaps_in K) key m (inl (sym at)) (in_range_with_len 0 K (heap_of key m K) (omega arith) (let below = heap_in_range key m K some in omega (arith, below))))
+      command is
+
+  -- ---- what calls answer
+
+  near : (command : Command) (w1 w2 : ℕ) (moves : List Move) (reply : Word) (found : List Book) → queues_of rule found ≡ queues_over rule S (drawn K w1 w2) → HasNear rule command found →
+      IsRunOver (queues_over rule S (drawn K w1 w2)) command moves reply → IsRunOf rule K S w1 w2 command moves reply
+  near (Zpopnear key) w1 w2 moves reply found same has is = over_drawn key refl (subst (λ (q : Queues). 1 ≤ length (q key)) same has) is
+  near (Ping message) w1 w2 moves reply found same has is = absurd has
+  near (Zadd key flags pairs) w1 w2 moves reply found same has is = absurd has
+  near (ZaddIncr key flags increment member) w1 w2 moves reply found same has is = absurd has
+  near (Zincrby key increment member) w1 w2 moves reply found same has is = absurd has
+  near (Zrem key members) w1 w2 moves reply found same has is = absurd has
+  near (Zscore key member) w1 w2 moves reply found same has is = absurd has
+  near (Zcard key) w1 w2 moves reply found same has is = absurd has
+  near (Zcount key min max) w1 w2 moves reply found same has is = absurd has
+  near (Zrank key member) w1 w2 moves reply found same has is = absurd has
+  near (Zrevrank key member) w1 w2 moves reply found same has is = absurd has
+  near (Zrange key range is_turned with_scores) w1 w2 moves reply found same has is = absurd has
+  near (Zpopmin key count) w1 w2 moves reply found same has is = absurd has
+  near (Del keys) w1 w2 moves reply found same has is = absurd has
+
+  runs : (command : Command) (w1 w2 : ℕ) (moves : List Move) (reply : Word) (heaps : List ℕ) → 0 < K → (hs : Heaps) → heaps_of command K ≡ hs →
+      AreHeapsFor hs rule K command w1 w2 heaps (map books heaps) → IsRunOver (queues_over rule S heaps) command moves reply → IsRunOf rule K S w1 w2 command moves reply
+  runs command w1 w2 moves reply heaps some NoHeap is held says = absurd held
+  runs command w1 w2 moves reply heaps some (One h) is held says =
+      over_all (run_moved command (queues_over rule S (h ∷ [])) (queues_over rule S (heaps_in K)) moves reply (alone command h some is) (not_popping K h command is)
+      (takes_same K h command (queues_over rule S (h ∷ [])) (queues_over rule S (heaps_in K)) is)
+      (subst (λ hs. IsRunOver (queues_over rule S hs) command moves reply) held says))
+  runs command w1 w2 moves reply heaps some Near is (inl held) says =
+      near command w1 w2 moves reply (map books heaps) (queues_are heaps ∙ ap (queues_over rule S) held.0) held.1 (subst (λ hs. IsRunOver (queues_over rule S hs) command moves reply) held.0 says)
+  runs command w1 w2 moves reply heaps some Near is (inr held) says = over_all (subst (λ hs. IsRunOver (queues_over rule S hs) command moves reply) held says)
+  runs command w1 w2 moves reply heaps some All is held says = over_all (subst (λ hs. IsRunOver (queues_over rule S hs) command moves reply) held says)
+
+  vector_at : (h : ℕ) → (books h).state.vector ≡ vector_of S h
+  vector_at h = ap (λ (a : Image). a.vector) (are.each h).state
+
+  -- ---- each kind of call
+
+  -- the moves that a command made, over the queues of the heaps that it held
+  pub run_found : (site stamp : ℕ) (command : Command) (heaps : List ℕ) (reply : Word) (steps : List (List Step)) → IsAnswered rule site stamp command reply (map books heaps) steps →
+      (moves : List Move) × IsRunOver (queues_over rule S heaps) command moves reply × (steps ≡ map (λ h. moved_in K site stamp h moves (vector_of S h)) heaps)
+  run_found site stamp command heaps reply steps is =
+      let ran = ran_over rule site stamp command (map books heaps) is.left reply is.ran in (
+        ran.0,
+        subst (λ (q : Queues). IsRunOver q command ran.0 reply) (queues_are heaps) ran.1,
+        moves_are site stamp K ran.0 heaps books is.left steps (λ h. (are.each h).heaps) (λ h. (are.each h).heap) ran.2 is.appended ∙ vectors ran.0 heaps,
+      )
+    where
+      vectors : (moves : List Move) (hs : List ℕ) → map (λ h. moved_in K site stamp h moves (books h).state.vector) hs ≡ map (λ h. moved_in K site stamp h moves (vector_of S h)) hs
+      vectors moves [] = refl
+      vectors moves (h ∷ hs) = let rest = vectors moves hs in λ i. moved_in K site stamp h moves (vector_at h i) ∷ rest i
+
+  run_off : (site stamp : ℕ) (command : Command) (w1 w2 : ℕ) (heaps : List ℕ) (reply : Word) (steps : List (List Step)) → 0 < K →
+      AreHeapsFor (heaps_of command K) rule K command w1 w2 heaps (map books heaps) → IsAnswered rule site stamp command reply (map books heaps) steps →
+      (moves : List Move) × IsRunOf rule K S w1 w2 command moves reply × (steps ≡ map (λ h. moved_in K site stamp h moves (vector_of S h)) heaps)
+  run_off site stamp command w1 w2 heaps reply steps some held is =
+      let found = run_found site stamp command heaps reply steps is in
+      (found.0, runs command w1 w2 found.0 reply heaps some (heaps_of command K) refl held found.1, found.2)
+
+  take_off : (site stamp : ℕ) (op : Placed) (heaps : List ℕ) (result : Result Taken TakeFault) (steps : List (List Step)) → IsTaken stamp op result (map books (op.operation.heap ∷ [])) steps →
+      IsAnswerOf rule K site S (ToTake op) stamp heaps (Handed result) steps
+  take_off site stamp op heaps (Ok taken) [] is = absurd is
+  take_off site stamp op heaps (Ok taken) (ss ∷ []) is =
+      let same = vector_at op.operation.heap in (
+        is.0 ∙ ap (λ v. taken_of v op.operation) same,
+        ap (λ (l : List Step). l ∷ []) (is.1 ∙ ap (λ v. steps_when (taken_of v op.operation) stamp op.operation) same),
+      )
+  take_off site stamp op heaps (Ok taken) (ss ∷ more ∷ steps) is = absurd is
+  take_off site stamp op heaps (Err fault) [] is = absurd is
+  take_off site stamp op heaps (Err unheld.WrongHeap) (ss ∷ []) is = absurd is
+  take_off site stamp op heaps (Err unheld.Worn) (ss ∷ []) is = ap (λ (l : List Step). l ∷ []) is.2
+  take_off site stamp op heaps (Err unheld.NoMemory) (ss ∷ []) is = ap (λ (l : List Step). l ∷ []) is.1
+  take_off site stamp op heaps (Err fault) (ss ∷ more ∷ steps) is = absurd is
+
+  merge_off : (site stamp : ℕ) (other : HeapImage) (heaps : List ℕ) (result : Result (Unit {0}) MergeFault) (steps : List (List Step)) → IsMerged stamp other result (map books (other.heap ∷ [])) steps →
+      IsAnswerOf rule K site S (ToMerge other) stamp heaps (Joined result) steps
+  merge_off site stamp other heaps (Ok done) [] is = absurd is
+  merge_off site stamp other heaps (Ok done) (ss ∷ []) is = ap (λ (l : List Step). l ∷ []) is.1
+  merge_off site stamp other heaps (Ok done) (ss ∷ more ∷ steps) is = absurd is
+  merge_off site stamp other heaps (Err fault) [] is = absurd is
+  merge_off site stamp other heaps (Err unjoined.WrongHeap) (ss ∷ []) is = absurd is
+  merge_off site stamp other heaps (Err unjoined.WrongRule) (ss ∷ []) is = absurd is
+  merge_off site stamp other heaps (Err unjoined.Worn) (ss ∷ []) is = ap (λ (l : List Step). l ∷ []) is.1
+  merge_off site stamp other heaps (Err unjoined.NoMemory) (ss ∷ []) is = ap (λ (l : List Step). l ∷ []) is.1
+  merge_off site stamp other heaps (Err fault) (ss ∷ more ∷ steps) is = absurd is
+
+  show_off : (site stamp heap : ℕ) (heaps : List ℕ) (vector : List ℕ) (steps : List (List Step)) → IsShown vector (map books (heap ∷ [])) steps →
+      IsAnswerOf rule K site S (ToShow heap) stamp heaps (Shown vector) steps
+  show_off site stamp heap heaps vector [] is = absurd is
+  show_off site stamp heap heaps vector (ss ∷ []) is = (is.0 ∙ vector_at heap, ap (λ (l : List Step). l ∷ []) is.1)
+  show_off site stamp heap heaps vector (ss ∷ more ∷ steps) is = absurd is
+
+  copy_off : (site stamp heap : ℕ) (heaps : List ℕ) (result : Result HeapImage ReadFault) (steps : List (List Step)) → IsCopied result (map books (heap ∷ [])) steps →
+      IsAnswerOf rule K site S (ToCopy heap) stamp heaps (Copied result) steps
+  copy_off site stamp heap heaps (Ok copy) [] is = absurd is
+  copy_off site stamp heap heaps (Ok copy) (ss ∷ []) is =
+      let its = are.each heap in
+      (is.0 ∙ (λ i. record { heap = its.heap i; heaps = its.heaps i; rule = its.ruled i; image = its.state i }), ap (λ (l : List Step). l ∷ []) is.1)
+  copy_off site stamp heap heaps (Ok copy) (ss ∷ more ∷ steps) is = absurd is
+  copy_off site stamp heap heaps (Err fault) [] is = absurd is
+  copy_off site stamp heap heaps (Err fault) (ss ∷ []) is = ap (λ (l : List Step). l ∷ []) is.1
+  copy_off site stamp heap heaps (Err fault) (ss ∷ more ∷ steps) is = absurd is
+
+  -- what a peer lacks of the set
+  told_off : (stamp heap : ℕ) (vector : List ℕ) (since : Since) → IsSince vector since (begun stamp (books heap)) → IfOps since (AreLacked K S heap vector)
+  told_off stamp heap vector TooOld is = tt
+  told_off stamp heap vector (Ops ops) is = record {
+    told = lacking vector (operations_of (begun stamp (books heap)).tail);
+    placed = is.ops ∙ ap (λ k. map (placed_at k) (lacking vector (operations_of (begun stamp (books heap)).tail))) (are.each heap).heaps;
+    same = record {
+      forth = λ o i.
+          let parts = in_filter_from (λ p. not (has vector p.site p.n)) (operations_of (begun stamp (books heap)).tail) o i in
+          let mine : IsIn o S = its.told o parts.0 in
+          in_filter (λ p. not (has vector p.site p.n)) (in_heap heap S) o (in_heap_too heap S o mine (tail_above heap its.start (operations_of (begun stamp (books heap)).tail) o its.tailed parts.0).0) parts.1;
+      back = λ o i.
+          let parts = in_filter_from (λ p. not (has vector p.site p.n)) (in_heap heap S) o i in
+          let mine = of_heap heap S o parts.0 in
+          in_filter (λ p. not (has vector p.site p.n)) (operations_of (begun stamp (books heap)).tail) o (elim (in_tail_set o its.start (operations_of (begun stamp (books heap)).tail) (its.all o mine.0 mine.1)) [
+            | inl j ↦ absurd (true≢false (sym parts.1 ∙ ap not (known o mine.0 j mine.1)))
+            | inr j ↦ j
+          ]) parts.1;
+    };
+  }
+    where
+      its : HasTailOf S heap (begun stamp (books heap))
+      its = tail_begun K S world heap S (λ o i. i) stamp (books heap) (are.each heap).tail
+
+      covered : covers vector (begun stamp (books heap)).base.vector ≡ true
+      covered = not_false _ is.too_old
+
+      -- the vector covers what the base has
+      known : (o : Operation) → IsIn o S → IsIn o its.start → o.heap ≡ heap → has vector o.site o.n ≡ true
+      known o mine i at =
+          let low = last_above its.start heap o.site o i at refl in
+          let base : slice_index (begun stamp (books heap)).base.vector o.site ≡ slice_index (vector_of its.start heap) o.site = ap (λ (a : Image). slice_index a.vector o.site) its.base in
+          let counter = (vector_is K its.start heap (world_part K its.start S its.within world)).counter o.site in
+          let most = covers_at vector (begun stamp (books heap)).base.vector o.site covered (world.each o mine).site in
+          has_from vector o.site o.n (counter_positive K S o world mine) (omega (arith, low, base, counter, most))
+
+  tell_off : (site stamp heap : ℕ) (vector : List ℕ) (heaps : List ℕ) (result : Result Since ReadFault) (steps : List (List Step)) → IsTold stamp vector result (map books (heap ∷ [])) steps →
+      IsAnswerOf rule K site S (ToTell heap vector) stamp heaps (Told result) steps
+  tell_off site stamp heap vector heaps result [] is = absurd is
+  tell_off site stamp heap vector heaps (Ok since) (ss ∷ []) is = (told_off stamp heap vector since is.0, ap (λ (l : List Step). l ∷ []) is.1)
+  tell_off site stamp heap vector heaps (Err fault) (ss ∷ []) is = ap (λ (l : List Step). l ∷ []) is.1
+  tell_off site stamp heap vector heaps result (ss ∷ more ∷ steps) is = absurd is
+
+  -- the answer to what was asked, and the steps, over the books of its heaps
+  pub read_off : (site stamp : ℕ) (asked : Asked) (heaps : List ℕ) (answer : Answer) (steps : List (List Step)) → 0 < K → Does rule K site stamp asked heaps answer (map books heaps) steps →
+      IsAnswerOf rule K site S asked stamp heaps answer steps
+  read_off site stamp (ToRun command w1 w2) heaps (Replied reply) steps some is = run_off site stamp command w1 w2 heaps reply steps some is.0 is.1
+  read_off site stamp (ToTake op) heaps (Handed result) steps some is =
+      take_off site stamp op heaps result steps (subst (λ hs. IsTaken stamp op result (map books hs) steps) is.0 is.1)
+  read_off site stamp (ToMerge other) heaps (Joined result) steps some is =
+      merge_off site stamp other heaps result steps (subst (λ hs. IsMerged stamp other result (map books hs) steps) is.0 is.1)
+  read_off site stamp (ToShow heap) heaps (Shown vector) steps some is =
+      show_off site stamp heap heaps vector steps (subst (λ hs. IsShown vector (map books hs) steps) is.0 is.1)
+  read_off site stamp (ToCopy heap) heaps (Copied result) steps some is =
+      copy_off site stamp heap heaps result steps (subst (λ hs. IsCopied result (map books hs) steps) is.0 is.1)
+  read_off site stamp (ToTell heap vector) heaps (Told result) steps some is =
+      tell_off site stamp heap vector heaps result steps (subst (λ hs. IsTold stamp vector result (map books hs) steps) is.0 is.1)
+  read_off site stamp asked heaps answer steps some is = absurd is
+
+-- ---- commands that only read
+
+-- they make no move
+reads_only : (command : Command) (queues : Queues) → is_reading command ≡ true → (plan_of command queues).moves ≡ []
+reads_only (Zscore key member) queues reads = refl
+reads_only (Zcard key) queues reads = refl
+reads_only (Zcount key min max) queues reads = refl
+reads_only (Zrank key member) queues reads = refl
+reads_only (Zrevrank key member) queues reads = refl
+reads_only (Zrange key range is_turned with_scores) queues reads = refl
+reads_only (Ping message) queues reads = absurd (true≢false (sym reads))
+reads_only (Zadd key flags pairs) queues reads = absurd (true≢false (sym reads))
+reads_only (ZaddIncr key flags increment member) queues reads = absurd (true≢false (sym reads))
+reads_only (Zincrby key increment member) queues reads = absurd (true≢false (sym reads))
+reads_only (Zrem key members) queues reads = absurd (true≢false (sym reads))
+reads_only (Zpopmin key count) queues reads = absurd (true≢false (sym reads))
+reads_only (Zpopnear key) queues reads = absurd (true≢false (sym reads))
+reads_only (Del keys) queues reads = absurd (true≢false (sym reads))
+
+-- and are cut at once, with the same words
+pops_none : (command : Command) → is_reading command ≡ true → popped_of command ≡ None
+pops_none (Zscore key member) reads = refl
+pops_none (Zcard key) reads = refl
+pops_none (Zcount key min max) reads = refl
+pops_none (Zrank key member) reads = refl
+pops_none (Zrevrank key member) reads = refl
+pops_none (Zrange key range is_turned with_scores) reads = refl
+pops_none (Ping message) reads = refl
+pops_none (Zadd key flags pairs) reads = refl
+pops_none (ZaddIncr key flags increment member) reads = refl
+pops_none (Zincrby key increment member) reads = refl
+pops_none (Zrem key members) reads = refl
+pops_none (Zpopmin key count) reads = absurd (true≢false (sym reads))
+pops_none (Zpopnear key) reads = absurd (true≢false (sym reads))
+pops_none (Del keys) reads = refl
+
+-- what it takes memory for is its reply
+pub for_reply : (command : Command) (queues : Queues) → is_reading command ≡ true → (is_long : Bool) × (counted : ℕ) × (takes_of command queues ≡ ForReply is_long counted)
+for_reply (Zscore key member) queues reads = (_, _, refl)
+for_reply (Zcard key) queues reads = (_, _, refl)
+for_reply (Zcount key min max) queues reads = (_, _, refl)
+for_reply (Zrank key member) queues reads = (_, _, refl)
+for_reply (Zrevrank key member) queues reads = (_, _, refl)
+for_reply (Zrange key range is_turned with_scores) queues reads = (_, _, refl)
+for_reply (Ping message) queues reads = absurd (true≢false (sym reads))
+for_reply (Zadd key flags pairs) queues reads = absurd (true≢false (sym reads))
+for_reply (ZaddIncr key flags increment member) queues reads = absurd (true≢false (sym reads))
+for_reply (Zincrby key increment member) queues reads = absurd (true≢false (sym reads))
+for_reply (Zrem key members) queues reads = absurd (true≢false (sym reads))
+for_reply (Zpopmin key count) queues reads = absurd (true≢false (sym reads))
+for_reply (Zpopnear key) queues reads = absurd (true≢false (sym reads))
+for_reply (Del keys) queues reads = absurd (true≢false (sym reads))
+
+short_at : (takes : Takes) (is_long : Bool) (counted k : ℕ) (moves : ℕ) → takes ≡ ForReply is_long counted → IsCutAt Memory takes k moves → (k ≤ moves) × MayLack takes 0 None []
+short_at takes is_long counted k moves is few =
+    let both : (k ≤ moves) × IsReadShort is_long counted = subst (λ t. IsCutAt Memory t k moves) is few in
+    (both.0, subst (λ t. MayLack t 0 None []) (sym is) both.1)
+
+-- where the set has no more members than a reply counts, a list alone may be short
+pub listed_short : (command : Command) (queues : Queues) → is_reading command ≡ true → ((key : List ℕ) → length (queues key) ≤ 288230376151711744) → MayLack (takes_of command queues) 0 None [] →
+    is_list queues (Ok command) ≡ true
+listed_short (Zscore key member) queues reads few (inl text) = absurd (true≢false (sym text))
+listed_short (Zscore key member) queues reads few (inr many) = absurd (omega (arith, many))
+listed_short (Zcard key) queues reads few (inl text) = absurd (true≢false (sym text))
+listed_short (Zcard key) queues reads few (inr many) = let most = few key in absurd (omega (arith, many, most))
+listed_short (Zcount key min max) queues reads few (inl text) = absurd (true≢false (sym text))
+listed_short (Zcount key min max) queues reads few (inr many) = let most = few key in absurd (omega (arith, many, most))
+listed_short (Zrank key member) queues reads few (inl text) = absurd (true≢false (sym text))
+listed_short (Zrank key member) queues reads few (inr many) = let most = few key in absurd (omega (arith, many, most))
+listed_short (Zrevrank key member) queues reads few (inl text) = absurd (true≢false (sym text))
+listed_short (Zrevrank key member) queues reads few (inr many) = let most = few key in absurd (omega (arith, many, most))
+listed_short (Zrange key range is_turned with_scores) queues reads few (inl text) = text
+listed_short (Zrange key range is_turned with_scores) queues reads few (inr many) = let most = few key in absurd (omega (arith, many, most))
+listed_short (Ping message) queues reads few lacks = absurd (true≢false (sym reads))
+listed_short (Zadd key flags pairs) queues reads few lacks = absurd (true≢false (sym reads))
+listed_short (ZaddIncr key flags increment member) queues reads few lacks = absurd (true≢false (sym reads))
+listed_short (Zincrby key increment member) queues reads few lacks = absurd (true≢false (sym reads))
+listed_short (Zrem key members) queues reads few lacks = absurd (true≢false (sym reads))
+listed_short (Zpopmin key count) queues reads few lacks = absurd (true≢false (sym reads))
+listed_short (Zpopnear key) queues reads few lacks = absurd (true≢false (sym reads))
+listed_short (Del keys) queues reads few lacks = absurd (true≢false (sym reads))
+
+read_over : (queues : Queues) (command : Command) (moves : List Move) (reply : Word) → is_reading command ≡ true → ((key : List ℕ) → length (queues key) ≤ 288230376151711744) →
+    IsRunOver queues command moves reply → IsOrShort (is_list queues (Ok command)) (bytes_of (plan_of command queues).reply) reply
+read_over queues command moves reply reads few (in_full are says) = inl says
+read_over queues command moves reply reads few (cut_off k Memory low are says) =
+    let none = ap length (reads_only command queues reads) in
+    let takes = for_reply command queues reads in
+    let short = short_at (takes_of command queues) takes.0 takes.1 k (length (plan_of command queues).moves) takes.2 low in
+    let most = short.0 in
+    let first : k ≡ 0 = omega (arith, most, none) in
+    inr (listed_short command queues reads few short.1, says ∙ ap (λ popped. bytes_of (cut_pop popped queues k Memory)) (pops_none command reads) ∙ ap (λ n. bytes_of (cut_error n Memory)) first)
+read_over queues command moves reply reads few (cut_off k Number low are says) =
+    let none = ap length (reads_only command queues reads) in absurd (omega (arith, low, none))
+
+pub reads_so : (rule : Rule) (K : ℕ) (S : List Operation) (w1 w2 : ℕ) (command : Command) (moves : List Move) (reply : Word) → 2 ≤ K → IsWorld K S → is_reading command ≡ true →
+    IsRunOf rule K S w1 w2 command moves reply →
+    IsOrShort (is_list (queues_over rule S (heaps_in K)) (Ok command)) (bytes_of (plan_of command (queues_over rule S (heaps_in K))).reply) reply
+reads_so rule K S w1 w2 command moves reply two world reads (over_all says) =
+    read_over (queues_over rule S (heaps_in K)) command moves reply reads
+    (λ key. few_members K S world key rule (queues_over rule S (heaps_in K) key) (whole_queue_is rule K S key world (omega (arith, two)))) says
+reads_so rule K S w1 w2 command moves reply two world reads (over_drawn key is some says) = absurd (true≢false (sym (ap is_reading (sym is) ∙ reads)))

@@ -1,0 +1,20 @@
+use Rattle.zq_notes.proofs.Noted.{calls, copies, merges, shows, takes, tells}
+use Rattle.zq_notes.proofs.calls.noting.Goals as goal
+
+pub returns-clause-calls : goal.returns-clause-calls
+returns-clause-calls c = calls
+
+pub returns-clause-takes : goal.returns-clause-takes
+returns-clause-takes c = takes
+
+pub returns-clause-merges : goal.returns-clause-merges
+returns-clause-merges c = merges
+
+pub returns-clause-tells : goal.returns-clause-tells
+returns-clause-tells c = tells
+
+pub returns-clause-copies : goal.returns-clause-copies
+returns-clause-copies c = copies
+
+pub returns-clause-shows : goal.returns-clause-shows
+returns-clause-shows c = shows

@@ -1,0 +1,151 @@
+-- What calls answer and do, read off the set of operations that the site had before them.
+
+use Rattle.std.specs.Prelude.{Bool, Err, List, Ok, Result, [], false, if◌then◌else◌, length, map, slice_index, slice_set, take, true, ℕ, ◌+◌, ◌<◌, ◌==◌, ◌∷◌, ◌≡◌, ◌≤◌, ◌⊎◌}
+use Rattle.zq_dots.specs.Placed.{Placed}
+use Rattle.zq_history.specs.Books as book
+use Rattle.zq_history.specs.Books.{Made, Step}
+use Rattle.zq_journal.specs.Answers.{IfOps}
+use Rattle.zq_journal.specs.Books.{step_of, steps_when}
+use Rattle.zq_journal.specs.Records.{placed_at}
+use Rattle.zq_journal.specs.declared.faults.MergeFault.{MergeFault}
+use Rattle.zq_journal.specs.declared.faults.TakeFault.{TakeFault}
+use Rattle.zq_journal.specs.declared.since.Since.{Since}
+use Rattle.zq_model.specs.Heaps.{heap_of}
+use Rattle.zq_model.specs.Image.{image_of}
+use Rattle.zq_model.specs.Operation.{Operation, operation_over}
+use Rattle.zq_model.specs.Rule.{Rule}
+use Rattle.zq_model.specs.Sets.{AreSame, in_heap, taken_of, vector_of}
+use Rattle.zq_model.specs.Tail.{lacking}
+use Rattle.zq_moves.specs.Moves.{Move, Queues}
+use Rattle.zq_notes.specs.Notes.{Answer, Asked, Copied, Handed, Joined, Note, Replied, Shown, ToCopy, ToMerge, ToRun, ToShow, ToTake, ToTell, Told}
+use Rattle.zq_plans.specs.Plan.{is_there, plan_of}
+use Rattle.zq_plans.specs.Ranges.{ranged, turned_if}
+use Rattle.zq_plans.specs.Replies.{bytes_of}
+use Rattle.zq_plans.specs.Run.{ForReply, IsReadShort, Memory, Number, Takes, Want, cut_error, cut_reply, takes_of}
+use Rattle.zq_runs.specs.Reading.{heaps_in, queues_over}
+use Rattle.zq_shard.specs.Shard.{HeapImage}
+use Rattle.zq_shard.specs.Taken.{answer_of}
+use Rattle.zq_shard.specs.declared.taken.Taken.{Taken}
+use Rattle.zq_spread.specs.Drawn.{drawn}
+use Rattle.zq_spread.specs.declared.faults.ReadFault.{ReadFault}
+use Rattle.zq_words.specs.Command.{Command, Reading, Zpopnear, Zrange}
+use Rattle.zq_words.specs.Words.{Word}
+
+-- a command of so many moves may be cut after k of them: before a move that needs a number past its last value, and for want of
+-- memory before a move, or for a reply that takes some
+abbrev pub IsCutAt : Want → Takes → ℕ → ℕ → Type 0
+IsCutAt Number takes k moves = k < moves
+IsCutAt Memory (ForReply is_long counted) k moves = (k ≤ moves) × IsReadShort is_long counted
+IsCutAt Memory takes k moves = k < moves
+
+-- what a command comes to over these queues: its moves and its reply, which are those of its plan,
+-- or those of a cut
+pub data IsRunOver (queues : Queues) (command : Command) (moves : List Move)
+    (reply : Word) : Type 0 where
+  in_full : moves ≡ (plan_of command queues).moves →
+      reply ≡ bytes_of (plan_of command queues).reply →
+      IsRunOver queues command moves reply
+  cut_off : (k : ℕ) → (want : Want) →
+      IsCutAt want (takes_of command queues) k (length (plan_of command queues).moves) →
+      moves ≡ take k (plan_of command queues).moves →
+      reply ≡ bytes_of (cut_reply command queues k want) → IsRunOver queues command moves reply
+
+-- and at a site of this set: over the queues of all heaps, or ZPOPNEAR over those of the two drawn
+-- ones, where one of them has a member of the key
+pub data IsRunOf (rule : Rule) (K : ℕ) (S : List Operation) (w1 w2 : ℕ) (command : Command)
+    (moves : List Move) (reply : Word) : Type 0 where
+  over_all : IsRunOver (queues_over rule S (heaps_in K)) command moves reply →
+      IsRunOf rule K S w1 w2 command moves reply
+  over_drawn : (key : Word) → command ≡ Zpopnear key →
+      1 ≤ length (queues_over rule S (drawn K w1 w2) key) →
+      IsRunOver (queues_over rule S (drawn K w1 w2)) command moves reply →
+      IsRunOf rule K S w1 w2 command moves reply
+
+-- the steps of these moves in the heap h, of K, whose vector is v: each of its moves is the site's
+-- next operation there
+abbrev pub moved_in : ℕ → ℕ → ℕ → ℕ → List Move → List ℕ → List Step
+moved_in K site stamp h [] v = []
+moved_in K site stamp h (move ∷ moves) v =
+    if heap_of move.key move.member K == h
+    then step_of stamp (Made (operation_over h v site move.key move.member move.act))
+    ∷ moved_in K site stamp h moves (slice_set v site (slice_index v site + 1))
+    else moved_in K site stamp h moves v
+
+-- the operations are those that the set has in the heap, of K, and the vector lacks
+pub record AreLacked (K : ℕ) (S : List Operation) (heap : ℕ) (vector : List ℕ)
+    (ops : List Placed) : Type 0 where
+  pub told : List Operation
+  pub placed : ops ≡ map (placed_at K) told
+  pub same : AreSame told (lacking vector (in_heap heap S))
+
+-- ---- each kind of call: what it answers and does, read off the set that the site has
+
+-- a command of a site of this number, with its steps in each of these heaps
+abbrev pub IsRunOff : Rule → ℕ → ℕ → List Operation → Command → ℕ → ℕ → ℕ → List ℕ → Word →
+    List (List Step) → Type 0
+IsRunOff rule K site S command w1 w2 stamp heaps reply steps =
+    (moves : List Move) × IsRunOf rule K S w1 w2 command moves reply
+    × (steps ≡ map (λ h. moved_in K site stamp h moves (vector_of S h)) heaps)
+
+-- an operation of another site
+abbrev pub IsTakenOff : List Operation → Placed → ℕ → Result Taken TakeFault → List (List Step) →
+    Type 0
+IsTakenOff S op stamp (Ok taken) steps =
+    (answer_of taken ≡ taken_of (vector_of S op.operation.heap) op.operation)
+    × (steps
+    ≡ steps_when (taken_of (vector_of S op.operation.heap) op.operation) stamp op.operation ∷ [])
+IsTakenOff S op stamp (Err fault) steps = steps ≡ [] ∷ []
+
+-- a heap of another site
+abbrev pub IsMergedOff : HeapImage → ℕ → Result (Unit {0}) MergeFault → List (List Step) → Type 0
+IsMergedOff other stamp (Ok done) steps = steps ≡ (book.Merged stamp other.image ∷ []) ∷ []
+IsMergedOff other stamp (Err fault) steps = steps ≡ [] ∷ []
+
+-- what a peer of this vector lacks of a heap: where it is not too old for the book's tail, which a
+-- set does not say
+abbrev pub IsToldOff : ℕ → List Operation → ℕ → List ℕ → Result Since ReadFault → List (List Step) →
+    Type 0
+IsToldOff K S heap vector (Ok since) steps =
+    IfOps since (AreLacked K S heap vector) × (steps ≡ [] ∷ [])
+IsToldOff K S heap vector (Err fault) steps = steps ≡ [] ∷ []
+
+-- a copy of a heap
+abbrev pub IsCopiedOff : Rule → ℕ → List Operation → ℕ → Result HeapImage ReadFault →
+    List (List Step) → Type 0
+IsCopiedOff rule K S heap (Ok copy) steps =
+    (copy ≡ record { heap = heap; heaps = K; rule = rule; image = image_of S heap })
+    × (steps ≡ [] ∷ [])
+IsCopiedOff rule K S heap (Err fault) steps = steps ≡ [] ∷ []
+
+-- which operations of a heap it has
+abbrev pub IsShownOff : List Operation → ℕ → List ℕ → List (List Step) → Type 0
+IsShownOff S heap vector steps = (vector ≡ vector_of S heap) × (steps ≡ [] ∷ [])
+
+-- what was asked, the stamp, the heaps, the answer and the steps in each heap
+abbrev pub IsAnswerOf : Rule → ℕ → ℕ → List Operation → Asked → ℕ → List ℕ → Answer →
+    List (List Step) → Type 0
+IsAnswerOf rule K site S (ToRun command w1 w2) stamp heaps (Replied reply) steps =
+    IsRunOff rule K site S command w1 w2 stamp heaps reply steps
+IsAnswerOf rule K site S (ToTake op) stamp heaps (Handed result) steps =
+    IsTakenOff S op stamp result steps
+IsAnswerOf rule K site S (ToMerge other) stamp heaps (Joined result) steps =
+    IsMergedOff other stamp result steps
+IsAnswerOf rule K site S (ToTell heap vector) stamp heaps (Told result) steps =
+    IsToldOff K S heap vector result steps
+IsAnswerOf rule K site S (ToCopy heap) stamp heaps (Copied result) steps =
+    IsCopiedOff rule K S heap result steps
+IsAnswerOf rule K site S (ToShow heap) stamp heaps (Shown vector) steps =
+    IsShownOff S heap vector steps
+IsAnswerOf rule K site S asked stamp heaps answer steps = ⊥
+
+abbrev pub IsReadOff : Rule → ℕ → ℕ → List Operation → Note → Type 0
+IsReadOff rule K site S n = IsAnswerOf rule K site S n.asked n.stamp n.heaps n.answer n.steps
+
+-- the answer over these queues is a list with something in it
+abbrev pub is_list : Queues → Reading → Bool
+is_list queues (Ok (Zrange key range is_turned with_scores)) = is_there (ranged range (turned_if is_turned (queues key)))
+is_list queues reading = false
+
+-- the answer, or, where that is such a list, that there was no memory for it
+abbrev pub IsOrShort : Bool → Word → Word → Type 0
+IsOrShort is_list answer reply = (reply ≡ answer) ⊎ ((is_list ≡ true) × (reply ≡ bytes_of (cut_error 0 Memory)))

@@ -1,0 +1,34 @@
+//! What the calls of several sites come to as the run of a world.
+
+ghost use Rattle.std.specs.Prelude.{List, Option, ℕ};
+ghost use Rattle.zq_model.specs.Rule.{Rule as Rules};
+ghost use Rattle.zq_notes.specs.Played.{IsPlay};
+ghost use Rattle.zq_notes.specs.Sites.{AreEventsOf, Event};
+ghost use Rattle.zq_notes.specs.Uncut.{AreRunnable};
+ghost use Rattle.zq_runs.specs.Events.{Event as RunEvent};
+ghost use Rattle.zq_spread.specs.declared.site.Site.{Site as Sites};
+
+use zq_moves::naming;
+
+/// The calls of running sites, as [`crate::linking`] has them, are the run of a world, where none
+/// was cut: each command did all that it plans, and nothing was refused. For each call there is the
+/// event of the run that it is, answered as the call was; a call that only reads books is none.
+/// After each of them the sites have what the run's sites have.
+///
+/// Beside that it is asked that each command is that of a request's words, each operation that is
+/// handed over was made before, each heap that is merged is one of K, the sites are those below a
+/// number of at most 64, and there are fewer steps than the last stamp: then no stamp and no count
+/// of the run comes to its last value, so it is the same whether worn stamps are judged over the
+/// heaps that a call holds and its pass, as sites do, or over all heaps of the site, as the run
+/// does.
+///
+/// A ZPOPNEAR that held all heaps, though one of the two that it drew has a member by then, is the
+/// run's ZPOPMIN with count 1.
+pub fn playing()
+    ensures plays { (rule : Rules) (K count : ℕ) (sites : ℕ → Sites) (events : List Event) →
+        AreEventsOf rule K sites events → AreRunnable rule K count events →
+        (plays : List (Option RunEvent)) × IsPlay rule K count events plays }
+{
+    // A member's score over books is the one that their set means.
+    naming();
+}

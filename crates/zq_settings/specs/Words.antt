@@ -1,0 +1,66 @@
+-- Why a text of settings is refused, in words.
+
+use Rattle.std.specs.Fmt.{debug_str, option_append}
+use Rattle.std.specs.Prelude.{List, None, Option, Some, [], codes, decimal, ℕ, ◌++◌}
+use Rattle.zq_settings.specs.Keys.{name_of}
+use Rattle.zq_settings.specs.declared.fault.SettingsFault.{SettingsFault}
+use Rattle.zq_settings.specs.declared.fault.SettingsFault.TheVariants.{NoMemory, Refused}
+use Rattle.zq_settings.specs.declared.form.Form.{Form}
+use Rattle.zq_settings.specs.declared.form.Form.TheVariants as form
+use Rattle.zq_settings.specs.declared.key.Key.{Key}
+use Rattle.zq_settings.specs.declared.key.Key.TheVariants as key
+use Rattle.zq_settings.specs.declared.why.Why.{Why}
+use Rattle.zq_settings.specs.declared.why.Why.TheVariants as why
+
+-- whose key it is, before its name
+abbrev pub owner_of : Key → List ℕ
+owner_of key.PeerSite = codes "a peer's "
+owner_of key.PeerAddress = codes "a peer's "
+owner_of other = []
+
+-- what the key's value has to be
+abbrev pub takes_of : Key → List ℕ
+takes_of key.Ports = codes "an array of 1 to 64 different port numbers from 1 to 65535"
+takes_of key.Heaps = codes "a whole number from 2 to 16"
+takes_of key.Workers = codes "a whole number from 1 to 64"
+takes_of key.Connections = codes "a whole number from 0 to 1000000"
+takes_of key.Seed = codes "a whole number from 0 to 9223372036854775807"
+takes_of key.Rule = codes "\"HIGH\" or \"LOW\""
+takes_of key.Site = codes "a whole number from 0 to 63"
+takes_of key.Port = codes "a whole number from 1 to 65535"
+takes_of key.Bind = codes "an IP address, as \"127.0.0.1\""
+takes_of key.Secret = codes "a text of at least 16 bytes"
+takes_of key.Listen = codes "an IP address with a port from 1 to 65535, as \"127.0.0.1:7101\""
+takes_of key.Peers = codes "an array of at most 63 tables of other sites"
+takes_of key.PeerSite = codes "a whole number from 0 to 63"
+takes_of key.PeerAddress = codes "an IP address with a port from 1 to 65535, as \"127.0.0.1:7101\""
+
+-- what has the keys of a table, and which they are
+abbrev pub keys_text : Form → List ℕ
+keys_text form.Sites = codes "settings, which are ports, heaps, workers, connections, seed and rule"
+keys_text form.Site =
+    codes "a site's settings, which are site, port, bind, secret, listen, peers, heaps, workers, connections, seed and rule"
+keys_text form.Peer = codes "a peer, which are site and address"
+
+-- what is wrong with a key's value, and what the key takes
+abbrev pub fault_text : Key → List ℕ → List ℕ
+fault_text key fault = owner_of key ++ (name_of key ++ (codes " " ++ (fault ++ (codes ": it takes " ++ takes_of key))))
+
+-- What is wrong, and what belongs there. Nothing is said of the words in which TOML refuses a text.
+abbrev pub words_of : Why → Option (List ℕ)
+words_of (why.Text line error) = None
+words_of (why.Unknown form name) = option_append (debug_str name) (Some (codes " is not a key of " ++ keys_text form))
+words_of (why.Missing key) = Some (fault_text key (codes "is missing"))
+words_of (why.Count key count) = Some (fault_text key (codes "has " ++ decimal count ++ codes " entries"))
+words_of (why.Kind key) = Some (fault_text key (codes "has a value of another kind"))
+words_of (why.Range key) = Some (fault_text key (codes "has a value out of range"))
+words_of (why.Twice port) = Some (fault_text key.Ports (codes "has " ++ decimal port ++ codes " twice"))
+words_of (why.PeerTwice site) = Some (fault_text key.Peers (codes "has site " ++ decimal site ++ codes " twice"))
+words_of (why.OwnPeer site) = Some (fault_text key.Peers (codes "has the site's own number " ++ decimal site))
+words_of (why.Exposed key) =
+    Some (owner_of key ++ name_of key ++ codes " is no loopback address: without a secret of at least 16 bytes it takes one")
+
+-- the same of a fault
+abbrev pub fault_words : SettingsFault → Option (List ℕ)
+fault_words (Refused why) = words_of why
+fault_words NoMemory = Some (codes "no memory")
