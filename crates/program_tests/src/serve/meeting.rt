@@ -6,12 +6,14 @@ use log::{LevelFilter, Logged};
 use std::alloc::Global;
 use std::io::{Read, Write};
 use std::net::{Net, TcpListener, TcpStream};
+use std::random::RandomSource;
+use std::sync::Wait;
 use std::test::Fail;
 use std::thread;
 use std::thread::Threads;
 use std::time::Clock;
-use zq_serve::serve;
-use zq_settings::settings;
+use zq_serve::{ServeFault, serve};
+use zq_settings::{Settings, settings};
 
 /// Settings of two sites of two heaps and this rule, each of which accepts one connection.
 fn text_of(alloc: Global, ports: [u16; 2], rule: &str) -> Result<String, Fail> {
@@ -52,20 +54,40 @@ fn add_and_await<R: Net<Listener = TcpListener, Stream = TcpStream> + Clock>(
     await_reply(rt, &mut stream, CARD, b":4\r\n")
 }
 
+/// Serves the sites of these settings while four members of so many bytes are added at the first and awaited at the second.
+fn served_with_long_members<R>(
+    rt: &R,
+    alloc: Global,
+    settings: &Settings,
+    ports: [u16; 2],
+    size: usize,
+) -> Result<Result<(), ServeFault>, Fail>
+where
+    R: Net<Listener = TcpListener, Stream = TcpStream>
+        + RandomSource
+        + Clock
+        + Threads
+        + Wait
+        + Sync,
+{
+    let log = Logged::new(rt, LevelFilter::Warn, Locked::new(rt, Vec::new(alloc)));
+    let mut written = Vec::new(alloc);
+    let (ended, met) = thread::join(
+        rt,
+        || serve(&log, alloc, settings, &mut written),
+        || add_and_await(rt, alloc, ports, size),
+    );
+    met?;
+    Ok(ended)
+}
+
 #[test]
 fn a_site_hears_of_more_than_64_kilobytes_at_once(rt: HostRuntime) -> Result<(), Fail> {
     let alloc = rt.alloc();
     let ports = [free_port(&rt)?, free_port(&rt)?];
     let text = text_of(alloc, ports, "HIGH")?;
     let settings = settings(alloc, &text)?;
-    let log = Logged::new(&rt, LevelFilter::Warn, Locked::new(&rt, Vec::new(alloc)));
-    let mut written = Vec::new(alloc);
-    let (ended, met) = thread::join(
-        &rt,
-        || serve(&log, alloc, &settings, &mut written),
-        || add_and_await(&rt, alloc, ports, 40_000),
-    );
-    met?;
+    let ended = served_with_long_members(&rt, alloc, &settings, ports, 40_000)?;
     assert_eq!(rt; ended, Ok(()));
     Ok(())
 }
@@ -121,20 +143,39 @@ fn put_and_await<R: Net<Listener = TcpListener, Stream = TcpStream> + Clock + Th
     Err("never apart".into())
 }
 
+/// Serves the sites of these settings while members are put apart at both.
+fn served_with_two_scores<R>(
+    rt: &R,
+    alloc: Global,
+    settings: &Settings,
+    ports: [u16; 2],
+) -> Result<Result<(), ServeFault>, Fail>
+where
+    R: Net<Listener = TcpListener, Stream = TcpStream>
+        + RandomSource
+        + Clock
+        + Threads
+        + Wait
+        + Sync,
+{
+    let log = Logged::new(rt, LevelFilter::Warn, Locked::new(rt, Vec::new(alloc)));
+    let mut written = Vec::new(alloc);
+    let (ended, met) = thread::join(
+        rt,
+        || serve(&log, alloc, settings, &mut written),
+        || put_and_await(rt, alloc, ports),
+    );
+    met?;
+    Ok(ended)
+}
+
 #[test]
 fn the_least_score_counts_where_the_settings_say_so(rt: HostRuntime) -> Result<(), Fail> {
     let alloc = rt.alloc();
     let ports = [free_port(&rt)?, free_port(&rt)?];
     let text = text_of(alloc, ports, "LOW")?;
     let settings = settings(alloc, &text)?;
-    let log = Logged::new(&rt, LevelFilter::Warn, Locked::new(&rt, Vec::new(alloc)));
-    let mut written = Vec::new(alloc);
-    let (ended, met) = thread::join(
-        &rt,
-        || serve(&log, alloc, &settings, &mut written),
-        || put_and_await(&rt, alloc, ports),
-    );
-    met?;
+    let ended = served_with_two_scores(&rt, alloc, &settings, ports)?;
     assert_eq!(rt; ended, Ok(()));
     Ok(())
 }
