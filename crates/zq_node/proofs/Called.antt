@@ -19,7 +19,7 @@ use Rattle.zq_model.specs.Heaps.{heap_of}
 use Rattle.zq_model.specs.Image.{Image, image_after}
 use Rattle.zq_model.specs.Operation.{has}
 use Rattle.zq_model.specs.Sets as sets
-use Rattle.zq_node.specs.Calls.{AreCalled, Asked, Call, Copied, IsCalled, IsEarlyTo, IsKnownTo, MadeNoStep, Merged, Saw, Took, WasTaken}
+use Rattle.zq_node.specs.Calls.{AreCalled, Asked, Call, Copied, HadNoRoom, IsCalled, IsEarlyTo, IsKnownTo, MadeNoStep, Merged, Saw, Took, WasTaken}
 use Rattle.zq_node.specs.Faults.{untaken}
 use Rattle.zq_node.specs.Hearing.{IsStopOf}
 use Rattle.zq_node.specs.declared.faults.NodeFault.{NodeFault}
@@ -31,7 +31,8 @@ use Rattle.zq_shard.specs.Shard.{HeapImage}
 use Rattle.zq_spread.specs.Answers.{IsAsked, IsCopied, IsShown, IsSince, IsTaken}
 use Rattle.zq_spread.specs.Calls.{AreWorkedIn, HasSeenBook, IsCall, IsOfSite, IsWorkedIn, greatest_stamp, heaps_of}
 use Rattle.zq_spread.specs.Kept.{Follows}
-use Rattle.zq_spread.specs.Passes.{IsStopped, seen_at, steps_at}
+use Rattle.zq_spread.specs.Passes.{seen_at, steps_at}
+use Rattle.zq_spread.specs.Worn.{IsWornIn}
 use Rattle.zq_spread.specs.declared.faults.ReadFault.{ReadFault}
 use Rattle.zq_spread.specs.declared.faults.ReadFault.TheVariants as unread
 use Rattle.zq_spread.specs.declared.kept.Kept.{Kept}
@@ -65,7 +66,7 @@ alone Does before after h is = alone_in Does before after h is.found is.left is.
 
 -- nothing changed in another heap
 pub elsewhere : (Does : List Book → List (List Step) → Type 0) (before after : Pass) (h k : ℕ) → IsCall Does before after (h ∷ []) → k ≢ h → (seen_at after k ≡ seen_at before k) × (steps_at after k ≡ steps_at before k)
-elsewhere Does before after h k is apart = is.others k (λ here. elim here [ inl same ↦ apart (sym same) | inr none ↦ absurd none ])
+elsewhere Does before after h k is apart = let stays = is.others k (λ here. elim here [ inl same ↦ apart (sym same) | inr none ↦ absurd none ]) in (stays.0, stays.1)
 
 -- a call whose own steps are none made no step
 pub no_step_by : (Does : List Book → List (List Step) → Type 0) (before after : Pass) (h : ℕ) → IsCall Does before after (h ∷ []) →
@@ -173,7 +174,7 @@ of_site site o so = record {
 pub record IsTakeOf (site : Site) (before after : Pass) (o : Placed) (r : Result Taken TakeFault) : Type 0 where
   pub wrong_heap : IsErrOf r unheld.WrongHeap ↔ (IsOfSite site o → ⊥)
   pub unlocked : (IsOfSite site o → ⊥) → after ≡ before
-  pub called : IsOfSite site o → IsCall (IsTaken after.stamp o r) before after (o.operation.heap ∷ []) ⊎ (IsErrOf r unheld.Worn × IsStopped before after)
+  pub called : IsOfSite site o → IsCall (IsTaken after.stamp o r) before after (o.operation.heap ∷ []) ⊎ (IsErrOf r unheld.Worn × IsWornIn (o.operation.heap ∷ []) before after)
 
 no_steps_taken : (stamp : ℕ) (o : Placed) (fault : TakeFault) (b : Book) (steps : List Step) → IsTaken stamp o (Err fault) (b ∷ []) (steps ∷ []) → steps ≡ []
 no_steps_taken stamp o unheld.WrongHeap b steps is = absurd is
@@ -183,7 +184,7 @@ no_steps_taken stamp o unheld.NoMemory b steps is = is.1
 own_refusal : (site : Site) (before after : Pass) (o : Placed) (fault : TakeFault) → IsTakeOf site before after o (Err fault) → IsOfSite site o → MadeNoStep before after
 own_refusal site before after o fault is of = elim (is.called of) [
   | inl call ↦ no_step_by (IsTaken after.stamp o (Err fault)) before after o.operation.heap call (no_steps_taken after.stamp o fault)
-  | inr stopped ↦ stopped.1.steps
+  | inr stopped ↦ stopped.1.0.steps
 ]
 
 same_pass : (before after : Pass) → after ≡ before → MadeNoStep before after
@@ -255,6 +256,21 @@ stop_take site before after o r fault n is told said = subst (IsStopOf site (Som
     stop_by unheld.Worn said = of_site site o (λ not. let e = said.wrong_heap.1 not in absurd (cc))
     stop_by unheld.NoMemory said = of_site site o (λ not. let e = said.wrong_heap.1 not in absurd (cc))
 
+-- where the node lacks memory for it, so does the site
+pub short_take : (site : Site) (before after : Pass) (o : Placed) (r : Result Taken TakeFault) (fault : TakeFault) (n : NodeFault) → r ≡ Err fault → n ≡ untaken fault →
+    IsTakeOf site before after o r → n ≡ node.NoMemory → HadNoRoom site before after o
+short_take site before after o r fault n is told said none = short_by fault (subst (IsTakeOf site before after o) is said) (sym told ∙ none)
+  where
+    short_by : (fault : TakeFault) → IsTakeOf site before after o (Err fault) → untaken fault ≡ node.NoMemory → HadNoRoom site before after o
+    short_by unheld.WrongHeap said none = absurd (cc)
+    short_by unheld.Worn said none = absurd (cc)
+    short_by unheld.NoMemory said none =
+        let is = of_site site o (λ not. let e = said.wrong_heap.1 not in absurd (cc)) in
+        elim (said.called is) [
+          | inl call ↦ (is, call)
+          | inr worn ↦ absurd (let e = worn.0 in cc)
+        ]
+
 -- one that is not the site's leaves the pass as it was
 pub unheard_take : (site : Site) (before after : Pass) (o : Placed) (r : Result Taken TakeFault) (fault : TakeFault) (n : NodeFault) → r ≡ Err fault → n ≡ untaken fault →
     IsTakeOf site before after o r → n ≡ node.WrongHeap → after ≡ before
@@ -268,24 +284,24 @@ pub shown_no_step : (vector : List ℕ) (before after : Pass) (h : ℕ) → IsCa
 shown_no_step vector before after h is = no_step_by (IsShown vector) before after h is (λ b steps done. done.1)
 
 -- the site was asked, or refused to be
-pub since_no_step : (r : Result Since ReadFault) (before after : Pass) (h : ℕ) → IsCall (IsAsked r) before after (h ∷ []) ⊎ (IsErrOf r unread.Worn × IsStopped before after) → MadeNoStep before after
+pub since_no_step : (r : Result Since ReadFault) (before after : Pass) (h : ℕ) → IsCall (IsAsked r) before after (h ∷ []) ⊎ (IsErrOf r unread.Worn × IsWornIn (h ∷ []) before after) → MadeNoStep before after
 since_no_step r before after h (inl call) = no_step_by (IsAsked r) before after h call (λ b steps done. done.1)
-since_no_step r before after h (inr stopped) = stopped.1.steps
+since_no_step r before after h (inr stopped) = stopped.1.0.steps
 
 -- the heap was copied, or refused to be
-pub state_no_step : (r : Result HeapImage ReadFault) (before after : Pass) (h : ℕ) → IsCall (IsCopied r) before after (h ∷ []) ⊎ (IsErrOf r unread.Worn × IsStopped before after) → MadeNoStep before after
+pub state_no_step : (r : Result HeapImage ReadFault) (before after : Pass) (h : ℕ) → IsCall (IsCopied r) before after (h ∷ []) ⊎ (IsErrOf r unread.Worn × IsWornIn (h ∷ []) before after) → MadeNoStep before after
 state_no_step r before after h (inl call) = no_step_by (IsCopied r) before after h call (λ b steps done. done.1)
-state_no_step r before after h (inr stopped) = stopped.1.steps
+state_no_step r before after h (inr stopped) = stopped.1.0.steps
 
 pub no_step_on : (a b c : Pass) → MadeNoStep a b → MadeNoStep b c → MadeNoStep a c
 no_step_on a b c first then = λ h. then h ∙ first h
 
 pub since_called : (site : Site) (before after : Pass) (h : ℕ) (theirs : List ℕ) (r : Result Since ReadFault) (answer : Since) → r ≡ Ok answer →
-    IsCall (IsAsked r) before after (h ∷ []) ⊎ (IsErrOf r unread.Worn × IsStopped before after) → HasSeenBook after h (IsSince theirs answer) → IsCalled site before after (Asked h theirs answer)
+    IsCall (IsAsked r) before after (h ∷ []) ⊎ (IsErrOf r unread.Worn × IsWornIn (h ∷ []) before after) → HasSeenBook after h (IsSince theirs answer) → IsCalled site before after (Asked h theirs answer)
 since_called site before after h theirs r answer is (inl call) seen = (subst (λ s. IsCall (IsAsked s) before after (h ∷ [])) is call, seen)
 since_called site before after h theirs r answer is (inr stopped) seen = absurd (let e : r ≡ Err unread.Worn = stopped.0 in let f : Ok answer ≡ Err unread.Worn = sym is ∙ e in cc)
 
 pub state_called : (site : Site) (before after : Pass) (h : ℕ) (r : Result HeapImage ReadFault) (shard : HeapImage) → r ≡ Ok shard →
-    IsCall (IsCopied r) before after (h ∷ []) ⊎ (IsErrOf r unread.Worn × IsStopped before after) → IsCalled site before after (Copied h shard)
+    IsCall (IsCopied r) before after (h ∷ []) ⊎ (IsErrOf r unread.Worn × IsWornIn (h ∷ []) before after) → IsCalled site before after (Copied h shard)
 state_called site before after h r shard is (inl call) = subst (λ s. IsCall (IsCopied s) before after (h ∷ [])) is call
 state_called site before after h r shard is (inr stopped) = absurd (let e : r ≡ Err unread.Worn = stopped.0 in let f : Ok shard ≡ Err unread.Worn = sym is ∙ e in cc)

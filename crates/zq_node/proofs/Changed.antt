@@ -92,10 +92,20 @@ pub one_fewer : (x : Option Placed) (m n : ℕ) → m + cond (is_some x) 1 0 ≡
 one_fewer None m n count here = absurd (cc)
 one_fewer (Some p) m n count here = count
 
+-- where none was as many are
+pub none_fewer : (x : Option Placed) (m n : ℕ) → m + cond (is_some x) 1 0 ≡ n → x ≡ None → m ≡ n
+none_fewer None m n count gone = let all : m + 0 ≡ n = count in omega (arith)
+none_fewer (Some p) m n count gone = absurd (cc)
+
 -- where none of its heap and dot was there one more is
 pub one_more : (old : Entries) (o : Placed) (q : Place) (x : Option Placed) (m : ℕ) → ArePlaced old → q ≡ place_of o → x ≡ parked_at old q → m ≡ length old + cond (is_some x) 0 1 → (HasPlaceOf old o → ⊥) → m ≡ length old + 1
 one_more old o q None m are at is count apart = count
 one_more old o q (Some p) m are at is count apart = absurd (apart (some_place old o q (Some p) are at (sym is) refl))
+
+-- where one was there as many are
+pub none_more : (old : Entries) (o : Placed) (q : Place) (x : Option Placed) (m : ℕ) → q ≡ place_of o → x ≡ parked_at old q → m ≡ length old + cond (is_some x) 0 1 → HasPlaceOf old o → m ≡ length old
+none_more old o q None m at is count there = absurd (let both : None ≡ Some there.0 = is ∙ (ap (parked_at old) (at ∙ sym there.2) ∙ there.1) in cc)
+none_more old o q (Some p) m at is count there = let all : m ≡ length old + 0 = count in omega (arith)
 
 -- ---- one is put away
 

@@ -4,7 +4,7 @@ use Rattle.std.proofs.Common.{ap, append_assoc, arith, get_or, inl, inr, refl, s
 use Rattle.std.proofs.lemmas.Bool.{cases_eq}
 use Rattle.std.proofs.lemmas.List.{take_all, take_more}
 use Rattle.std.proofs.lemmas.Option.{slice_get_past, slice_get_read}
-use Rattle.std.specs.Prelude.{Err, IsErrAnd, IsErrOf, List, None, Ok, Result, Some, [], length, option_to_list, slice_get, take, true, ℕ, ◌+◌, ◌++◌, ◌<◌, ◌≡◌, ◌≢◌, ◌≤◌, ◌∷◌, ◌⊎◌}
+use Rattle.std.specs.Prelude.{Err, IfSome, IsErrAnd, IsErrOf, List, None, Ok, Result, Some, [], length, option_to_list, slice_get, take, true, ℕ, ◌+◌, ◌++◌, ◌<◌, ◌≡◌, ◌≢◌, ◌≤◌, ◌∷◌, ◌⊎◌}
 use Rattle.zq_dots.specs.Placed.{Placed}
 use Rattle.zq_model.specs.Operation.{has}
 use Rattle.zq_model.specs.Sets.{IsIn}
@@ -17,7 +17,7 @@ use Rattle.zq_node.specs.Hearing.{AreOpsStopped, IsStopOf}
 use Rattle.zq_node.specs.Limits.{MOST_PARKED}
 use Rattle.zq_node.specs.Node.{IsNode, IsSameHome, parked_of, pass_of, site_of}
 use Rattle.zq_node.specs.Parked.{Entries, HasPlaceOf, IsParked, IsPutAway, place_of}
-use Rattle.zq_node.specs.Work.{AreTurns, DoesAfter, HasWorked, IsHeard, IsTurn, IsWork, WaitIn, WasStopped}
+use Rattle.zq_node.specs.Work.{AreTurns, DoesAfter, HasWorked, IsHeard, IsTurn, IsWork, WaitIn, WasShort, WasStopped}
 use Rattle.zq_node.specs.declared.faults.NodeFault.{NodeFault}
 use Rattle.zq_node.specs.declared.faults.NodeFault.TheVariants as node
 use Rattle.zq_node.specs.declared.node.Node.{Node}
@@ -222,8 +222,9 @@ own_stop site o node.NoMemory own is = is
 
 -- operations are heard no further than before this one
 pub stopped_at : (ops : List Placed) (i : ℕ) (x : Placed) (old mid new : Node) (why : NodeFault) → i < length ops → x ≡ get_or ops i x → AreTurns (take i ops) old mid →
-    IsStopOf (site_of mid) (Some x) why → WasStopped (x ∷ []) mid new → (why ≡ node.WrongHeap → new ≡ mid) → AreOpsStopped ops old new why
-stopped_at ops i x old mid new why below is turns stop stopped unheard =
+    IsStopOf (site_of mid) (Some x) why → WasStopped (x ∷ []) mid new → (why ≡ node.WrongHeap → new ≡ mid) → (why ≡ node.NoMemory → WasShort x mid new) →
+    AreOpsStopped ops old new why
+stopped_at ops i x old mid new why below is turns stop stopped unheard short =
     let here : slice_get ops i ≡ Some x = slice_get_read ops (length ops) i x refl below is in
     record {
       place = record {
@@ -236,6 +237,7 @@ stopped_at ops i x old mid new why below is turns stop stopped unheard =
       turns = turns;
       stopped = subst (λ p. WasStopped (option_to_list p) mid new) (sym here) stopped;
       unheard = unheard;
+      short = λ none. subst (λ p. IfSome p (λ o. WasShort o mid new)) (sym here) (short none);
     }
 
 -- or after the last one
@@ -255,4 +257,5 @@ stopped_after ops old mid new why turns own stopped =
       turns = turned;
       stopped = subst (λ p. WasStopped (option_to_list p) mid new) (sym past) stopped;
       unheard = λ wrong. absurd (own_heap why own wrong);
+      short = λ none. subst (λ p. IfSome p (λ o. WasShort o mid new)) (sym past) tt;
     }

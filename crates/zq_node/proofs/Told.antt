@@ -26,7 +26,7 @@ use Rattle.zq_node.specs.declared.faults.NodeFault.TheVariants as node
 use Rattle.zq_shard.specs.Shard.{HeapImage}
 use Rattle.zq_spread.specs.Answers.{IsMerged}
 use Rattle.zq_spread.specs.Calls.{HasSeenBook, IsCall, IsLikeSite, heaps_of}
-use Rattle.zq_spread.specs.Passes.{IsStopped}
+use Rattle.zq_spread.specs.Worn.{IsWornIn}
 use Rattle.zq_spread.specs.declared.pass.Pass.{Pass}
 use Rattle.zq_spread.specs.declared.site.Site.{Site}
 
@@ -78,14 +78,14 @@ no_steps_merged stamp s unjoined.NoMemory b steps is = is.1
 
 -- a merge that was refused made no step
 pub merge_stopped : (before after : Pass) (s : HeapImage) (r : Result (Unit {0}) MergeFault) (fault : MergeFault) → r ≡ Err fault →
-    IsCall (IsMerged after.stamp s r) before after (s.heap ∷ []) ⊎ (IsErrOf r unjoined.Worn × IsStopped before after) → MadeNoStep before after
+    IsCall (IsMerged after.stamp s r) before after (s.heap ∷ []) ⊎ (IsErrOf r unjoined.Worn × IsWornIn (s.heap ∷ []) before after) → MadeNoStep before after
 merge_stopped before after s r fault is (inl call) =
     no_step_by (IsMerged after.stamp s (Err fault)) before after s.heap (subst (λ x. IsCall (IsMerged after.stamp s x) before after (s.heap ∷ [])) is call) (no_steps_merged after.stamp s fault)
-merge_stopped before after s r fault is (inr stopped) = stopped.1.steps
+merge_stopped before after s r fault is (inr stopped) = stopped.1.0.steps
 
 -- one that was answered is a call
 pub merge_called : (site : Site) (before after : Pass) (s : HeapImage) (r : Result (Unit {0}) MergeFault) → r ≡ Ok tt → IsLikeSite site s →
-    IsCall (IsMerged after.stamp s r) before after (s.heap ∷ []) ⊎ (IsErrOf r unjoined.Worn × IsStopped before after) → IsCalled site before after (Merged s)
+    IsCall (IsMerged after.stamp s r) before after (s.heap ∷ []) ⊎ (IsErrOf r unjoined.Worn × IsWornIn (s.heap ∷ []) before after) → IsCalled site before after (Merged s)
 merge_called site before after s r is like (inl call) = (like, subst (λ x. IsCall (IsMerged after.stamp s x) before after (s.heap ∷ [])) is call)
 merge_called site before after s r is like (inr stopped) = absurd (let e : r ≡ Err unjoined.Worn = stopped.0 in let f : Ok tt ≡ Err unjoined.Worn = sym is ∙ e in cc)
 

@@ -1,7 +1,8 @@
 -- The calls of its site that a node makes with its pass.
 
-use Rattle.std.specs.Prelude.{List, Ok, [], true, ℕ, ◌≡◌, ◌≢◌, ◌∷◌}
+use Rattle.std.specs.Prelude.{Err, List, Ok, [], true, ℕ, ◌≡◌, ◌≢◌, ◌∷◌}
 use Rattle.zq_dots.specs.Placed.{Placed}
+use Rattle.zq_journal.specs.declared.faults.TakeFault.TheVariants as unheld
 use Rattle.zq_journal.specs.declared.since.Since.{Since}
 use Rattle.zq_model.specs.Operation.{has}
 use Rattle.zq_model.specs.Sets as sets
@@ -29,6 +30,10 @@ IsCalled site before after (Merged shard) = IsLikeSite site shard × IsCall (IsM
 IsCalled site before after (Saw heap vector) = IsCall (IsShown vector) before after (heap ∷ [])
 IsCalled site before after (Asked heap vector answer) = IsCall (IsAsked (Ok answer)) before after (heap ∷ []) × HasSeenBook after heap (IsSince vector answer)
 IsCalled site before after (Copied heap shard) = IsCall (IsCopied (Ok shard)) before after (heap ∷ [])
+
+-- the site had no memory to take the operation, which was New to it
+abbrev pub HadNoRoom : Site → Pass → Pass → Placed → Type 0
+HadNoRoom site before after op = IsOfSite site op × IsCall (IsTaken after.stamp op (Err unheld.NoMemory)) before after (op.operation.heap ∷ [])
 
 -- the pass made these calls, one after the other, and no others
 abbrev pub AreCalled : Site → Pass → Pass → List Call → Type 0

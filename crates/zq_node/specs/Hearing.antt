@@ -1,6 +1,6 @@
 -- What hearing a frame does, and what is sent then.
 
-use Rattle.std.specs.Prelude.{List, MatchBool, None, Option, Some, [], if◌then◌else◌, length, map, option_to_list, slice_get, take, true, ℕ, ◌+◌, ◌++◌, ◌<◌, ◌∷◌, ◌≡◌, ◌≢◌, ◌≤◌, ◌⊎◌}
+use Rattle.std.specs.Prelude.{IfSome, List, MatchBool, None, Option, Some, [], if◌then◌else◌, length, map, option_to_list, slice_get, take, true, ℕ, ◌+◌, ◌++◌, ◌<◌, ◌∷◌, ◌≡◌, ◌≢◌, ◌≤◌, ◌⊎◌}
 use Rattle.zq_dots.specs.Placed.{Placed}
 use Rattle.zq_dots.specs.Rule.{rule_of}
 use Rattle.zq_frames.specs.Frame.{Frame, Have, OfHave, OfOps, OfState, frame_of, have_of}
@@ -14,7 +14,7 @@ use Rattle.zq_node.specs.Calls.{AreCalled, Asked, Call, Copied, IsCalled, MadeNo
 use Rattle.zq_node.specs.Faults.{IsOwnFault}
 use Rattle.zq_node.specs.Limits.{MOST_TOLD}
 use Rattle.zq_node.specs.Node.{parked_of, pass_of, site_of}
-use Rattle.zq_node.specs.Work.{AllWait, AreTurns, HasWorked, IsHeard, IsWork, WasStopped}
+use Rattle.zq_node.specs.Work.{AllWait, AreTurns, HasWorked, IsHeard, IsWork, WasShort, WasStopped}
 use Rattle.zq_node.specs.declared.faults.NodeFault.{NodeFault}
 use Rattle.zq_node.specs.declared.faults.NodeFault.TheVariants as fault
 use Rattle.zq_node.specs.declared.node.Node.{Node}
@@ -168,6 +168,7 @@ pub record AreOpsStopped (ops : List Placed) (old new : Node) (why : NodeFault) 
   pub turns : AreTurns (take place.at ops) old heard
   pub stopped : WasStopped (option_to_list (slice_get ops place.at)) heard new
   pub unheard : why ≡ fault.WrongHeap → new ≡ heard
+  pub short : why ≡ fault.NoMemory → IfSome (slice_get ops place.at) (λ o. WasShort o heard new)
 
 -- what stands where it is not heard to its end
 abbrev pub HasStopped : code.Frame → Node → Node → NodeFault → Type 0

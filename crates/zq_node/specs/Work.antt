@@ -1,9 +1,9 @@
 -- What a node does with operations.
 
-use Rattle.std.specs.Prelude.{List, [], length, ℕ, ◌++◌, ◌≡◌, ◌≤◌, ◌∷◌, ◌⊎◌}
+use Rattle.std.specs.Prelude.{List, [], length, ℕ, ◌++◌, ◌<◌, ◌≡◌, ◌≤◌, ◌∷◌, ◌⊎◌}
 use Rattle.zq_dots.specs.Placed.{Placed}
 use Rattle.zq_model.specs.Sets.{IsIn}
-use Rattle.zq_node.specs.Calls.{AreCalled, Asked, Call, Copied, IsCalled, IsEarlyTo, IsKnownTo, MadeNoStep, Merged, Saw, Took, WasTaken}
+use Rattle.zq_node.specs.Calls.{AreCalled, Asked, Call, Copied, HadNoRoom, IsCalled, IsEarlyTo, IsKnownTo, MadeNoStep, Merged, Saw, Took, WasTaken}
 use Rattle.zq_node.specs.Limits.{MOST_PARKED}
 use Rattle.zq_node.specs.Node.{IsSameHome, parked_of, pass_of, site_of}
 use Rattle.zq_node.specs.Parked.{Entries, HasPlaceOf, IsParked, IsPutAway}
@@ -67,6 +67,14 @@ pub record IsTurn (o : Placed) (old new : Node) : Type 0 where
   pub home : IsSameHome old asked
   pub does : DoesAfter answer o asked new
   pub stays : IsSameHome old new
+
+-- why memory was lacking at an operation's turn: the site has none for it, where it is New; or the node none for its copy, where it is Early and to be
+-- parked; or a parked one that was tried after it found none, where it was New. A Known one wants none
+pub data WasShort (o : Placed) (old new : Node) : Type 0 where
+  taking : HadNoRoom (site_of old) (pass_of old) (pass_of new) o → WasShort o old new
+  copying : (asked : Pass) → IsCalled (site_of old) (pass_of old) asked (Took o Early) → (HasPlaceOf (parked_of old) o → ⊥) →
+      length (parked_of old) < MOST_PARKED → WasShort o old new
+  settling : (asked : Pass) → IsCalled (site_of old) (pass_of old) asked (Took o New) → WasShort o old new
 
 -- it was handed each of these, one after the other
 abbrev pub AreTurns : List Placed → Node → Node → Type 0

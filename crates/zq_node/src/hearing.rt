@@ -25,9 +25,10 @@ impl Node<'_> {
     /// | State | merges it, and tries again what is parked | nothing |
     ///
     /// `WrongHeap` where the frame names another number of heaps, a heap that is not there, or an operation that lies in
-    /// another heap than its member's. Else `WrongRule` where its rule is another. Of a Have and a State both leave all as it
-    /// was. `Worn` where a lock, a stamp or a count is at its last value, and `NoMemory` where a growth was refused: what was
-    /// taken or parked before stays, and so it does where a later operation of an Ops is refused.
+    /// another heap than its member's. Else `WrongRule` where its rule is another. A Have and a State that are refused so
+    /// leave all as it was; an operation of an Ops that is leaves what those before it left. `Worn` where a lock, a stamp or
+    /// a count is at its last value, and `NoMemory` where a growth was refused, which none is asked for a Known operation:
+    /// what was taken or parked before stays.
     pub fn hear<R: Wait>(
         &mut self,
         rt: &R,

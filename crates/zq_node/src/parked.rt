@@ -68,6 +68,8 @@ impl Parked {
         ensures dropped { IfOk result (λ kept. kept ≡ false → self.new ≡ self.old) }
         ensures more { IfOk result (λ kept. IsTrue kept → (HasPlaceOf self.old op → ⊥) →
             length self.new ≡ length self.old + 1) }
+        ensures again { IfOk result (λ kept. IsTrue kept → HasPlaceOf self.old op →
+            length self.new ≡ length self.old) }
         ensures refused { OnErr result (self.new ≡ self.old) }
     {
         if self.ops.len() >= MOST_PARKED {
@@ -100,6 +102,8 @@ impl Parked {
         ensures left { IsUpdated self.old self.new (heap, dot.site, dot.n) None }
         ensures fewer { IsSome (parked.parked_at self.old (heap, dot.site, dot.n)) →
             length self.new + 1 ≡ length self.old }
+        ensures none { parked.parked_at self.old (heap, dot.site, dot.n) ≡ None →
+            length self.new ≡ length self.old }
     {
         let site = dot.site.value();
         let _ = self.ops.remove(&(heap, site, dot.n));

@@ -2,12 +2,12 @@
 ghost use Rattle.std.specs.Prelude.{◌≡◌, ◌<◌, ◌∷◌, IfErr, IfOk, IsErrOf, OnErr, OnOk, Some, [], length};
 ghost use Rattle.zq_dots.specs.Placed.{Placed};
 ghost use Rattle.zq_model.specs.Sets.{IsIn};
-ghost use Rattle.zq_node.specs.Calls.{IsCalled, MadeNoStep, Took};
+ghost use Rattle.zq_node.specs.Calls.{HadNoRoom, IsCalled, MadeNoStep, Took};
 ghost use Rattle.zq_node.specs.Hearing.{AreOpsHeard, AreOpsStopped, IsStopOf};
 ghost use Rattle.zq_node.specs.Limits as limits;
 ghost use Rattle.zq_node.specs.Node.{IsNode, IsSameHome, parked_of, pass_of, site_of};
 ghost use Rattle.zq_node.specs.Parked.{HasPlaceOf, IsPutAway};
-ghost use Rattle.zq_node.specs.Work.{AreTurns, IsTurn, WasStopped};
+ghost use Rattle.zq_node.specs.Work.{AreTurns, IsTurn, WasShort, WasStopped};
 ghost use Rattle.zq_spread.specs.Calls.{IsOfSite, heaps_of};
 
 use crate::faults::NodeFault;
@@ -49,6 +49,8 @@ impl Node<'_> {
         ensures stopped { OnErr result (MadeNoStep (pass_of self.old) (pass_of self.new)) }
         ensures stop { IfErr result (IsStopOf (site_of self.old) (Some op.now)) }
         ensures unheard { IsErrOf result NodeFault.WrongHeap → self.new ≡ self.old }
+        ensures short { IsErrOf result NodeFault.NoMemory →
+            HadNoRoom (site_of self.old) (pass_of self.old) (pass_of self.new) op.now }
     {
         let _heap = op.heap();
         match self.home.site.take(rt, alloc, &mut self.pass, op) {
@@ -67,6 +69,7 @@ impl Node<'_> {
         ensures stopped { OnErr result (WasStopped (op.now ∷ []) self.old self.new) }
         ensures stop { IfErr result (IsStopOf (site_of self.old) (Some op.now)) }
         ensures unheard { IsErrOf result NodeFault.WrongHeap → self.new ≡ self.old }
+        ensures short { IsErrOf result NodeFault.NoMemory → WasShort op.now self.old self.new }
     {
         let taken = self.hand(rt, alloc, op)?;
         match taken {

@@ -2,17 +2,13 @@
 
 use Rattle.std.proofs.Common.{ap, arith, inl, inr, refl, subst, suc, sym, zero, ◌∙◌}
 use Rattle.std.proofs.lemmas.Bool.{cases_eq, cases_lt}
-use Rattle.std.proofs.lemmas.List.{append-nil, length-append, length_push, take-append-le, take_all}
+use Rattle.std.proofs.lemmas.List.{append-nil, length_push, take-append-le, take_all}
 use Rattle.std.specs.Prelude.{List, Option, Some, [], length, slice_get, take, ℕ, ◌+◌, ◌++◌, ◌<◌, ◌∷◌, ◌≡◌, ◌≤◌}
-use Rattle.zq_history.specs.Books.{Step}
-use Rattle.zq_model.proofs.Membership.{in_left}
 use Rattle.zq_model.specs.Operation.{Operation}
 use Rattle.zq_model.specs.Rule.{Rule}
 use Rattle.zq_model.specs.Sets.{AreSame, IsClosed, IsIn}
 use Rattle.zq_notes.proofs.OfSites.{gathered-append, made_from-append, notes_apart, notes_at-append, notes_here}
-use Rattle.zq_notes.specs.Calls.{notes_of}
 use Rattle.zq_notes.specs.Gathered.{gathered, gathered_by}
-use Rattle.zq_notes.specs.Notes.{Note}
 use Rattle.zq_notes.specs.Sites.{Event, has_at, made_in_all, made_of, notes_at}
 use Rattle.zq_notes.specs.Uncut.{steps_in, steps_of}
 use Rattle.zq_runs.specs.Events as runs

@@ -46,13 +46,13 @@ kinds rule K site S (ToRun command w1 w2) stamp heaps (Replied reply) steps is =
     inl (subst (AllMadeIn site) (sym is.2) (all_moved_in K site stamp is.0 (vector_of S) heaps))
 kinds rule K site S (ToTake op) stamp heaps (Handed (Ok taken)) steps is =
     inr (subst MakeNone (sym is.1) (none_taken (taken_of (vector_of S op.operation.heap) op.operation) stamp op.operation))
-kinds rule K site S (ToTake op) stamp heaps (Handed (Err fault)) steps is = inr (none_of steps is)
+kinds rule K site S (ToTake op) stamp heaps (Handed (Err fault)) steps is = inr (none_of steps is.2)
 kinds rule K site S (ToMerge other) stamp heaps (Joined (Ok done)) steps is =
     inr (subst MakeNone (sym is) (λ W. refl))
-kinds rule K site S (ToMerge other) stamp heaps (Joined (Err fault)) steps is = inr (none_of steps is)
+kinds rule K site S (ToMerge other) stamp heaps (Joined (Err fault)) steps is = inr (none_of steps is.1)
 kinds rule K site S (ToTell heap vector) stamp heaps (Told (Ok since)) steps is = inr (none_of steps is.1)
-kinds rule K site S (ToTell heap vector) stamp heaps (Told (Err fault)) steps is = inr (none_of steps is)
+kinds rule K site S (ToTell heap vector) stamp heaps (Told (Err fault)) steps is = inr (none_of steps is.1)
 kinds rule K site S (ToCopy heap) stamp heaps (Copied (Ok copy)) steps is = inr (none_of steps is.1)
-kinds rule K site S (ToCopy heap) stamp heaps (Copied (Err fault)) steps is = inr (none_of steps is)
+kinds rule K site S (ToCopy heap) stamp heaps (Copied (Err fault)) steps is = inr (none_of steps is.1)
 kinds rule K site S (ToShow heap) stamp heaps (Shown vector) steps is = inr (none_of steps is.1)
 kinds rule K site S asked stamp heaps answer steps is = absurd is

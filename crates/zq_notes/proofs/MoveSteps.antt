@@ -2,11 +2,11 @@
 
 use Rattle.std.proofs.Common.{ap, arith, eq-eqb, inl, inr, refl, subst, sym, ◌∙◌}
 use Rattle.std.proofs.lemmas.Bool.{eqb-true}
-use Rattle.std.specs.Prelude.{List, [], false, if◌then◌else◌, length, map, slice_index, slice_set, true, ℕ, ◌+◌, ◌++◌, ◌==◌, ◌∷◌, ◌≡◌, ◌≤◌, ◌⊎◌}
+use Rattle.std.specs.Prelude.{List, [], false, if◌then◌else◌, length, map, slice_index, slice_set, true, ℕ, ◌+◌, ◌==◌, ◌∷◌, ◌≡◌, ◌≤◌, ◌⊎◌}
 use Rattle.zq_history.specs.Books.{Change, Made, Merged, Recorded, Step, Took, operation_of}
 use Rattle.zq_journal.specs.Books.{step_of}
 use Rattle.zq_model.proofs.Membership.{in_or_not}
-use Rattle.zq_model.specs.Operation.{Operation, operation_over}
+use Rattle.zq_model.specs.Operation.{Operation}
 use Rattle.zq_model.specs.Sets.{IsIn}
 use Rattle.zq_moves.specs.Moves.{Move}
 use Rattle.zq_notes.proofs.GatheredSets.{AreOnce}

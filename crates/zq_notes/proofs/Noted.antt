@@ -10,13 +10,14 @@ use Rattle.zq_history.specs.Reach.{begun, worked as done_by}
 use Rattle.zq_journal.specs.declared.faults.MergeFault.{MergeFault}
 use Rattle.zq_journal.specs.declared.faults.TakeFault.{TakeFault}
 use Rattle.zq_journal.specs.declared.since.Since.{Since}
-use Rattle.zq_notes.specs.Calls.{HasNote, HeldNone}
-use Rattle.zq_notes.specs.Does.{AreHeapsFor, Does, IsTold}
+use Rattle.zq_model.specs.Heaps.{heap_of}
+use Rattle.zq_notes.specs.Calls.{HasNote, HeldNone, HeldNoneIn}
+use Rattle.zq_notes.specs.Does.{AreHeapsFor, Does, IsOfHeaps, IsTold}
 use Rattle.zq_notes.specs.Notes.{Answer, Asked, Copied, Handed, Joined, Replied, Shown, ToCopy, ToMerge, ToRun, ToShow, ToTake, ToTell, Told}
 use Rattle.zq_shard.specs.Shard.{HeapImage}
 use Rattle.zq_shard.specs.declared.taken.Taken.{Taken}
 use Rattle.zq_spread.specs.Answers.{IsAsked, IsCopied, IsMerged, IsShown, IsSince, IsTaken, read_of}
-use Rattle.zq_spread.specs.Calls.{AreWorkedIn, HasSeenBook, IsCall, heaps_of}
+use Rattle.zq_spread.specs.Calls.{AreWorkedIn, HasSeenBook, IsCall, IsLikeSite, IsOfSite, heaps_of}
 use Rattle.zq_spread.specs.Dispatch.{DoesCommand, DoesNear, IsCalled, IsCalledIn, IsCommand, all_heaps}
 use Rattle.zq_spread.specs.Drawn.{drawn}
 use Rattle.zq_spread.specs.declared.faults.ReadFault.{ReadFault}
@@ -57,11 +58,15 @@ module _ (site : Site) (p : ℕ) (before after : Pass) where
     refl,
   )
 
-  pub takes : (op : Placed) (result : Result Taken TakeFault) → IsCall (IsTaken after.stamp op result) before after (op.operation.heap ∷ []) → HasNote site p before after (ToTake op) (Handed result)
-  takes op result call = noted (IsTaken after.stamp op result) (ToTake op) (op.operation.heap ∷ []) (Handed result) (λ found steps is. (refl, is)) call
+  of_heaps : (op : Placed) → IsOfSite site op → IsOfHeaps (heaps_of site) op
+  of_heaps op of = record { heaps = of.heaps; placed = subst (λ k. heap_of op.operation.key op.operation.member k ≡ op.operation.heap) of.heaps of.placed }
 
-  pub merges : (other : HeapImage) (result : Result (Unit {0}) MergeFault) → IsCall (IsMerged after.stamp other result) before after (other.heap ∷ []) → HasNote site p before after (ToMerge other) (Joined result)
-  merges other result call = noted (IsMerged after.stamp other result) (ToMerge other) (other.heap ∷ []) (Joined result) (λ found steps is. (refl, is)) call
+  pub takes : (op : Placed) (result : Result Taken TakeFault) → IsOfSite site op → IsCall (IsTaken after.stamp op result) before after (op.operation.heap ∷ []) → HasNote site p before after (ToTake op) (Handed result)
+  takes op result of call = noted (IsTaken after.stamp op result) (ToTake op) (op.operation.heap ∷ []) (Handed result) (λ found steps is. (refl, is, of_heaps op of)) call
+
+  pub merges : (other : HeapImage) (result : Result (Unit {0}) MergeFault) → IsLikeSite site other → IsCall (IsMerged after.stamp other result) before after (other.heap ∷ []) → HasNote site p before after (ToMerge other) (Joined result)
+  merges other result like call =
+      noted (IsMerged after.stamp other result) (ToMerge other) (other.heap ∷ []) (Joined result) (λ found steps is. (refl, is, record { heaps = like.heaps; ruled = like.rule })) call
 
   pub copies : (heap : ℕ) (result : Result HeapImage ReadFault) → IsCall (IsCopied result) before after (heap ∷ []) → HasNote site p before after (ToCopy heap) (Copied result)
   copies heap result call = noted (IsCopied result) (ToCopy heap) (heap ∷ []) (Copied result) (λ found steps is. (refl, is)) call
@@ -118,22 +123,25 @@ module _ (site : Site) (p : ℕ) (before after : Pass) where
   -- ---- commands
 
   pub calls : (command : Command) (w1 w2 : ℕ) (reply : Word) → IsCalled site command w1 w2 reply before after →
-      HasNote site p before after (ToRun command w1 w2) (Replied reply) ⊎ HeldNone site command reply before after
+      HasNote site p before after (ToRun command w1 w2) (Replied reply) ⊎ HeldNone site command w1 w2 reply before after
   calls command w1 w2 reply called = by (named.heaps_of command (heaps_of site)) refl called
     where
       run_in : (heaps : List ℕ) → ((found : List Book) → AreHeapsFor (named.heaps_of command (heaps_of site)) (rule_of site.rule) (heaps_of site) command w1 w2 heaps found) → IsCommand site command reply before after heaps →
           HasNote site p before after (ToRun command w1 w2) (Replied reply)
       run_in heaps held call = noted (DoesCommand site after.stamp command reply) (ToRun command w1 w2) heaps (Replied reply) (λ found steps done. (held found, done)) call
 
+      none_in : (heaps : Heaps) → named.heaps_of command (heaps_of site) ≡ heaps → HeldNoneIn heaps site command w1 w2 reply before after → HeldNone site command w1 w2 reply before after
+      none_in heaps is held = subst (λ hs. HeldNoneIn hs site command w1 w2 reply before after) (sym is) held
+
       by : (heaps : Heaps) → named.heaps_of command (heaps_of site) ≡ heaps → IsCalledIn heaps site command w1 w2 reply before after →
-          HasNote site p before after (ToRun command w1 w2) (Replied reply) ⊎ HeldNone site command reply before after
-      by NoHeap is called = inr (inl (is, called.0, called.1))
+          HasNote site p before after (ToRun command w1 w2) (Replied reply) ⊎ HeldNone site command w1 w2 reply before after
+      by NoHeap is called = inr (none_in NoHeap is called)
       by (One heap) is (inl call) = inl (run_in (heap ∷ []) (λ found. subst (λ hs. AreHeapsFor hs (rule_of site.rule) (heaps_of site) command w1 w2 (heap ∷ []) found) (sym is) refl) call)
-      by (One heap) is (inr worn) = inr (inr (inl worn))
+      by (One heap) is (inr worn) = inr (none_in (One heap) is worn)
       by Near is (inl call) =
           inl (noted (DoesNear site after.stamp command reply) (ToRun command w1 w2) (drawn (heaps_of site) w1 w2) (Replied reply)
           (λ found steps done. (subst (λ hs. AreHeapsFor hs (rule_of site.rule) (heaps_of site) command w1 w2 (drawn (heaps_of site) w1 w2) found) (sym is) (inl (refl, done.1)), done.0)) call)
-      by Near is (inr (inl call)) = inl (run_in (all_heaps site) (λ found. subst (λ hs. AreHeapsFor hs (rule_of site.rule) (heaps_of site) command w1 w2 (all_heaps site) found) (sym is) (inr refl)) call)
-      by Near is (inr (inr away)) = inr (inr away)
+      by Near is (inr (inl both)) = inl (run_in (all_heaps site) (λ found. subst (λ hs. AreHeapsFor hs (rule_of site.rule) (heaps_of site) command w1 w2 (all_heaps site) found) (sym is) (inr refl)) both.0)
+      by Near is (inr (inr away)) = inr (none_in Near is away)
       by All is (inl call) = inl (run_in (all_heaps site) (λ found. subst (λ hs. AreHeapsFor hs (rule_of site.rule) (heaps_of site) command w1 w2 (all_heaps site) found) (sym is) refl) call)
-      by All is (inr away) = inr (inr away)
+      by All is (inr away) = inr (none_in All is away)

@@ -1,21 +1,16 @@
 -- Sites whose calls are given in one order: what they made is one world, and each has a closed set of it.
 
-use Rattle.std.proofs.Common.{Ok, ap, arith, inl, inr, subst, suc, sym, zero, ◌∙◌}
+use Rattle.std.proofs.Common.{ap, arith, inl, inr, subst, suc, sym, zero, ◌∙◌}
 use Rattle.std.proofs.lemmas.Bool.{cases_eq, eq-eqb, ne_eqb}
 use Rattle.std.proofs.lemmas.List.{append-nil, append_assoc, length-append, map-append}
-use Rattle.std.specs.Prelude.{List, [], if◌then◌else◌, false, length, map, refl, slice_index, true, ℕ, ◌&&◌, ◌+◌, ◌++◌, ◌==◌, ◌∷◌, ◌≡◌, ◌≤◌, ◌⊎◌}
+use Rattle.std.specs.Prelude.{List, [], if◌then◌else◌, false, length, map, refl, true, ℕ, ◌+◌, ◌++◌, ◌==◌, ◌∷◌, ◌≡◌, ◌≤◌, ◌⊎◌}
 use Rattle.zq_history.specs.Books.{Change, Made, Merged, Recorded, Step, Took, operation_of}
-use Rattle.zq_dots.specs.Placed.{Placed}
-use Rattle.zq_journal.specs.Books.{steps_when}
-use Rattle.zq_model.proofs.Dots.{counter_positive, dots_below, has_parts, last_above, last_below}
-use Rattle.zq_model.proofs.Membership.{in_left}
-use Rattle.zq_model.proofs.Taken.{taken_known}
+use Rattle.zq_model.proofs.Dots.{last_above, last_below}
 use Rattle.zq_model.proofs.Worlds.{last_within, vector_is, world_part}
 use Rattle.zq_model.specs.Image.{Image}
-use Rattle.zq_model.specs.Operation.{Operation, has}
+use Rattle.zq_model.specs.Operation.{Operation}
 use Rattle.zq_model.specs.Rule.{Rule}
-use Rattle.zq_model.specs.Sets.{Early, HasDot, IsClosed, IsIn, IsWorld, Known, New, Taken, last, taken_of, vector_of}
-use Rattle.zq_moves.proofs.Lists.{in_filter}
+use Rattle.zq_model.specs.Sets.{IsIn, IsWorld, last, vector_of}
 use Rattle.zq_notes.proofs.FromCalls.{over_call}
 use Rattle.zq_notes.proofs.GatheredSets.{AreOnce, grown_by}
 use Rattle.zq_notes.proofs.HeldOnce.{once_of}
@@ -25,15 +20,12 @@ use Rattle.zq_notes.proofs.MadeWorlds.{IsAbreast, IsMadeIn, IsMadeInAll, as_many
 use Rattle.zq_notes.proofs.OneThread.{left_by_all-append}
 use Rattle.zq_notes.proofs.ReadOff.{AreScoresMeant, read_off}
 use Rattle.zq_notes.specs.Calls.{Call, notes_of}
-use Rattle.zq_notes.specs.Gathered.{AreImagesOf, AreOf, AreOfIn, AreOfWorld, covered_by, gathered, gathered_by, gathered_in}
+use Rattle.zq_notes.specs.Gathered.{AreImagesOf, AreOf, AreOfIn, AreOfWorld, gathered, gathered_by}
 use Rattle.zq_notes.specs.Does.{Does}
-use Rattle.zq_notes.specs.Notes.{Answer, Asked, Books, Handed, Joined, Note, ToMerge, ToTake}
+use Rattle.zq_notes.specs.Notes.{Answer, Asked, Books, Note}
 use Rattle.zq_notes.specs.Readings.{IsAnswerOf, IsReadOff}
 use Rattle.zq_notes.specs.Sites.{AreBrought, AreBroughtIn, AreEventsOf, Event, IsEventAfter, IsSent, books_at, calls_of, empty_books, has_at, made_by, made_from, made_in_all, made_of, notes_at}
 use Rattle.zq_notes.specs.Thread.{IsNoteOver, IsOneThread, left_by, left_by_all}
-use Rattle.zq_shard.specs.Shard.{HeapImage}
-use Rattle.zq_shard.specs.Taken.{answer_of}
-use Rattle.zq_shard.specs.declared.taken.Taken as code
 use Rattle.zq_spread.specs.Calls.{heaps_of}
 use Rattle.zq_spread.specs.declared.site.Site.{Site}
 
@@ -96,7 +88,7 @@ gathered-append W [] ys S = refl
 gathered-append W (n ∷ xs) ys S = gathered-append W xs ys (gathered_by W n.heaps n.steps S)
 
 -- what is gathered by calls stays
-gathered_on : (W : List Operation) (xs ys : List Note) (S : List Operation) (o : Operation) → IsIn o (gathered W xs S) → IsIn o (gathered W (xs ++ ys) S)
+pub gathered_on : (W : List Operation) (xs ys : List Note) (S : List Operation) (o : Operation) → IsIn o (gathered W xs S) → IsIn o (gathered W (xs ++ ys) S)
 gathered_on W [] [] S o i = i
 gathered_on W [] (n ∷ ys) S o i = gathered_on W [] ys (gathered_by W n.heaps n.steps S) o (gathered_stays_all W o n.heaps n.steps S i)
 gathered_on W (n ∷ xs) ys S o i = gathered_on W xs ys (gathered_by W n.heaps n.steps S) o i
@@ -296,14 +288,14 @@ module _ (rule : Rule) (K : ℕ) where
           (standing k before (e ∷ rest) split (omega (arith, longer, few)))))
     ]
 
-    stands_at : (p rest : List Event) → events ≡ p ++ rest → IsStanding p
+    pub stands_at : (p rest : List Event) → events ≡ p ++ rest → IsStanding p
     stands_at p rest is = standing (length p) p rest is (omega arith)
 
     pub all_world : IsWorld K (made_of events)
     all_world = (stands_at events [] (sym (append-nil events))).world
 
     -- the notes of each site are one thread's, and of that world
-    thread_at : (s : ℕ) (before rest : List Event) → events ≡ before ++ rest → IsOneThread rule K s (books_at rule K s before) (notes_at s rest)
+    pub thread_at : (s : ℕ) (before rest : List Event) → events ≡ before ++ rest → IsOneThread rule K s (books_at rule K s before) (notes_at s rest)
     thread_at s before [] is = tt
     thread_at s before (e ∷ rest) is =
         let more = thread_at s (before ++ e ∷ []) rest (one_longer before e rest is) in
@@ -333,9 +325,6 @@ module _ (rule : Rule) (K : ℕ) where
           | inr apart ↦ subst (AreOfWorld (made_of events)) (sym (notes_apart s e rest apart)) more
         ]
 
-    pub all_images : (s : ℕ) → AreImagesOf rule K (made_of events) (has_at (made_of events) s events) (books_at rule K s events)
-    all_images s = gathers rule K s (made_of events) two all_world [] (empty_books rule K) (notes_at s events) (opens rule K (made_of events)) (thread_at s [] events refl) (world_at s [] events refl)
-
     pub all_answers : (before : List Event) (e : Event) (after : List Event) → events ≡ before ++ e ∷ after → IsReadOff rule K e.site (has_at (made_of events) e.site before) e.call.note
     all_answers before e after is =
         let s : ℕ = e.site in
@@ -344,48 +333,7 @@ module _ (rule : Rule) (K : ℕ) where
         reads rule K s (made_of events) two all_world meant [] (empty_books rule K) (notes_at s before) e.call.note (notes_at s after) (opens rule K (made_of events))
         (subst (IsOneThread rule K s (empty_books rule K)) split (thread_at s [] events refl)) (subst (AreOfWorld (made_of events)) split (world_at s [] events refl))
 
-    -- what a site has after a part of the events is of that world
-    pub all_within : (s : ℕ) (before after : List Event) → events ≡ before ++ after → (o : Operation) → IsIn o (has_at (made_of events) s before) → IsIn o (made_of events)
-    all_within s before after is o i =
-        let split : notes_at s events ≡ notes_at s before ++ notes_at s after = ap (notes_at s) is ∙ notes_at-append s before after in
-        (all_images s).within o (subst (λ notes. IsIn o (gathered (made_of events) notes [])) (sym split) (gathered_on (made_of events) (notes_at s before) (notes_at s after) [] o i))
-
-    -- ---- what a site has
-
-    -- an operation of the world that is no later than the last of its site is in a closed set
-    known_in : (S : List Operation) → ((p : Operation) → IsIn p S → IsIn p (made_of events)) → IsClosed S → (o : Operation) → IsIn o (made_of events) → o.n ≤ last S o.heap o.site → IsIn o S
-    known_in S within closed o i low =
-        let dot : HasDot S o.heap o.site o.n = dots_below K S o.heap o.site o.n (world_part K S (made_of events) within all_world) closed (counter_positive K (made_of events) o all_world i) low in
-        subst (λ x. IsIn x S) (all_world.one dot.0 o (within dot.0 dot.1) i dot.2 dot.3 dot.4) dot.1
-
-    -- what it made
-    pub all_own : (o : Operation) → IsIn o (made_of events) → IsIn o (has_at (made_of events) o.site events)
-    all_own o i =
-        let W : List Operation = made_of events in
-        let S : List Operation = has_at W o.site events in
-        let stands = stands_at events [] (sym (append-nil events)) in
-        let mine : List Operation = stands.has o.site in
-        let its = all_images o.site in
-        let part : IsWorld K S = world_part K S W its.within all_world in
-        let part_mine : IsWorld K mine = world_part K mine W (stands.images o.site).within all_world in
-        let vectors : vector_of mine o.heap ≡ vector_of S o.heap = ap (λ (a : Image). a.vector) (sym ((stands.images o.site).each o.heap).state ∙ (its.each o.heap).state) in
-        let one = (vector_is K mine o.heap part_mine).counter o.site in
-        let other = (vector_is K S o.heap part).counter o.site in
-        let same : slice_index (vector_of mine o.heap) o.site ≡ slice_index (vector_of S o.heap) o.site = ap (λ v. slice_index v o.site) vectors in
-        let low = last_above mine o.heap o.site o (stands.own o i) refl refl in
-        known_in S its.within its.closed o i (omega (arith, one, other, same, low))
-
-    known_at : (S : List Operation) → ((p : Operation) → IsIn p S → IsIn p (made_of events)) → IsClosed S → (o : Operation) → IsIn o (made_of events) → has (vector_of S o.heap) o.site o.n ≡ true → IsIn o S
-    known_at S within closed o i known =
-        let parts = has_parts (vector_of S o.heap) o.site o.n known in
-        let counter = (vector_is K S o.heap (world_part K S (made_of events) within all_world)).counter o.site in
-        known_in S within closed o i (omega (arith, parts.1, counter))
-
-    pub has_next : (before : List Event) (e : Event) → has_at (made_of events) e.site (before ++ e ∷ []) ≡ gathered_by (made_of events) e.call.note.heaps e.call.note.steps (has_at (made_of events) e.site before)
-    has_next before e =
-        ap (λ notes. gathered (made_of events) notes []) (notes_at-append e.site before (e ∷ []) ∙ ap (λ l. notes_at e.site before ++ l) (notes_here e.site e [] refl))
-        ∙ gathered-append (made_of events) (notes_at e.site before) (e.call.note ∷ []) []
-
+    -- after each part of the events each heap is the image of what its site has
     pub images_by : (s : ℕ) (before after : List Event) → events ≡ before ++ after → AreImagesOf rule K (made_of events) (has_at (made_of events) s before) (books_at rule K s before)
     images_by s before after is =
         let split : notes_at s events ≡ notes_at s before ++ notes_at s after = ap (notes_at s) is ∙ notes_at-append s before after in
@@ -409,33 +357,3 @@ module _ (rule : Rule) (K : ℕ) where
       off_as asked answer same_asked same_answer =
           let n : Note = e.call.note in
           subst (λ a. IsAnswerOf rule K e.site S asked n.stamp n.heaps a n.steps) same_answer (subst (λ q. IsAnswerOf rule K e.site S q n.stamp n.heaps n.answer n.steps) same_asked (all_answers before e after is))
-
-      led : (h : ℕ) (ss : List Step) → e.call.note.heaps ≡ h ∷ [] → e.call.note.steps ≡ ss ∷ [] → has_at (made_of events) e.site (before ++ e ∷ []) ≡ gathered_in (made_of events) h ss S
-      led h ss heaps steps =
-          has_next before e ∙ ap (λ hs. gathered_by (made_of events) hs e.call.note.steps S) heaps ∙ ap (λ x. gathered_by (made_of events) (h ∷ []) x S) steps
-
-      -- what it was handed and answered New or Known
-      pub all_taken : (op : Placed) (answer : code.Taken) → e.call.note.asked ≡ ToTake op → e.call.note.answer ≡ Handed (Ok answer) → (answer_of answer ≡ Early → ⊥) → IsIn op.operation (made_of events) →
-          IsIn op.operation (has_at (made_of events) e.site (before ++ e ∷ []))
-      all_taken op answer asked answered late i =
-          let o : Operation = op.operation in
-          let off = off_as (ToTake op) (Handed (Ok answer)) asked answered in
-          let does = does_as (ToTake op) (Handed (Ok answer)) asked answered in
-          subst (IsIn o) (sym (led o.heap (steps_when (taken_of (vector_of S o.heap) o) e.call.note.stamp o) does.0 off.1))
-          (by (taken_of (vector_of S o.heap) o) o i refl (λ early. late (off.0 ∙ early)))
-        where
-          by : (t : Taken) (o : Operation) → IsIn o (made_of events) → t ≡ taken_of (vector_of S o.heap) o → (t ≡ Early → ⊥) → IsIn o (gathered_in (made_of events) o.heap (steps_when t e.call.note.stamp o) S)
-          by New o i same late = inl refl
-          by Known o i same late =
-              let images = images_by e.site before (e ∷ after) is in known_at S images.within images.closed o i (taken_known (vector_of S o.heap) o (sym same))
-          by Early o i same late = absurd (late refl)
-
-      -- and what an image that it merged covers
-      pub all_merged : (other : HeapImage) (done : Unit {0}) → e.call.note.asked ≡ ToMerge other → e.call.note.answer ≡ Joined (Ok done) → (o : Operation) → IsIn o (made_of events) → o.heap ≡ other.heap →
-          has other.image.vector o.site o.n ≡ true → IsIn o (has_at (made_of events) e.site (before ++ e ∷ []))
-      all_merged other done asked answered o i here known =
-          let off = off_as (ToMerge other) (Joined (Ok done)) asked answered in
-          let does = does_as (ToMerge other) (Joined (Ok done)) asked answered in
-          subst (IsIn o) (sym (led other.heap (Merged e.call.note.stamp other.image ∷ []) does.0 off))
-          (in_left o (covered_by (made_of events) other.heap other.image) S
-          (in_filter (λ p. (p.heap == other.heap) && has other.image.vector p.site p.n) (made_of events) o i (rw (eq-eqb o.heap other.heap here, known) refl)))

@@ -1,9 +1,9 @@
 -- A call of a running site is an event of the run of a world.
 
 use Rattle.std.proofs.Common.{ap, arith, inl, inr, lt-ltb, refl, subst, sym, ◌∙◌}
-use Rattle.std.proofs.lemmas.Bool.{and_from, cases_Bool, cases_lt, or_from}
+use Rattle.std.proofs.lemmas.Bool.{and_from, cases_lt, or_from}
 use Rattle.std.proofs.lemmas.List.{append_assoc, length-append}
-use Rattle.std.specs.Prelude.{Err, List, None, Ok, Option, Some, [], false, if◌then◌else◌, length, map, pos, slice_get, take, true, ℕ, ◌+◌, ◌++◌, ◌<◌, ◌∷◌, ◌≡◌, ◌≤◌}
+use Rattle.std.specs.Prelude.{Err, List, None, Ok, Some, [], false, if◌then◌else◌, length, map, pos, slice_get, take, true, ℕ, ◌+◌, ◌++◌, ◌<◌, ◌∷◌, ◌≡◌, ◌≤◌}
 use Rattle.zq_dots.specs.Placed.{Placed}
 use Rattle.zq_history.specs.Books as book
 use Rattle.zq_history.specs.Books.{Book, Step, Took}
@@ -20,7 +20,7 @@ use Rattle.zq_model.specs.Sets as sets
 use Rattle.zq_model.specs.Sets.{AreSame, IsClosed, IsHeaps, IsIn, IsWorld, in_heap, taken_of, vector_of}
 use Rattle.zq_moves.specs.Lent.{queues_of}
 use Rattle.zq_moves.specs.Moves.{Move, Queues}
-use Rattle.zq_notes.proofs.Alike.{HasMoment, IsAlike, IsNext, after_none, after_one, closed_same, place_of, same_by, same_self, same_through, steps_of-append, take_front}
+use Rattle.zq_notes.proofs.Alike.{IsAlike, IsNext, after_none, after_one, closed_same, place_of, same_by, steps_of-append, take_front}
 use Rattle.zq_notes.proofs.GatheredSets.{AreOnce, covered_is, covered_parts, covers_it}
 use Rattle.zq_notes.proofs.HeldOnce.{once_of}
 use Rattle.zq_notes.proofs.MadeKinds.{all_moved_in}
@@ -33,12 +33,11 @@ use Rattle.zq_notes.proofs.SaidCommands.{all_made, for_drawn, for_other, for_res
 use Rattle.zq_notes.specs.Does.{AreHeapsFor, Does}
 use Rattle.zq_notes.specs.Gathered.{AreImagesOf, covered_by, gathered, gathered_by}
 use Rattle.zq_notes.specs.Notes.{Answer, Asked, Books, Copied, Handed, Joined, Note, Replied, Shown, ToCopy, ToMerge, ToRun, ToShow, ToTake, ToTell, Told}
-use Rattle.zq_notes.specs.Played.{IsAskedAs, IsNone, IsPassedOver, IsPlayed, IsPlayedAs, itself, popped}
+use Rattle.zq_notes.specs.Played.{IsAskedAs, IsNone, IsPlayed, IsPlayedAs, itself, popped}
 use Rattle.zq_notes.specs.Readings.{IsAnswerOf, IsRunOver, moved_in}
 use Rattle.zq_notes.specs.Sites.{AreBroughtIn, AreEventsOf, Event, IsBrought, books_at, has_at, made_in_all, made_of, notes_at}
 use Rattle.zq_notes.specs.Uncut.{AreRunnable, IsInFull, IsRunnable, IsThere, IsUncut, steps_in, steps_of}
 use Rattle.zq_plans.specs.Plan.{Plan, is_there, plan_of}
-use Rattle.zq_plans.specs.Replies.{bytes_of}
 use Rattle.zq_plans.specs.Run.{LAST_COUNT}
 use Rattle.zq_resp.specs.Request.{IsRequest}
 use Rattle.zq_runs.specs.Doing.{Done, done, drawn, is_ping, queues_for}
@@ -46,11 +45,10 @@ use Rattle.zq_runs.specs.Events as runs
 use Rattle.zq_runs.specs.Events.{Do, Merge, Run, Take, after_take, after_taken, answer_taken, answer_to, answer_to_take, is_blocked, is_possible, judged, set_at, state_after}
 use Rattle.zq_runs.specs.Reading.{heaps_in, queues_over}
 use Rattle.zq_runs.specs.Runs.{IsEvent, after_event}
-use Rattle.zq_runs.specs.State.{State, after_moves, counted, is_full, is_worn, next_stamp, standing, with_at}
+use Rattle.zq_runs.specs.State.{State, after_moves, counted, is_full, is_worn, next_stamp, standing}
 use Rattle.zq_shard.specs.Shard.{HeapImage}
 use Rattle.zq_shard.specs.Taken.{answer_of}
 use Rattle.zq_shard.specs.declared.taken.Taken as code
-use Rattle.zq_spread.specs.Commanded.{IsAnswered}
 use Rattle.zq_spread.specs.Dispatch.{HasNear}
 use Rattle.zq_spread.specs.declared.site.Site.{Site}
 use Rattle.zq_words.specs.Command.{Command, Zpopmin, Zpopnear, command_of}
@@ -553,13 +551,13 @@ module _ (rule : Rule) (K count : ℕ) (two : 2 ≤ K) (meant : AreScoresMeant) 
             (off_as rule K two meant sites events are before e after is (ToTell heap vector) (Told (Ok since)) asked answered).1 (subst IsNone (sym asked) tt)
         by (ToTell heap vector) (Told (Err fault)) asked answered =
             reads_books heap (does_as rule K two meant sites events are before e after is (ToTell heap vector) (Told (Err fault)) asked answered).0
-            (off_as rule K two meant sites events are before e after is (ToTell heap vector) (Told (Err fault)) asked answered) (subst IsNone (sym asked) tt)
+            (off_as rule K two meant sites events are before e after is (ToTell heap vector) (Told (Err fault)) asked answered).1 (subst IsNone (sym asked) tt)
         by (ToCopy heap) (Copied (Ok copy)) asked answered =
             reads_books heap (does_as rule K two meant sites events are before e after is (ToCopy heap) (Copied (Ok copy)) asked answered).0
             (off_as rule K two meant sites events are before e after is (ToCopy heap) (Copied (Ok copy)) asked answered).1 (subst IsNone (sym asked) tt)
         by (ToCopy heap) (Copied (Err fault)) asked answered =
             reads_books heap (does_as rule K two meant sites events are before e after is (ToCopy heap) (Copied (Err fault)) asked answered).0
-            (off_as rule K two meant sites events are before e after is (ToCopy heap) (Copied (Err fault)) asked answered) (subst IsNone (sym asked) tt)
+            (off_as rule K two meant sites events are before e after is (ToCopy heap) (Copied (Err fault)) asked answered).1 (subst IsNone (sym asked) tt)
         by (ToShow heap) (Shown vector) asked answered =
             reads_books heap (does_as rule K two meant sites events are before e after is (ToShow heap) (Shown vector) asked answered).0
             (off_as rule K two meant sites events are before e after is (ToShow heap) (Shown vector) asked answered).1 (subst IsNone (sym asked) tt)

@@ -38,8 +38,9 @@ use Rattle.zq_notes.specs.Does.{AreHeapsFor, Does, IsTold}
 use Rattle.zq_notes.proofs.Tails.{in_tail_set, tail_begun}
 use Rattle.zq_notes.specs.Gathered.{AreImagesOf, HasTailOf}
 use Rattle.zq_notes.specs.Notes.{Answer, Asked, Books, Copied, Handed, Joined, Replied, Shown, ToCopy, ToMerge, ToRun, ToShow, ToTake, ToTell, Told}
+use Rattle.zq_notes.proofs.HomeMoves.{at_home}
 use Rattle.zq_notes.proofs.MovedSteps.{moves_are}
-use Rattle.zq_notes.specs.Readings.{AreLacked, IsAnswerOf, IsCutAt, IsOrShort, IsRunOf, IsRunOver, cut_off, in_full, is_list, moved_in, over_all, over_drawn}
+use Rattle.zq_notes.specs.Readings.{AreLacked, IsAnswerOf, IsCutAt, IsOrShort, IsRunOf, IsRunOff, IsRunOver, cut_off, in_full, is_list, moved_in, over_all, over_drawn}
 use Rattle.zq_runs.proofs.FewMembers.{few_members}
 use Rattle.zq_plans.proofs.Lifted.{cut_same, not_popping, takes_same}
 use Rattle.zq_plans.proofs.Narrow.{plans_same}
@@ -54,6 +55,7 @@ use Rattle.zq_spread.specs.Commanded.{IsAnswered}
 use Rattle.zq_spread.specs.Dispatch.{HasNear}
 use Rattle.zq_spread.specs.Drawn.{drawn}
 use Rattle.zq_spread.specs.declared.faults.ReadFault.{ReadFault}
+use Rattle.zq_spread.specs.declared.faults.ReadFault.TheVariants as unread
 use Rattle.zq_words.specs.Command.{Command, Del, Ping, Zadd, ZaddIncr, Zcard, Zcount, Zincrby, Zpopmin, Zpopnear, Zrange, Zrank, Zrem, Zrevrank, Zscore}
 use Rattle.zq_words.specs.Heaps.{heaps_of}
 use Rattle.zq_words.specs.Words.{Word}
@@ -84,7 +86,7 @@ cut_at ForMoves site k moves books Memory few why = there_is k moves (λ o. MayL
 cut_at ForCopies site k moves books Memory few why = there_is k moves (λ o. MayLack ForCopies site o books) (λ none. none) why
 
 -- what a run comes to
-ran_over : (rule : Rule) (site stamp : ℕ) (command : Command) (old new : List Book) (reply : Word) → IsRun rule site stamp command old new reply →
+pub ran_over : (rule : Rule) (site stamp : ℕ) (command : Command) (old new : List Book) (reply : Word) → IsRun rule site stamp command old new reply →
     (moves : List Move) × IsRunOver (queues_of rule old) command moves reply × (new ≡ books_after site stamp moves old)
 ran_over rule site stamp command old new reply (whole books says) = ((plan_of command (queues_of rule old)).moves, in_full refl says, books)
 ran_over rule site stamp command old new reply (part k want few books why says) =
@@ -124,7 +126,7 @@ module _ (named : AreScoresMeant) (rule : Rule) (K : ℕ) (W S : List Operation)
   pub queues_are : (heaps : List ℕ) → queues_of rule (map books heaps) ≡ queues_over rule S heaps
   queues_are heaps = λ i key. queue_of rule key (members_are heaps i)
 
-  listed : (heaps : List ℕ) → lent.AreImagesOf S (map books heaps)
+  pub listed : (heaps : List ℕ) → lent.AreImagesOf S (map books heaps)
   listed [] b none = absurd none
   listed (h ∷ heaps) b (inl same) =
       subst (λ (c : Book). c.state ≡ image_of S c.heap) same ((are.each h).state ∙ ap (image_of S) (sym (are.each h).heap))
@@ -209,10 +211,14 @@ module _ (named : AreScoresMeant) (rule : Rule) (K : ℕ) (W S : List Operation)
 
   run_off : (site stamp : ℕ) (command : Command) (w1 w2 : ℕ) (heaps : List ℕ) (reply : Word) (steps : List (List Step)) → 0 < K →
       AreHeapsFor (heaps_of command K) rule K command w1 w2 heaps (map books heaps) → IsAnswered rule site stamp command reply (map books heaps) steps →
-      (moves : List Move) × IsRunOf rule K S w1 w2 command moves reply × (steps ≡ map (λ h. moved_in K site stamp h moves (vector_of S h)) heaps)
+      IsRunOff rule K site S command w1 w2 stamp heaps reply steps
   run_off site stamp command w1 w2 heaps reply steps some held is =
-      let found = run_found site stamp command heaps reply steps is in
-      (found.0, runs command w1 w2 found.0 reply heaps some (heaps_of command K) refl held found.1, found.2)
+      let found = run_found site stamp command heaps reply steps is in (
+        found.0,
+        runs command w1 w2 found.0 reply heaps some (heaps_of command K) refl held found.1,
+        found.2,
+        λ m i. at_home rule K S world some heaps m command w1 w2 (map books heaps) found.0 reply (heaps_of command K) refl held found.1 i,
+      )
 
   take_off : (site stamp : ℕ) (op : Placed) (heaps : List ℕ) (result : Result Taken TakeFault) (steps : List (List Step)) → IsTaken stamp op result (map books (op.operation.heap ∷ [])) steps →
       IsAnswerOf rule K site S (ToTake op) stamp heaps (Handed result) steps
@@ -225,8 +231,8 @@ module _ (named : AreScoresMeant) (rule : Rule) (K : ℕ) (W S : List Operation)
   take_off site stamp op heaps (Ok taken) (ss ∷ more ∷ steps) is = absurd is
   take_off site stamp op heaps (Err fault) [] is = absurd is
   take_off site stamp op heaps (Err unheld.WrongHeap) (ss ∷ []) is = absurd is
-  take_off site stamp op heaps (Err unheld.Worn) (ss ∷ []) is = ap (λ (l : List Step). l ∷ []) is.2
-  take_off site stamp op heaps (Err unheld.NoMemory) (ss ∷ []) is = ap (λ (l : List Step). l ∷ []) is.1
+  take_off site stamp op heaps (Err unheld.Worn) (ss ∷ []) is = (inl refl, sym (ap (λ v. taken_of v op.operation) (vector_at op.operation.heap)) ∙ is.0, ap (λ (l : List Step). l ∷ []) is.2)
+  take_off site stamp op heaps (Err unheld.NoMemory) (ss ∷ []) is = (inr refl, sym (ap (λ v. taken_of v op.operation) (vector_at op.operation.heap)) ∙ is.0, ap (λ (l : List Step). l ∷ []) is.1)
   take_off site stamp op heaps (Err fault) (ss ∷ more ∷ steps) is = absurd is
 
   merge_off : (site stamp : ℕ) (other : HeapImage) (heaps : List ℕ) (result : Result (Unit {0}) MergeFault) (steps : List (List Step)) → IsMerged stamp other result (map books (other.heap ∷ [])) steps →
@@ -237,8 +243,8 @@ module _ (named : AreScoresMeant) (rule : Rule) (K : ℕ) (W S : List Operation)
   merge_off site stamp other heaps (Err fault) [] is = absurd is
   merge_off site stamp other heaps (Err unjoined.WrongHeap) (ss ∷ []) is = absurd is
   merge_off site stamp other heaps (Err unjoined.WrongRule) (ss ∷ []) is = absurd is
-  merge_off site stamp other heaps (Err unjoined.Worn) (ss ∷ []) is = ap (λ (l : List Step). l ∷ []) is.1
-  merge_off site stamp other heaps (Err unjoined.NoMemory) (ss ∷ []) is = ap (λ (l : List Step). l ∷ []) is.1
+  merge_off site stamp other heaps (Err unjoined.Worn) (ss ∷ []) is = (inl refl, ap (λ (l : List Step). l ∷ []) is.1)
+  merge_off site stamp other heaps (Err unjoined.NoMemory) (ss ∷ []) is = (inr refl, ap (λ (l : List Step). l ∷ []) is.1)
   merge_off site stamp other heaps (Err fault) (ss ∷ more ∷ steps) is = absurd is
 
   show_off : (site stamp heap : ℕ) (heaps : List ℕ) (vector : List ℕ) (steps : List (List Step)) → IsShown vector (map books (heap ∷ [])) steps →
@@ -255,7 +261,8 @@ module _ (named : AreScoresMeant) (rule : Rule) (K : ℕ) (W S : List Operation)
       (is.0 ∙ (λ i. record { heap = its.heap i; heaps = its.heaps i; rule = its.ruled i; image = its.state i }), ap (λ (l : List Step). l ∷ []) is.1)
   copy_off site stamp heap heaps (Ok copy) (ss ∷ more ∷ steps) is = absurd is
   copy_off site stamp heap heaps (Err fault) [] is = absurd is
-  copy_off site stamp heap heaps (Err fault) (ss ∷ []) is = ap (λ (l : List Step). l ∷ []) is.1
+  copy_off site stamp heap heaps (Err unread.Worn) (ss ∷ []) is = absurd is.0
+  copy_off site stamp heap heaps (Err unread.NoMemory) (ss ∷ []) is = (refl, ap (λ (l : List Step). l ∷ []) is.1)
   copy_off site stamp heap heaps (Err fault) (ss ∷ more ∷ steps) is = absurd is
 
   -- what a peer lacks of the set
@@ -298,7 +305,8 @@ module _ (named : AreScoresMeant) (rule : Rule) (K : ℕ) (W S : List Operation)
       IsAnswerOf rule K site S (ToTell heap vector) stamp heaps (Told result) steps
   tell_off site stamp heap vector heaps result [] is = absurd is
   tell_off site stamp heap vector heaps (Ok since) (ss ∷ []) is = (told_off stamp heap vector since is.0, ap (λ (l : List Step). l ∷ []) is.1)
-  tell_off site stamp heap vector heaps (Err fault) (ss ∷ []) is = ap (λ (l : List Step). l ∷ []) is.1
+  tell_off site stamp heap vector heaps (Err unread.Worn) (ss ∷ []) is = absurd is.0
+  tell_off site stamp heap vector heaps (Err unread.NoMemory) (ss ∷ []) is = (refl, ap (λ (l : List Step). l ∷ []) is.1)
   tell_off site stamp heap vector heaps result (ss ∷ more ∷ steps) is = absurd is
 
   -- the answer to what was asked, and the steps, over the books of its heaps

@@ -2,13 +2,13 @@
 
 use Rattle.std.proofs.Common.{ap, arith, inl, inr, ne_eqb, eq-eqb, refl, subst, suc, sym, take_all, true≢false, zero, ◌∙◌}
 use Rattle.std.proofs.lemmas.Bool.{cases_Bool, eqb-true, lt-leb, or_from}
-use Rattle.std.specs.Prelude.{Bool, List, [], false, if◌then◌else◌, length, max, slice_index, slice_set, take, true, ℕ, ◌+◌, ◌++◌, ◌<◌, ◌==◌, ◌∷◌, ◌≡◌, ◌≤◌, ◌⊎◌}
+use Rattle.std.specs.Prelude.{List, [], false, if◌then◌else◌, length, slice_index, slice_set, true, ℕ, ◌+◌, ◌<◌, ◌==◌, ◌∷◌, ◌≡◌, ◌≤◌, ◌⊎◌}
 use Rattle.zq_model.proofs.Made.{made_new, making_closed}
 use Rattle.zq_model.proofs.Membership.{in_left, in_right, in_union}
 use Rattle.zq_model.proofs.Same.{image_of-same_heap}
 use Rattle.zq_model.proofs.TailSets.{step_in_heap}
 use Rattle.zq_model.proofs.Worlds.{world_part}
-use Rattle.zq_model.specs.Image.{Image, image_of}
+use Rattle.zq_model.specs.Image.{Image}
 use Rattle.zq_model.specs.Operation.{Operation, operation_over}
 use Rattle.zq_model.specs.Rule.{Rule}
 use Rattle.zq_model.specs.Sets.{IsClosed, IsHeaps, IsIn, IsMade, IsNew, IsWorld, vector_of}

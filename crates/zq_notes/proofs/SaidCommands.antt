@@ -1,9 +1,8 @@
 -- The command that the event of a call asks for, and over which queues a run plans it.
 
-use Rattle.std.proofs.Common.{ap, arith, refl, subst, suc, sym, zero, ◌∙◌}
+use Rattle.std.proofs.Common.{ap, arith, refl, suc, zero, ◌∙◌}
 use Rattle.std.proofs.lemmas.List.{length-take-le, take_all}
-use Rattle.std.specs.Prelude.{All, Bool, List, Ok, [], codes, false, if◌then◌else◌, length, pos, slice_index_or, take, true, ℕ, ◌<◌, ◌∷◌, ◌≡◌, ◌≤◌}
-use Rattle.zq_model.specs.Meaning.{Scored}
+use Rattle.std.specs.Prelude.{All, List, Ok, [], codes, false, if◌then◌else◌, length, pos, take, true, ℕ, ◌∷◌, ◌≡◌, ◌≤◌}
 use Rattle.zq_model.specs.Operation.{LONGEST, Operation}
 use Rattle.zq_model.specs.Rule.{Rule}
 use Rattle.zq_moves.specs.Moves.{Move, Queue, Queues}

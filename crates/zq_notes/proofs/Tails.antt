@@ -2,7 +2,7 @@
 
 use Rattle.std.proofs.Common.{ap, arith, inl, inr, refl, subst, sym, take-append-drop, ◌∙◌}
 use Rattle.std.proofs.lemmas.List.{map-append}
-use Rattle.std.specs.Prelude.{List, [], drop, length, map, take, ℕ, ◌++◌, ◌<◌, ◌∷◌, ◌≡◌, ◌≤◌, ◌⊎◌}
+use Rattle.std.specs.Prelude.{List, [], drop, take, ℕ, ◌++◌, ◌∷◌, ◌≡◌, ◌⊎◌}
 use Rattle.zq_history.specs.Books.{Book, Change, Record, merged, operation_of, operations_of, recorded, steps_image, steps_of}
 use Rattle.zq_history.specs.Reach.{begun, cut_of}
 use Rattle.zq_model.proofs.Membership.{in_left, in_right, in_union}

@@ -7,14 +7,16 @@ use Rattle.zq_notes.specs.Does.{Does}
 use Rattle.zq_notes.specs.Notes.{Answer, Asked, Books, Note}
 use Rattle.zq_notes.specs.Thread.{left_by_all}
 use Rattle.zq_spread.specs.Calls.{IsCall, heaps_of}
-use Rattle.zq_spread.specs.Dispatch.{DoesCommand, IsTurnedAway}
+use Rattle.zq_spread.specs.Dispatch.{DoesCommand, HasFoundNone, IsTurnedAway, IsWornOut, all_heaps}
+use Rattle.zq_spread.specs.Drawn.{drawn}
 use Rattle.zq_spread.specs.declared.kept.Kept.{Kept}
 use Rattle.zq_spread.specs.declared.pass.Pass.{Pass}
 use Rattle.zq_spread.specs.declared.site.Site.{Site}
 use Rattle.zq_words.specs.Command.{Command}
 use Rattle.zq_words.specs.Heaps as named
 use Rattle.zq_words.specs.Words.{Word}
-use Rattle.zq_words.specs.declared.heaps.Heaps.TheVariants.{NoHeap}
+use Rattle.zq_words.specs.declared.heaps.Heaps.{Heaps}
+use Rattle.zq_words.specs.declared.heaps.Heaps.TheVariants.{All, Near, NoHeap, One}
 
 -- the note is that of a call by which the pass came from the one to the other
 pub record IsNoteOf (site : Site) (before after : Pass) (n : Note) : Type 0 where
@@ -26,10 +28,19 @@ pub record IsNoteOf (site : Site) (before after : Pass) (n : Note) : Type 0 wher
 abbrev pub HasNote : Site → ℕ → Pass → Pass → Asked → Answer → Type 0
 HasNote site p before after asked answer = (n : Note) × IsNoteOf site before after n × (n.pass ≡ p) × (n.asked ≡ asked) × (n.answer ≡ answer)
 
--- the command held no heap: it needs none, or it was refused, since a lock or the stamp is at its last value or there was no memory to hold more heaps than one
-abbrev pub HeldNone : Site → Command → Word → Pass → Pass → Type 0
-HeldNone site command reply before after =
-    ((named.heaps_of command (heaps_of site) ≡ NoHeap) × (after ≡ before) × DoesCommand site after.stamp command reply [] []) ⊎ IsTurnedAway reply before after
+-- a command left no note: one that needs no heap was answered over no books; one that works in a single heap was refused, since its lock or the stamp is at its
+-- last value; any other for the same reason, or since there was no memory to hold more heaps than one; ZPOPNEAR in the two heaps that it drew, or in all, where
+-- it has passed over those
+abbrev pub HeldNoneIn : Heaps → Site → Command → ℕ → ℕ → Word → Pass → Pass → Type 0
+HeldNoneIn NoHeap site command w1 w2 reply before after = (after ≡ before) × DoesCommand site after.stamp command reply [] []
+HeldNoneIn (One heap) site command w1 w2 reply before after = IsWornOut (heap ∷ []) reply before after
+HeldNoneIn Near site command w1 w2 reply before after =
+    IsTurnedAway (drawn (heaps_of site) w1 w2) reply before after ⊎ (IsWornOut (all_heaps site) reply before after × HasFoundNone command before after (drawn (heaps_of site) w1 w2))
+HeldNoneIn All site command w1 w2 reply before after = IsTurnedAway (all_heaps site) reply before after
+
+-- the command was called by the two words, and is such a one
+abbrev pub HeldNone : Site → Command → ℕ → ℕ → Word → Pass → Pass → Type 0
+HeldNone site command w1 w2 reply before after = HeldNoneIn (named.heaps_of command (heaps_of site)) site command w1 w2 reply before after
 
 -- a call that was made: its pass before and after it, and its note
 pub record Call : Type 0 where

@@ -2,11 +2,14 @@
 
 use Rattle.std.specs.List.{range_with_len}
 use Rattle.std.specs.Prelude.{List, Result, [], ℕ, ◌∷◌, ◌≡◌, ◌⊎◌}
+use Rattle.zq_dots.specs.Placed.{Placed}
 use Rattle.zq_history.specs.Books.{Book, Step}
 use Rattle.zq_history.specs.Reach.{begun}
 use Rattle.zq_journal.specs.declared.since.Since.{Since}
+use Rattle.zq_model.specs.Heaps.{heap_of}
 use Rattle.zq_model.specs.Rule.{Rule}
 use Rattle.zq_notes.specs.Notes.{Answer, Asked, Copied, Handed, Joined, Replied, Shown, ToCopy, ToMerge, ToRun, ToShow, ToTake, ToTell, Told}
+use Rattle.zq_shard.specs.Shard.{HeapImage}
 use Rattle.zq_spread.specs.Answers.{IsCopied, IsMerged, IsShown, IsSince, IsTaken, read_of}
 use Rattle.zq_spread.specs.Commanded.{IsAnswered}
 use Rattle.zq_spread.specs.Dispatch.{HasNear}
@@ -30,13 +33,23 @@ abbrev pub IsTold : ℕ → List ℕ → Result Since ReadFault → List Book �
 IsTold stamp vector result (b ∷ []) (steps ∷ []) = read_of (λ (since : Since) (book : Book). IsSince vector since (begun stamp book)) result b × (steps ≡ [])
 IsTold stamp vector result books steps = ⊥
 
+-- the operation was made among K heaps, and lies in its own
+pub record IsOfHeaps (K : ℕ) (p : Placed) : Type 0 where
+  pub heaps : p.heaps ≡ K
+  pub placed : heap_of p.operation.key p.operation.member K ≡ p.operation.heap
+
+-- the heap is one of as many, and of this rule
+pub record IsLike (rule : Rule) (K : ℕ) (s : HeapImage) : Type 0 where
+  pub heaps : s.heaps ≡ K
+  pub ruled : s.rule ≡ rule
+
 -- what a site of this rule, of K heaps and this number does at a stamp: what it was asked, the heaps that it held, its answer, the books that it found there, and
--- its steps in each
+-- its steps in each. An operation of another number of heaps, and a heap of another number or rule, is refused before any heap is held, and leaves no note
 abbrev pub Does : Rule → ℕ → ℕ → ℕ → Asked → List ℕ → Answer → List Book → List (List Step) → Type 0
 Does rule K site stamp (ToRun command w1 w2) heaps (Replied reply) found steps =
     AreHeapsFor (named.heaps_of command K) rule K command w1 w2 heaps found × IsAnswered rule site stamp command reply found steps
-Does rule K site stamp (ToTake op) heaps (Handed result) found steps = (heaps ≡ op.operation.heap ∷ []) × IsTaken stamp op result found steps
-Does rule K site stamp (ToMerge other) heaps (Joined result) found steps = (heaps ≡ other.heap ∷ []) × IsMerged stamp other result found steps
+Does rule K site stamp (ToTake op) heaps (Handed result) found steps = (heaps ≡ op.operation.heap ∷ []) × IsTaken stamp op result found steps × IsOfHeaps K op
+Does rule K site stamp (ToMerge other) heaps (Joined result) found steps = (heaps ≡ other.heap ∷ []) × IsMerged stamp other result found steps × IsLike rule K other
 Does rule K site stamp (ToTell heap vector) heaps (Told result) found steps = (heaps ≡ heap ∷ []) × IsTold stamp vector result found steps
 Does rule K site stamp (ToCopy heap) heaps (Copied result) found steps = (heaps ≡ heap ∷ []) × IsCopied result found steps
 Does rule K site stamp (ToShow heap) heaps (Shown vector) found steps = (heaps ≡ heap ∷ []) × IsShown vector found steps

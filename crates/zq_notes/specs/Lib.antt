@@ -6,6 +6,7 @@ pub mod Calls
 pub mod Gathered
 pub mod Readings
 pub mod Sites
+pub mod Linked
 pub mod Uncut
 pub mod Played
 pub mod Examples

@@ -1,11 +1,11 @@
 -- Calls of running sites as events of the run of a world.
 
-use Rattle.std.specs.Prelude.{List, None, Ok, Option, Some, [], length, pos, slice_get, take, true, ℕ, ◌++◌, ◌∷◌, ◌≡◌, ◌⊎◌}
+use Rattle.std.specs.Prelude.{List, None, Ok, Option, Some, [], length, pos, slice_get, take, true, ℕ, ◌++◌, ◌∷◌, ◌≡◌}
 use Rattle.zq_model.specs.Image.{image_of}
 use Rattle.zq_model.specs.Operation.{Operation}
 use Rattle.zq_model.specs.Rule.{Rule}
 use Rattle.zq_model.specs.Sets.{AreSame}
-use Rattle.zq_notes.specs.Notes.{Answer, Asked, Handed, Joined, Note, Replied, ToCopy, ToMerge, ToRun, ToShow, ToTake, ToTell}
+use Rattle.zq_notes.specs.Notes.{Answer, Asked, Handed, Joined, Replied, ToCopy, ToMerge, ToRun, ToShow, ToTake, ToTell}
 use Rattle.zq_notes.specs.Sites.{Event, has_at, made_of}
 use Rattle.zq_plans.specs.Plan.{is_there}
 use Rattle.zq_runs.specs.Doing.{drawn}

@@ -8,13 +8,15 @@ use Rattle.zq_journal.specs.Answers.{IfOps}
 use Rattle.zq_journal.specs.Books.{step_of, steps_when}
 use Rattle.zq_journal.specs.Records.{placed_at}
 use Rattle.zq_journal.specs.declared.faults.MergeFault.{MergeFault}
+use Rattle.zq_journal.specs.declared.faults.MergeFault.TheVariants as unmerged
 use Rattle.zq_journal.specs.declared.faults.TakeFault.{TakeFault}
+use Rattle.zq_journal.specs.declared.faults.TakeFault.TheVariants as untaken
 use Rattle.zq_journal.specs.declared.since.Since.{Since}
 use Rattle.zq_model.specs.Heaps.{heap_of}
 use Rattle.zq_model.specs.Image.{image_of}
 use Rattle.zq_model.specs.Operation.{Operation, operation_over}
 use Rattle.zq_model.specs.Rule.{Rule}
-use Rattle.zq_model.specs.Sets.{AreSame, in_heap, taken_of, vector_of}
+use Rattle.zq_model.specs.Sets.{AreSame, IsIn, New, in_heap, taken_of, vector_of}
 use Rattle.zq_model.specs.Tail.{lacking}
 use Rattle.zq_moves.specs.Moves.{Move, Queues}
 use Rattle.zq_notes.specs.Notes.{Answer, Asked, Copied, Handed, Joined, Note, Replied, Shown, ToCopy, ToMerge, ToRun, ToShow, ToTake, ToTell, Told}
@@ -28,6 +30,7 @@ use Rattle.zq_shard.specs.Taken.{answer_of}
 use Rattle.zq_shard.specs.declared.taken.Taken.{Taken}
 use Rattle.zq_spread.specs.Drawn.{drawn}
 use Rattle.zq_spread.specs.declared.faults.ReadFault.{ReadFault}
+use Rattle.zq_spread.specs.declared.faults.ReadFault.TheVariants as unread
 use Rattle.zq_words.specs.Command.{Command, Reading, Zpopnear, Zrange}
 use Rattle.zq_words.specs.Words.{Word}
 
@@ -71,7 +74,8 @@ moved_in K site stamp h (move ∷ moves) v =
     ∷ moved_in K site stamp h moves (slice_set v site (slice_index v site + 1))
     else moved_in K site stamp h moves v
 
--- the operations are those that the set has in the heap, of K, and the vector lacks
+-- the operations are those that the set has in the heap, of K, and the vector lacks. A set says nothing of their order, nor whether one comes twice: over the
+-- book that the call found each of them is new where it comes (`IsSince`)
 pub record AreLacked (K : ℕ) (S : List Operation) (heap : ℕ) (vector : List ℕ)
     (ops : List Placed) : Type 0 where
   pub told : List Operation
@@ -80,42 +84,47 @@ pub record AreLacked (K : ℕ) (S : List Operation) (heap : ℕ) (vector : List 
 
 -- ---- each kind of call: what it answers and does, read off the set that the site has
 
--- a command of a site of this number, with its steps in each of these heaps
+-- a command of a site of this number: all that it makes lies in the heaps that it held, and these are its steps in each
 abbrev pub IsRunOff : Rule → ℕ → ℕ → List Operation → Command → ℕ → ℕ → ℕ → List ℕ → Word →
     List (List Step) → Type 0
 IsRunOff rule K site S command w1 w2 stamp heaps reply steps =
     (moves : List Move) × IsRunOf rule K S w1 w2 command moves reply
     × (steps ≡ map (λ h. moved_in K site stamp h moves (vector_of S h)) heaps)
+    × ((m : Move) → IsIn m moves → IsIn (heap_of m.key m.member K) heaps)
 
--- an operation of another site
+-- an operation of another site; one that is new may be refused, since the book counts no further or
+-- there was no memory, and no other
 abbrev pub IsTakenOff : List Operation → Placed → ℕ → Result Taken TakeFault → List (List Step) →
     Type 0
 IsTakenOff S op stamp (Ok taken) steps =
     (answer_of taken ≡ taken_of (vector_of S op.operation.heap) op.operation)
     × (steps
     ≡ steps_when (taken_of (vector_of S op.operation.heap) op.operation) stamp op.operation ∷ [])
-IsTakenOff S op stamp (Err fault) steps = steps ≡ [] ∷ []
+IsTakenOff S op stamp (Err fault) steps =
+    ((fault ≡ untaken.Worn) ⊎ (fault ≡ untaken.NoMemory))
+    × (taken_of (vector_of S op.operation.heap) op.operation ≡ New) × (steps ≡ [] ∷ [])
 
--- a heap of another site
+-- a heap of another site, or it is refused for the same reasons
 abbrev pub IsMergedOff : HeapImage → ℕ → Result (Unit {0}) MergeFault → List (List Step) → Type 0
 IsMergedOff other stamp (Ok done) steps = steps ≡ (book.Merged stamp other.image ∷ []) ∷ []
-IsMergedOff other stamp (Err fault) steps = steps ≡ [] ∷ []
+IsMergedOff other stamp (Err fault) steps =
+    ((fault ≡ unmerged.Worn) ⊎ (fault ≡ unmerged.NoMemory)) × (steps ≡ [] ∷ [])
 
 -- what a peer of this vector lacks of a heap: where it is not too old for the book's tail, which a
--- set does not say
+-- set does not say; or there was no memory
 abbrev pub IsToldOff : ℕ → List Operation → ℕ → List ℕ → Result Since ReadFault → List (List Step) →
     Type 0
 IsToldOff K S heap vector (Ok since) steps =
     IfOps since (AreLacked K S heap vector) × (steps ≡ [] ∷ [])
-IsToldOff K S heap vector (Err fault) steps = steps ≡ [] ∷ []
+IsToldOff K S heap vector (Err fault) steps = (fault ≡ unread.NoMemory) × (steps ≡ [] ∷ [])
 
--- a copy of a heap
+-- a copy of a heap, or there was no memory
 abbrev pub IsCopiedOff : Rule → ℕ → List Operation → ℕ → Result HeapImage ReadFault →
     List (List Step) → Type 0
 IsCopiedOff rule K S heap (Ok copy) steps =
     (copy ≡ record { heap = heap; heaps = K; rule = rule; image = image_of S heap })
     × (steps ≡ [] ∷ [])
-IsCopiedOff rule K S heap (Err fault) steps = steps ≡ [] ∷ []
+IsCopiedOff rule K S heap (Err fault) steps = (fault ≡ unread.NoMemory) × (steps ≡ [] ∷ [])
 
 -- which operations of a heap it has
 abbrev pub IsShownOff : List Operation → ℕ → List ℕ → List (List Step) → Type 0

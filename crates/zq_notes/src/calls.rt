@@ -10,7 +10,7 @@ ghost use Rattle.zq_notes.specs.Notes.{Copied, Handed, Joined, Replied, Shown, T
 ghost use Rattle.zq_shard.specs.Shard.{HeapImage};
 ghost use Rattle.zq_shard.specs.declared.taken.Taken.{Taken};
 ghost use Rattle.zq_spread.specs.Answers.{IsAsked, IsCopied, IsMerged, IsShown, IsSince, IsTaken};
-ghost use Rattle.zq_spread.specs.Calls.{HasSeenBook, IsCall};
+ghost use Rattle.zq_spread.specs.Calls.{HasSeenBook, IsCall, IsLikeSite, IsOfSite};
 ghost use Rattle.zq_spread.specs.Dispatch.{IsCalled};
 ghost use Rattle.zq_spread.specs.declared.faults.ReadFault.{ReadFault};
 ghost use Rattle.zq_spread.specs.declared.pass.Pass.{Pass};
@@ -19,13 +19,14 @@ ghost use Rattle.zq_words.specs.Command.{Command};
 ghost use Rattle.zq_words.specs.Words.{Word};
 
 /// Each call of a site that held a heap leaves a note: what [`zq_spread::Site::call`], `try_call`, `take`, `merge`, `since`, `state` and `vector` promise is
-/// that there is one. A command that held none needs none, or was refused before it held any.
+/// that there is one. A command that held none needs none, or was refused before it held any. An operation or a heap that is not of the site's kind is refused
+/// with no lock taken.
 pub fn noting()
     ensures calls { (site : Site) (p : ℕ) (before after : Pass) (command : Command) (w1 w2 : ℕ) (reply : Word) → IsCalled site command w1 w2 reply before after →
-        HasNote site p before after (ToRun command w1 w2) (Replied reply) ⊎ HeldNone site command reply before after }
-    ensures takes { (site : Site) (p : ℕ) (before after : Pass) (op : Placed) (result : Results Taken TakeFault) → IsCall (IsTaken after.stamp op result) before after (op.operation.heap ∷ []) →
-        HasNote site p before after (ToTake op) (Handed result) }
-    ensures merges { (site : Site) (p : ℕ) (before after : Pass) (other : HeapImage) (result : Results (Unit {0}) MergeFault) →
+        HasNote site p before after (ToRun command w1 w2) (Replied reply) ⊎ HeldNone site command w1 w2 reply before after }
+    ensures takes { (site : Site) (p : ℕ) (before after : Pass) (op : Placed) (result : Results Taken TakeFault) → IsOfSite site op →
+        IsCall (IsTaken after.stamp op result) before after (op.operation.heap ∷ []) → HasNote site p before after (ToTake op) (Handed result) }
+    ensures merges { (site : Site) (p : ℕ) (before after : Pass) (other : HeapImage) (result : Results (Unit {0}) MergeFault) → IsLikeSite site other →
         IsCall (IsMerged after.stamp other result) before after (other.heap ∷ []) → HasNote site p before after (ToMerge other) (Joined result) }
     ensures tells { (site : Site) (p : ℕ) (before after : Pass) (heap : ℕ) (vector : List ℕ) (result : Results Since ReadFault) → IsCall (IsAsked result) before after (heap ∷ []) →
         IfOk result (λ since. HasSeenBook after heap (IsSince vector since)) → HasNote site p before after (ToTell heap vector) (Told result) }

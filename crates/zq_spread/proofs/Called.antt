@@ -22,13 +22,17 @@ use Rattle.zq_moves.proofs.Counted.{in_merged, queue_merged}
 use Rattle.zq_moves.specs.Lent.{queues_of}
 use Rattle.zq_moves.specs.Moves.{Queue}
 use Rattle.zq_posheap.proofs.Lists.{there_is}
-use Rattle.zq_spread.proofs.ManyHeaps.{seen_same, steps_same}
+use Rattle.zq_spread.proofs.ManyHeaps.{seen_same, steps_same, turns_same}
+use Rattle.zq_spread.proofs.Refused.{passed_on}
 use Rattle.zq_spread.proofs.Seats.{seen_later}
+use Rattle.zq_spread.proofs.LeftAsGiven.{left_through, none_held, worked_after}
 use Rattle.zq_spread.specs.Calls.{AreWorkedIn, greatest_stamp, heaps_of}
-use Rattle.zq_spread.specs.Dispatch.{HasQueued, IsCommand, IsNear, IsWornOut, all_heaps}
+use Rattle.zq_spread.specs.Dispatch.{HasFoundNone, HasHeldEach, HasPassedOver, HasQueued, IsCommand, IsNear, IsWornOut, all_heaps}
 use Rattle.zq_spread.specs.Kept.{Follows, follows_further}
 use Rattle.zq_spread.specs.Passes.{IsCountOf, IsPassOf, IsRoomAt, IsSeatOf, IsSeenLater, IsStopped, seen_at, seen_in}
 use Rattle.zq_spread.specs.Several.{AreBack, AreBegunAt, AreBooksAt, AreHeapsOf, HasMemberIn, IsBookAt}
+use Rattle.zq_spread.specs.Turns.{IsLeftAsGiven, turns_at, turns_in}
+use Rattle.zq_spread.specs.Worn.{HasFoundBusy, HasFoundLast, IsBusyIn, IsPassedOver}
 use Rattle.zq_spread.specs.declared.kept.Kept.{Kept}
 use Rattle.zq_spread.specs.declared.pass.Pass.{Pass}
 use Rattle.zq_spread.specs.declared.room.Room.{Room}
@@ -39,7 +43,7 @@ use Rattle.zq_ticketlock.specs.declared.seat.Seat.{Seat}
 use Rattle.zq_ticketlock.specs.declared.view.View.{View}
 use Rattle.zq_ticketlock.specs.declared.view.View.TheVariants.{Holding, Idle, Met, Spent, Vacant, Waiting}
 use Rattle.zq_ticketlock.specs.declared.held.Held.{Held}
-use Rattle.zq_words.specs.Command.{Command}
+use Rattle.zq_words.specs.Command.{Command, Zpopnear}
 use Rattle.zq_words.specs.Words.{Word}
 
 -- ---- all heaps
@@ -62,6 +66,19 @@ in_range_high a (suc n) k (inr there) = let high = in_range_high (a + 1) n k the
 pub heaps_all : (site : Site) (a n : ℕ) → a + n ≤ heaps_of site → AreHeapsOf site (range_with_len a n)
 heaps_all site a zero most = tt
 heaps_all site a (suc n) most = (omega (arith, most), (λ k here. let low = in_range (a + 1) n k here in omega (arith, low)), heaps_all site (a + 1) n (omega (arith, most)))
+
+-- heaps of the site are among all of them
+pub among_all : (site : Site) (heaps : List ℕ) (k : ℕ) → AreHeapsOf site heaps → IsIn k heaps → IsIn k (all_heaps site)
+among_all site heaps k are here = let low = below heaps are here in in_range_with_len 0 (heaps_of site) k (omega arith) (omega (arith, low))
+  where
+    below : (hs : List ℕ) → AreHeapsOf site hs → IsIn k hs → k < heaps_of site
+    below [] are here = absurd here
+    below (h ∷ hs) are (inl same) = subst (λ j. j < heaps_of site) same are.0
+    below (h ∷ hs) are (inr there) = below hs are.2 there
+
+-- and so is one of them that is another's
+pub busy_among : (site : Site) (heaps : List ℕ) (pass : Pass) → AreHeapsOf site heaps → HasFoundBusy heaps pass → HasFoundBusy (all_heaps site) pass
+busy_among site heaps pass are busy = (busy.0, among_all site heaps busy.0 are busy.1, busy.2)
 
 book_place : (site : Site) (a n i : ℕ) (books : List Book) (b : Book) → AreBooksAt site (range_with_len a n) books → slice_get books i ≡ Some b → IsBookAt site (a + i) b
 book_place site a zero i [] b are is = absurd (let low = slice_get_within [] i b is in omega (arith, low))
@@ -126,6 +143,10 @@ stopped_back site heaps p q back = record {
     | inl here ↦ back.seen k here
     | inr out ↦ subst (λ o. IsSeenLater o (seen_at p k)) (sym (seen_same heaps p q k back.outside out)) (seen_later (seen_at p k))
   ];
+  left = λ k. elim (in_or_not k heaps) [
+    | inl here ↦ back.left k here
+    | inr out ↦ subst (λ l. IsLeftAsGiven l (turns_at p k)) (sym (turns_same heaps p q k back.outside out)) (none_held (turns_at p k))
+  ];
 }
 
 -- ---- a call after a call that was stopped
@@ -149,12 +170,12 @@ later_seen x (Some y) (Some z) some follows later = follows_further x y z follow
 later_seen x (Some y) None some follows later = tt
 later_seen x None before some follows later = absurd (cc)
 
--- what was seen of a heap that the site does not have
-seen_past : (site : Site) (p q : Pass) (k : ℕ) → IsPassOf site p → IsPassOf site q → heaps_of site ≤ k → seen_at q k ≡ seen_at p k
-seen_past site p q k at_p at_q high =
+-- the seat in a heap that the site does not have
+seat_past : (site : Site) (p q : Pass) (k : ℕ) → IsPassOf site p → IsPassOf site q → heaps_of site ≤ k → slice_get q.seats.items k ≡ slice_get p.seats.items k
+seat_past site p q k at_p at_q high =
     let one = at_q.seats in
     let other = at_p.seats in
-    ap seen_in (slice_get_past q.seats.items k (omega (arith, high, one)) ∙ sym (slice_get_past p.seats.items k (omega (arith, high, other))))
+    slice_get_past q.seats.items k (omega (arith, high, one)) ∙ sym (slice_get_past p.seats.items k (omega (arith, high, other)))
 
 module _ (site : Site) (p q : Pass) (at_p : IsPassOf site p) (at_q : IsPassOf site q) (stopped : IsStopped p q) where
   worked_before : (r : Pass) (heaps : List ℕ) (found left : List Kept) (steps : List (List Step)) → ((k : ℕ) → IsIn k heaps → k < heaps_of site) → AreWorkedIn q r heaps found left steps →
@@ -173,6 +194,7 @@ module _ (site : Site) (p q : Pass) (at_p : IsPassOf site p) (at_q : IsPassOf si
           worked = are.0.worked;
           seen = are.0.seen;
           own = let same = stopped.steps h in let made = are.0.own in omega (arith, same, made);
+          turn = worked_after x y (turns_at p h) (turns_at q h) (turns_at r h) are.0.turn (stopped.left h);
         },
         worked_before r heaps found left steps (λ k here. inside k (inr here)) are.1,
       )
@@ -188,33 +210,52 @@ module _ (site : Site) (p q : Pass) (at_p : IsPassOf site p) (at_q : IsPassOf si
     others = λ k out.
         let stays = call.others k out in
         let high : heaps_of site ≤ k = elim (cases_lt k (heaps_of site)) [ inl low ↦ absurd (out (in_range_with_len 0 (heaps_of site) k (omega arith) (omega (arith, low)))) | inr high ↦ omega (arith, high) ] in
-        (stays.0 ∙ seen_past site p q k at_p at_q high, stays.1 ∙ stopped.steps k);
+        let seat = seat_past site p q k at_p at_q high in
+        (stays.0 ∙ ap seen_in seat, stays.1 ∙ stopped.steps k, stays.2 ∙ ap turns_in seat);
     done = call.done;
   }
 
-  pub worn_before : (reply : Word) (r : Pass) → IsPassOf site r → IsWornOut reply q r → IsWornOut reply p r
-  worn_before reply r at_r worn = (
-    worn.0,
-    record {
-      stamp = worn.1.stamp ∙ stopped.stamp;
-      steps = λ k. worn.1.steps k ∙ stopped.steps k;
-      seen = λ k. elim (cases_lt k (heaps_of site)) [
-        | inl low ↦
-            let room = there_is site.rooms.items k low in
-            later_both (seen_at r k) (seen_at q k) (seen_at p k) (seat_seen room.0 (slice_get q.seats.items k) (at_q.seat k room.0 room.1)) (worn.1.seen k) (stopped.seen k)
-        | inr high ↦ subst (λ o. IsSeenLater (seen_at r k) o) (seen_past site p q k at_p at_q (omega (arith, high))) (worn.1.seen k)
-      ];
-    },
-  )
+  stopped_before : (r : Pass) → IsPassOf site r → IsStopped q r → IsStopped p r
+  stopped_before r at_r later = record {
+    stamp = later.stamp ∙ stopped.stamp;
+    steps = λ k. later.steps k ∙ stopped.steps k;
+    seen = λ k. elim (cases_lt k (heaps_of site)) [
+      | inl low ↦
+          let room = there_is site.rooms.items k low in
+          later_both (seen_at r k) (seen_at q k) (seen_at p k) (seat_seen room.0 (slice_get q.seats.items k) (at_q.seat k room.0 room.1)) (later.seen k) (stopped.seen k)
+      | inr high ↦ subst (λ o. IsSeenLater (seen_at r k) o) (ap seen_in (seat_past site p q k at_p at_q (omega (arith, high)))) (later.seen k)
+    ];
+    left = λ k. left_through (turns_at p k) (turns_at q k) (turns_at r k) (later.left k) (stopped.left k);
+  }
     where
       later_both : (o m b : Option Kept) → IsSome m → IsSeenLater o m → IsSeenLater m b → IsSeenLater o b
       later_both None m b some first then = tt
       later_both (Some x) m b some first then = later_seen x m b some first then
 
+  -- a refusal, after a call that was stopped
+  worn_before : (heaps : List ℕ) (reply : Word) (r : Pass) → IsPassOf site r → IsWornOut heaps reply q r → IsWornOut heaps reply p r
+  worn_before heaps reply r at_r worn = (worn.0, (stopped_before r at_r worn.1.0, subst (λ n. HasFoundLast n heaps r) stopped.stamp worn.1.1))
+
+  pub busy_before : (heaps : List ℕ) (r : Pass) → IsPassOf site r → IsBusyIn heaps q r → IsBusyIn heaps p r
+  busy_before heaps r at_r busy = (stopped_before r at_r busy.0, busy.1)
+
   -- ZPOPNEAR over all heaps, after the two that it drew had no member
-  pub near_after : (command : Command) (reply : Word) (r : Pass) (drawn : List ℕ) → IsPassOf site r → IsCommand site command reply q r (all_heaps site) ⊎ IsWornOut reply q r → IsNear site command reply p r drawn
-  near_after command reply r drawn at_r (inl call) = inr (inl (command_before command reply r call))
-  near_after command reply r drawn at_r (inr worn) = inr (inr (inl (worn_before reply r at_r worn)))
+  pub near_after : (command : Command) (key : List ℕ) (reply : Word) (r : Pass) (drawn : List ℕ) → command ≡ Zpopnear key → AreHeapsOf site drawn → IsPassOf site r →
+      ((h : ℕ) → IsIn h drawn → IsPassedOver key [] p q h) → (IsCommand site command reply q r (all_heaps site) × HasHeldEach q r (all_heaps site)) ⊎ IsWornOut (all_heaps site) reply q r →
+      IsNear site command reply p r drawn
+  near_after command key reply r drawn near are at_r over (inl both) =
+      inr
+      (inl (
+        command_before command reply r both.0,
+        subst (λ c. HasPassedOver c p r drawn) (sym near) (λ h here. let held = both.1 h (among_all site drawn h are here) in (held.0, passed_on key (held.0 ∷ []) p q r h held.1 (over h here))),
+      ))
+  near_after command key reply r drawn near are at_r over (inr worn) =
+      inr
+      (inr
+      (inr (
+        worn_before (all_heaps site) reply r at_r worn,
+        subst (λ c. HasFoundNone c p r drawn) (sym near) (λ h here. let left = worn.1.0.left h in (left.holds, passed_on key left.holds p q r h left.turns (over h here))),
+      )))
 
 -- ---- a member of the key
 

@@ -11,8 +11,9 @@ use Rattle.zq_history.specs.Reach.{Reached}
 use Rattle.zq_journal.specs.Books.{LAST_STAMP}
 use Rattle.zq_spread.specs.Companies.{IsCountBack, IsSameBut, IsSamePass, steps_of_all}
 use Rattle.zq_spread.specs.Kept.{Follows, follows_itself}
-use Rattle.zq_spread.specs.Passes.{IsCountOf, IsPassBut, IsPassOf, IsSeatOf, seen_in, steps_at}
+use Rattle.zq_spread.specs.Passes.{IsCountOf, IsPassBut, IsPassOf, IsSeatOf, seen_at, seen_in, steps_at}
 use Rattle.zq_spread.specs.Rooms.{IsOf}
+use Rattle.zq_spread.specs.Turns.{turns_at, turns_in}
 use Rattle.zq_spread.specs.declared.kept.Kept.{Kept}
 use Rattle.zq_spread.specs.declared.pass.Pass.{Pass}
 use Rattle.zq_spread.specs.declared.room.Room.{Room}
@@ -90,6 +91,7 @@ back_same room heap x y back = record {
   stamp = back.stamp;
   steps = back.steps;
   seen = λ k. ap (λ l. seen_in (slice_get l.items k)) back.seats;
+  turns = λ k. ap (λ l. turns_in (slice_get l.items k)) back.seats;
 }
 
 pub all_same : (room : Room) (heap : ℕ) (xs ys : List Pass) → AllZip (IsCountBack room heap) xs ys → AllZip IsSamePass xs ys
@@ -100,7 +102,7 @@ all_same room heap (x ∷ xs) (y ∷ ys) back = (back_same room heap x y back.0,
 
 pub same_itself : (xs : List Pass) → AllZip IsSamePass xs xs
 same_itself [] = tt
-same_itself (x ∷ xs) = (record { stamp = refl; steps = λ k. refl; seen = λ k. refl }, same_itself xs)
+same_itself (x ∷ xs) = (record { stamp = refl; steps = λ k. refl; seen = λ k. refl; turns = λ k. refl }, same_itself xs)
 
 -- the passes have the steps that they had
 pub same_sum : (h : ℕ) (xs ys : List Pass) → AllZip IsSamePass xs ys → steps_of_all h ys ≡ steps_of_all h xs
@@ -118,13 +120,26 @@ same_but_then heap a b c one two = record {
   stamp = two.stamp ∙ one.stamp;
   steps = λ k. two.steps k ∙ one.steps k;
   others = λ k other. two.others k other ∙ one.others k other;
+  turns = λ k other. two.turns k other ∙ one.turns k other;
 }
+
+-- where a seat came back as it was, nothing can be told
+pub same_pass : (heap : ℕ) (a b c : Pass) → IsSameBut heap a b → IsSameBut heap b c → seen_at c heap ≡ seen_at a heap → turns_at c heap ≡ turns_at a heap → IsSamePass a c
+same_pass heap a b c one two seen turns =
+    let both = same_but_then heap a b c one two in
+    record {
+      stamp = both.stamp;
+      steps = both.steps;
+      seen = λ k. elim (cases_eq k heap) [ inl same ↦ subst (λ j. seen_at c j ≡ seen_at a j) (sym same) seen | inr other ↦ both.others k other ];
+      turns = λ k. elim (cases_eq k heap) [ inl same ↦ subst (λ j. turns_at c j ≡ turns_at a j) (sym same) turns | inr other ↦ both.turns k other ];
+    }
 
 pub back_but_same : (room : Room) (heap : ℕ) (x y : Pass) → IsCountBack room heap x y → IsSameBut heap x y
 back_but_same room heap x y back = let same = back_same room heap x y back in record {
   stamp = same.stamp;
   steps = same.steps;
   others = λ k other. same.seen k;
+  turns = λ k other. same.turns k;
 }
 
 -- a value that follows what a seat of the heap has seen is of the heap

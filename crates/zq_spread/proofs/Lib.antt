@@ -1,3 +1,4 @@
+pub mod LeftAsGiven
 pub mod Counted
 pub mod Seats
 pub mod OneHeap
@@ -9,6 +10,7 @@ pub mod Places
 pub mod Settled
 pub mod Companies
 pub mod ManyHeaps
+pub mod Refused
 pub mod Turned
 pub mod Worked
 pub mod Called

@@ -6,16 +6,18 @@ use Rattle.zq_journal.specs.Books.{LAST_STAMP, state_of}
 use Rattle.zq_model.specs.Sets.{IsIn}
 use Rattle.zq_shard.specs.Shard.{queue_at}
 use Rattle.zq_spread.proofs.Seats.{seen_later}
+use Rattle.zq_spread.proofs.LeftAsGiven.{held_once, none_held}
 use Rattle.zq_spread.specs.Kept.{Follows}
 use Rattle.zq_spread.specs.Passes.{IsCountOf, IsPassBut, IsPassOf, IsSeatOf, IsSeenLater, seen_at, seen_in, steps_at, steps_in}
 use Rattle.zq_spread.specs.Several.{AreBack, AreBegunAt, AreHeapsOf, HasBegun, HasEndedIn, HasPushed, HasSeatsIn, IsBegunFrom, IsHeldAt, IsSameOutside, MayEndIn}
+use Rattle.zq_spread.specs.Turns.{HasTurn, IsLeftAsGiven, turns_at, turns_in}
 use Rattle.zq_spread.specs.declared.kept.Kept.{Kept}
 use Rattle.zq_spread.specs.declared.pass.Pass.{Pass}
 use Rattle.zq_spread.specs.declared.room.Room.{Room}
 use Rattle.zq_spread.specs.declared.site.Site.{Site}
 use Rattle.zq_spread.specs.declared.sought.Sought.{Sought}
 use Rattle.zq_spread.specs.declared.sought.Stop.{Stop}
-use Rattle.zq_ticketlock.specs.Seats.{given, value_of}
+use Rattle.zq_ticketlock.specs.Seats.{given, held_logged, value_of}
 use Rattle.zq_ticketlock.specs.Steps.{FollowsSeen}
 use Rattle.zq_ticketlock.specs.declared.held.Held.{Held}
 
@@ -27,6 +29,10 @@ nothing_changed pass = record { number = refl; seats = λ k out. refl; counts = 
 -- what a pass has seen of a heap whose seat stayed
 pub seen_same : (heaps : List ℕ) (before after : Pass) (k : ℕ) → IsSameOutside heaps before after → (IsIn k heaps → ⊥) → seen_at after k ≡ seen_at before k
 seen_same heaps before after k same out = ap seen_in (same.seats k out)
+
+-- and its turns there
+pub turns_same : (heaps : List ℕ) (before after : Pass) (k : ℕ) → IsSameOutside heaps before after → (IsIn k heaps → ⊥) → turns_at after k ≡ turns_at before k
+turns_same heaps before after k same out = ap turns_in (same.seats k out)
 
 pub steps_same : (heaps : List ℕ) (before after : Pass) (k : ℕ) → IsSameOutside heaps before after → steps_at after k ≡ steps_at before k
 steps_same heaps before after k same = ap (λ c. steps_in (slice_get c.items k)) same.counts
@@ -40,12 +46,17 @@ changed_back h p q r first then = record {
   stamp = then.stamp ∙ first.stamp;
 }
 
-pub back_one : (site : Site) (h : ℕ) (p q r : Pass) → IsSameOutside (h ∷ []) p q → IsSameOutside (h ∷ []) q r → HasSeatsIn site (h ∷ []) r → seen_at r h ≡ seen_at p h → AreBack site (h ∷ []) p r
-back_one site h p q r first then seats seen = record {
+pub back_one : (site : Site) (h : ℕ) (p q r : Pass) → IsSameOutside (h ∷ []) p q → IsSameOutside (h ∷ []) q r → HasSeatsIn site (h ∷ []) r → seen_at r h ≡ seen_at p h →
+    turns_at r h ≡ turns_at p h → AreBack site (h ∷ []) p r
+back_one site h p q r first then seats seen turns = record {
   seats = seats;
   outside = changed_back h p q r first then;
   seen = λ k is. elim is [
     | inl same ↦ subst (λ j. IsSeenLater (seen_at r j) (seen_at p j)) same (subst (λ o. IsSeenLater o (seen_at p h)) (sym seen) (seen_later (seen_at p h)))
+    | inr none ↦ absurd none
+  ];
+  left = λ k is. elim is [
+    | inl same ↦ subst (λ j. IsLeftAsGiven (turns_at r j) (turns_at p j)) same (subst (λ l. IsLeftAsGiven l (turns_at p h)) (sym turns) (none_held (turns_at p h)))
     | inr none ↦ absurd none
   ];
 }
@@ -104,12 +115,16 @@ module _ (site : Site) (h : ℕ) (heaps : List ℕ) (are : AreHeapsOf site (h �
       | inl same ↦ back.seen k (inl same)
       | inr here ↦ subst (λ o. IsSeenLater o (seen_at p k)) (sym (seen_same (h ∷ []) p q k back.outside (apart k here))) (seen_later (seen_at p k))
     ];
+    left = λ k is. elim is [
+      | inl same ↦ back.left k (inl same)
+      | inr here ↦ subst (λ l. IsLeftAsGiven l (turns_at p k)) (sym (turns_same (h ∷ []) p q k back.outside (apart k here))) (none_held (turns_at p k))
+    ];
   }
 
   -- the others were, and the first was put home
   pub back_more : (p q r s : Pass) (value : Kept) → IsSameOutside (h ∷ []) p q → AreBack site heaps q r → IsSameOutside (h ∷ []) r s → HasSeatsIn site (h ∷ []) s →
-      seen_at s h ≡ Some value → FollowsSeen Follows value (seen_at p h) → AreBack site (h ∷ heaps) p s
-  back_more p q r s value first then last home seen follows = record {
+      seen_at s h ≡ Some value → HasTurn value value (turns_at s h) (turns_at p h) → FollowsSeen Follows value (seen_at p h) → AreBack site (h ∷ heaps) p s
+  back_more p q r s value first then last home seen turn follows = record {
     seats = record {
       number = home.number;
       seat = λ k room is at. elim is [
@@ -122,6 +137,11 @@ module _ (site : Site) (h : ℕ) (heaps : List ℕ) (are : AreHeapsOf site (h �
       | inl same ↦ subst (λ j. IsSeenLater (seen_at s j) (seen_at p j)) same (subst (λ o. IsSeenLater o (seen_at p h)) (sym seen) follows)
       | inr here ↦ subst (λ o. IsSeenLater o (seen_at p k)) (sym (seen_same (h ∷ []) r s k last (apart k here)))
           (subst (λ o. IsSeenLater (seen_at r k) o) (seen_same (h ∷ []) p q k first (apart k here)) (then.seen k here))
+    ];
+    left = λ k is. elim is [
+      | inl same ↦ subst (λ j. IsLeftAsGiven (turns_at s j) (turns_at p j)) same (held_once value value (turns_at s h) (turns_at p h) turn refl)
+      | inr here ↦ subst (λ l. IsLeftAsGiven l (turns_at p k)) (sym (turns_same (h ∷ []) r s k last (apart k here)))
+          (subst (λ l. IsLeftAsGiven (turns_at r k) l) (turns_same (h ∷ []) p q k first (apart k here)) (then.left k here))
     ];
   }
 
@@ -143,8 +163,8 @@ begun_none site before key sought stamp next last enough = record {
 }
 
 -- what was found of a pass that is the same in these heaps
-begun_before : (site : Site) (p q : Pass) (stamp : ℕ) (heaps : List ℕ) (helds : List (Held Kept)) (found : List Kept) → ((k : ℕ) → IsIn k heaps → seen_at q k ≡ seen_at p k) →
-    AreBegunAt site q stamp heaps helds found → AreBegunAt site p stamp heaps helds found
+begun_before : (site : Site) (p q : Pass) (stamp : ℕ) (heaps : List ℕ) (helds : List (Held Kept)) (found : List Kept) →
+    ((k : ℕ) → IsIn k heaps → (seen_at q k ≡ seen_at p k) × (turns_at q k ≡ turns_at p k)) → AreBegunAt site q stamp heaps helds found → AreBegunAt site p stamp heaps helds found
 begun_before site p q stamp [] [] [] same are = tt
 begun_before site p q stamp [] [] (x ∷ found) same are = absurd are
 begun_before site p q stamp [] (held ∷ helds) found same are = absurd are
@@ -156,24 +176,27 @@ begun_before site p q stamp (h ∷ heaps) (held ∷ helds) (x ∷ found) same ar
     at = are.0.at;
     lock = are.0.lock;
     was_given = are.0.was_given;
-    follows = subst (FollowsSeen Follows x) (same h (inl refl)) are.0.follows;
+    follows = subst (FollowsSeen Follows x) (same h (inl refl)).0 are.0.follows;
     home = are.0.home;
     of = are.0.of;
     later = are.0.later;
     worked = are.0.worked;
     total = are.0.total;
     bounded = are.0.bounded;
+    turns = are.0.turns ∙ (same h (inl refl)).1;
   },
   begun_before site p q stamp heaps helds found (λ k here. same k (inr here)) are.1,
 )
 
 -- in one heap more, before the others
 pub begun_more : (site : Site) (p q : Pass) (h : ℕ) (heaps key : List ℕ) (sought next : Sought) (stamp : ℕ) (held now : Held Kept) (helds : List (Held Kept)) → AreHeapsOf site (h ∷ heaps) →
-    IsHeldAt site h held → FollowsSeen Follows (value_of held) (seen_at p h) → IsSameOutside (h ∷ []) p q → next.stamp ≡ max sought.stamp (value_of held).book.stamp →
+    IsHeldAt site h held → FollowsSeen Follows (value_of held) (seen_at p h) → held_logged held ≡ turns_at p h → IsSameOutside (h ∷ []) p q → next.stamp ≡ max sought.stamp (value_of held).book.stamp →
     (next.is_enough ≡ true → (sought.is_enough ≡ true) ⊎ (1 ≤ length (queue_at (state_of (value_of held).book) key))) →
     HasBegun site q heaps key next stamp helds → IsBegunFrom stamp held now → HasBegun site p (h ∷ heaps) key sought stamp (now ∷ helds)
-begun_more site p q h heaps key sought next stamp held now helds are is follows same greatest enough rest from =
-    let x : Kept = value_of held in record {
+begun_more site p q h heaps key sought next stamp held now helds are is follows turns same greatest enough rest from =
+    let x : Kept = value_of held in
+    let other : (k : ℕ) → IsIn k heaps → IsIn k (h ∷ []) → ⊥ = λ k here is. elim is [ inl e ↦ (let low = are.1 k here in absurd (omega (arith, e, low))) | inr none ↦ absurd none ] in
+    record {
       found = x ∷ rest.found;
       each = (
         record {
@@ -188,8 +211,9 @@ begun_more site p q h heaps key sought next stamp held now helds are is follows 
           worked = from.worked;
           total = from.total;
           bounded = from.bounded;
+          turns = from.turns ∙ turns;
         },
-        begun_before site p q stamp heaps helds rest.found (λ k here. seen_same (h ∷ []) p q k same (λ is. elim is [ inl e ↦ (let low = are.1 k here in absurd (omega (arith, e, low))) | inr none ↦ absurd none ])) rest.each,
+        begun_before site p q stamp heaps helds rest.found (λ k here. (seen_same (h ∷ []) p q k same (other k here), turns_same (h ∷ []) p q k same (other k here))) rest.each,
       );
       next = let n = rest.next in omega (arith, n, greatest);
       last = rest.last;
@@ -226,21 +250,23 @@ has_room site q heaps key next helds room (Ok stamp) begun most = let long = beg
 has_room site q heaps key next helds room (Err stop) begun most = tt
 
 pub begun_on_more : (site : Site) (p q : Pass) (h : ℕ) (heaps key : List ℕ) (sought next : Sought) (held : Held Kept) (mid last : List (Held Kept)) (r s : Result ℕ Stop) → s ≡ r →
-    AreHeapsOf site (h ∷ heaps) → IsHeldAt site h held → FollowsSeen Follows (value_of held) (seen_at p h) → IsSameOutside (h ∷ []) p q → next.stamp ≡ max sought.stamp (value_of held).book.stamp →
+    AreHeapsOf site (h ∷ heaps) → IsHeldAt site h held → FollowsSeen Follows (value_of held) (seen_at p h) → held_logged held ≡ turns_at p h → IsSameOutside (h ∷ []) p q → next.stamp ≡ max sought.stamp (value_of held).book.stamp →
     (next.is_enough ≡ true → (sought.is_enough ≡ true) ⊎ (1 ≤ length (queue_at (state_of (value_of held).book) key))) →
     IfOk r (λ stamp. HasBegun site q heaps key next stamp mid) → IfOk r (λ stamp. HasPushed stamp held mid last) → IfOk s (λ stamp. HasBegun site p (h ∷ heaps) key sought stamp last)
-begun_on_more site p q h heaps key sought next held mid last (Ok stamp) s same are is follows outside greatest enough begun pushed =
+begun_on_more site p q h heaps key sought next held mid last (Ok stamp) s same are is follows turns outside greatest enough begun pushed =
     subst (λ o. IfOk o (λ n. HasBegun site p (h ∷ heaps) key sought n last)) (sym same)
-    (subst (λ l. HasBegun site p (h ∷ heaps) key sought stamp l) (sym pushed.1) (begun_more site p q h heaps key sought next stamp held pushed.0 mid are is follows outside greatest enough begun pushed.2))
-begun_on_more site p q h heaps key sought next held mid last (Err stop) s same are is follows outside greatest enough begun pushed =
+    (subst (λ l. HasBegun site p (h ∷ heaps) key sought stamp l) (sym pushed.1) (begun_more site p q h heaps key sought next stamp held pushed.0 mid are is follows turns outside greatest enough begun pushed.2))
+begun_on_more site p q h heaps key sought next held mid last (Err stop) s same are is follows turns outside greatest enough begun pushed =
     subst (λ o. IfOk o (λ n. HasBegun site p (h ∷ heaps) key sought n last)) (sym same) tt
 
 pub back_on_more : (site : Site) (h : ℕ) (heaps : List ℕ) (p q m n : Pass) (held : Held Kept) (G : Type 0) (r s : Result ℕ Stop) → s ≡ r → AreHeapsOf site (h ∷ heaps) → IsSameOutside (h ∷ []) p q →
-    FollowsSeen Follows (value_of held) (seen_at p h) → OnErr r (AreBack site heaps q m) → IsSameOutside (h ∷ []) m n → OnErr r (G × HasSeatsIn site (h ∷ []) n × (seen_at n h ≡ Some (value_of held))) →
-    OnErr s (AreBack site (h ∷ heaps) p n)
-back_on_more site h heaps p q m n held G (Ok stamp) s same are first follows back last home = subst (λ o. OnErr o (AreBack site (h ∷ heaps) p n)) (sym same) tt
-back_on_more site h heaps p q m n held G (Err stop) s same are first follows back last home =
-    subst (λ o. OnErr o (AreBack site (h ∷ heaps) p n)) (sym same) (back_more site h heaps are p q m n (value_of held) first back last home.1 home.2 follows)
+    FollowsSeen Follows (value_of held) (seen_at p h) → held_logged held ≡ turns_at p h → OnErr r (AreBack site heaps q m) → IsSameOutside (h ∷ []) m n →
+    OnErr r (G × HasSeatsIn site (h ∷ []) n × (seen_at n h ≡ Some (value_of held)) × HasTurn (value_of held) (value_of held) (turns_at n h) (held_logged held)) → OnErr s (AreBack site (h ∷ heaps) p n)
+back_on_more site h heaps p q m n held G (Ok stamp) s same are first follows turns back last home = subst (λ o. OnErr o (AreBack site (h ∷ heaps) p n)) (sym same) tt
+back_on_more site h heaps p q m n held G (Err stop) s same are first follows turns back last home =
+    let value : Kept = value_of held in
+    let turn : HasTurn value value (turns_at n h) (turns_at p h) = subst (λ l. HasTurn value value (turns_at n h) l) turns home.3 in
+    subst (λ o. OnErr o (AreBack site (h ∷ heaps) p n)) (sym same) (back_more site h heaps are p q m n value first back last home.1 home.2 turn follows)
 
 -- ---- a call that ends
 
@@ -266,16 +292,17 @@ ended_before p q r (h ∷ heaps) (held ∷ helds) same are = (
     seen = are.0.seen;
     book = are.0.book;
     steps = subst (λ n. IfSome (given held) (λ (x : Kept). steps_at r h + x.book.count ≡ n + (value_of held).book.count)) (same h (inl refl)) are.0.steps;
+    turn = are.0.turn;
   },
   ended_before p q r heaps helds (λ k here. same k (inr here)) are.1,
 )
 
 -- one heap was ended, and then the others
 pub ended_more : (site : Site) (p q r : Pass) (h : ℕ) (heaps : List ℕ) (held : Held Kept) (helds : List (Held Kept)) → AreHeapsOf site (h ∷ heaps) →
-    ((left : Kept) × (seen_at q h ≡ Some left) × (left.book ≡ (value_of held).book)) →
+    ((left : Kept) × (seen_at q h ≡ Some left) × (left.book ≡ (value_of held).book) × IfSome (given held) (λ found. HasTurn found left (turns_at q h) (held_logged held))) →
     IfSome (given held) (λ found. steps_at q h + found.book.count ≡ steps_at p h + (value_of held).book.count) →
-    ((k : ℕ) → (k ≡ h → ⊥) → (seen_at q k ≡ seen_at p k) × (steps_at q k ≡ steps_at p k)) →
-    ((k : ℕ) → (IsIn k heaps → ⊥) → (seen_at r k ≡ seen_at q k) × (steps_at r k ≡ steps_at q k)) → HasEndedIn q r heaps helds → HasEndedIn p r (h ∷ heaps) (held ∷ helds)
+    ((k : ℕ) → (k ≡ h → ⊥) → (seen_at q k ≡ seen_at p k) × (steps_at q k ≡ steps_at p k) × (turns_at q k ≡ turns_at p k)) →
+    ((k : ℕ) → (IsIn k heaps → ⊥) → (seen_at r k ≡ seen_at q k) × (steps_at r k ≡ steps_at q k) × (turns_at r k ≡ turns_at q k)) → HasEndedIn q r heaps helds → HasEndedIn p r (h ∷ heaps) (held ∷ helds)
 ended_more site p q r h heaps held helds are left steps others later rest =
     let out : IsIn h heaps → ⊥ = λ here. let low = are.1 h here in absurd (omega (arith, low)) in
     let stays = later h out in (
@@ -284,6 +311,7 @@ ended_more site p q r h heaps held helds are left steps others later rest =
         seen = stays.0 ∙ left.1;
         book = left.2;
         steps = subst (λ n. IfSome (given held) (λ (x : Kept). n + x.book.count ≡ steps_at p h + (value_of held).book.count)) (sym stays.1) steps;
+        turn = subst (λ l. IfSome (given held) (λ (x : Kept). HasTurn x left.0 l (held_logged held))) (sym stays.2) left.3;
       },
       ended_before p q r heaps helds (λ k here. (others k (λ e. let low = are.1 k here in absurd (omega (arith, e, low)))).1) rest,
     )

@@ -19,16 +19,19 @@ use Rattle.zq_shard.specs.Shard.{HeapImage, IsOfHeap, IsSameHeap}
 use Rattle.zq_shard.specs.Taken.{answer_of}
 use Rattle.zq_shard.specs.declared.taken.Taken.{Taken}
 use Rattle.zq_spread.proofs.Counted.{if_some}
+use Rattle.zq_spread.proofs.LeftAsGiven.{worked_once}
 use Rattle.zq_spread.specs.Answers.{HasWorked, IsMerged, IsTaken}
 use Rattle.zq_spread.specs.Calls.{IsCall, IsLikeSite, IsOfSite, heaps_of}
 use Rattle.zq_spread.specs.Passes.{IsRoomAt, seen_at, steps_at}
 use Rattle.zq_spread.specs.Rooms.{IsBegun, IsOf, IsWorkedOn}
+use Rattle.zq_spread.specs.Turns.{HasTurn, turns_at}
+use Rattle.zq_spread.specs.Worn.{IsBusyIn, IsWornIn}
 use Rattle.zq_spread.specs.declared.kept.Kept.{Kept}
 use Rattle.zq_spread.specs.declared.pass.Pass.{Pass}
 use Rattle.zq_spread.specs.declared.room.Room.{Room}
 use Rattle.zq_spread.specs.declared.site.Site.{Site}
 use Rattle.zq_ticketlock.proofs.Told.{seen_some}
-use Rattle.zq_ticketlock.specs.Seats.{given, value_of}
+use Rattle.zq_ticketlock.specs.Seats.{given, held_logged, value_of}
 use Rattle.zq_ticketlock.specs.declared.held.Held.{Held}
 
 -- what a book answers to an operation is what a call answers
@@ -112,9 +115,10 @@ may_end Does room before floor stamp begun now found is done total = record {
 
 -- and then it is a call
 pub one_call : (Does : List Book → List (List Step) → Type 0) (room : Room) (old mid new : Pass) (h stamp : ℕ) (begun now found : Kept) → IsBegun room (seen_at old h) old.stamp stamp begun found →
-    HasWorked Does now.book found.book stamp → new.stamp ≡ stamp → ((left : Kept) × (seen_at new h ≡ Some left) × (left.book ≡ now.book)) →
-    steps_at new h + found.book.count ≡ steps_at mid h + now.book.count → ((k : ℕ) → (k ≡ h → ⊥) → seen_at mid k ≡ seen_at old k) → ((k : ℕ) → steps_at mid k ≡ steps_at old k) →
-    ((k : ℕ) → (k ≡ h → ⊥) → (seen_at new k ≡ seen_at mid k) × (steps_at new k ≡ steps_at mid k)) → IsCall Does old new (h ∷ [])
+    HasWorked Does now.book found.book stamp → new.stamp ≡ stamp → ((left : Kept) × (seen_at new h ≡ Some left) × (left.book ≡ now.book) × HasTurn found left (turns_at new h) (turns_at old h)) →
+    steps_at new h + found.book.count ≡ steps_at mid h + now.book.count → ((k : ℕ) → (k ≡ h → ⊥) → (seen_at mid k ≡ seen_at old k) × (turns_at mid k ≡ turns_at old k)) →
+    ((k : ℕ) → steps_at mid k ≡ steps_at old k) →
+    ((k : ℕ) → (k ≡ h → ⊥) → (seen_at new k ≡ seen_at mid k) × (steps_at new k ≡ steps_at mid k) × (turns_at new k ≡ turns_at mid k)) → IsCall Does old new (h ∷ [])
 one_call Does room old mid new h stamp begun now found is done stamped left counted others steps stay = record {
   found = found ∷ [];
   left = left.0 ∷ [];
@@ -126,10 +130,11 @@ one_call Does room old mid new h stamp begun now found is done stamped left coun
       worked = subst (λ b. IsWorked b found.book new.stamp done.0) (sym left.2) (subst (λ n. IsWorked now.book found.book n done.0) (sym stamped) done.1);
       seen = left.1;
       own = let made = done.1.count in let before = steps h in omega (arith, counted, made, before);
+      turn = worked_once found left.0 (turns_at new h) (turns_at old h) left.3;
     },
     tt,
   );
-  others = λ k out. let apart : k ≡ h → ⊥ = λ e. out (inl (sym e)) in ((stay k apart).0 ∙ others k apart, (stay k apart).1 ∙ steps k);
+  others = λ k out. let apart : k ≡ h → ⊥ = λ e. out (inl (sym e)) in ((stay k apart).0 ∙ (others k apart).0, (stay k apart).1 ∙ steps k, (stay k apart).2 ∙ (others k apart).1);
   done = done.2;
 }
 
@@ -159,11 +164,21 @@ may_end_in Does site old h stamp held now begun works total = λ room at.
 -- and where it ended, it is a call
 pub called_in : (Does : List Book → List (List Step) → Type 0) (site : Site) (old mid new : Pass) (h stamp : ℕ) (held : Held Kept) (now : Kept) → h < heaps_of site →
     IsSome (given held) → IsBegunIn site old h stamp held → DoesWork Does stamp held now → new.stamp ≡ stamp →
-    ((left : Kept) × (seen_at new h ≡ Some left) × (left.book ≡ now.book)) → IfSome (given held) (λ found. steps_at new h + found.book.count ≡ steps_at mid h + now.book.count) →
-    ((k : ℕ) → (k ≡ h → ⊥) → seen_at mid k ≡ seen_at old k) → ((k : ℕ) → steps_at mid k ≡ steps_at old k) →
-    ((k : ℕ) → (k ≡ h → ⊥) → (seen_at new k ≡ seen_at mid k) × (steps_at new k ≡ steps_at mid k)) → IsCall Does old new (h ∷ [])
-called_in Does site old mid new h stamp held now within some begun works stamped left counted others steps stay =
+    ((left : Kept) × (seen_at new h ≡ Some left) × (left.book ≡ now.book) × IfSome (given held) (λ found. HasTurn found left (turns_at new h) (held_logged held))) →
+    IfSome (given held) (λ found. steps_at new h + found.book.count ≡ steps_at mid h + now.book.count) →
+    ((k : ℕ) → (k ≡ h → ⊥) → (seen_at mid k ≡ seen_at old k) × (turns_at mid k ≡ turns_at old k)) → ((k : ℕ) → steps_at mid k ≡ steps_at old k) →
+    ((k : ℕ) → (k ≡ h → ⊥) → (seen_at new k ≡ seen_at mid k) × (steps_at new k ≡ steps_at mid k) × (turns_at new k ≡ turns_at mid k)) → held_logged held ≡ turns_at old h → IsCall Does old new (h ∷ [])
+called_in Does site old mid new h stamp held now within some begun works stamped left counted others steps stay turns =
     let is = begun_on site old h stamp held within some begun in
     let here : steps_at new h + is.2.book.count ≡ steps_at mid h + now.book.count =
     subst (λ o. IfSome o (λ (x : Kept). steps_at new h + x.book.count ≡ steps_at mid h + now.book.count)) is.3 counted in
-    one_call Does is.0 old mid new h stamp (value_of held) now is.2 is.4 (works is.2.book is.4.worked) stamped left here others steps stay
+    let turn : HasTurn is.2 left.0 (turns_at new h) (turns_at old h) =
+    subst (λ l. HasTurn is.2 left.0 (turns_at new h) l) turns (subst (λ o. IfSome o (λ (x : Kept). HasTurn x left.0 (turns_at new h) (held_logged held))) is.3 left.3) in
+    one_call Does is.0 old mid new h stamp (value_of held) now is.2 is.4 (works is.2.book is.4.worked) stamped (left.0, left.1, left.2, turn) here others steps stay
+
+-- the heap of a refused call, by its number
+pub worn_in : (before after : Pass) (h k : ℕ) → h ≡ k → IsWornIn (h ∷ []) before after → IsWornIn (k ∷ []) before after
+worn_in before after h k same worn = subst (λ j. IsWornIn (j ∷ []) before after) same worn
+
+pub busy_in : (before after : Pass) (h k : ℕ) → h ≡ k → IsBusyIn (h ∷ []) before after → IsBusyIn (k ∷ []) before after
+busy_in before after h k same busy = subst (λ j. IsBusyIn (j ∷ []) before after) same busy

@@ -8,7 +8,9 @@ use Rattle.std.specs.Prelude.{List, None, Option, Some, [], get_or, length, slic
 use Rattle.zq_journal.specs.Books.{LAST_STAMP}
 use Rattle.zq_posheap.proofs.Lists.{slice_get-set_other, slice_get-set_same}
 use Rattle.zq_spread.specs.Kept.{follows_itself}
+use Rattle.zq_spread.proofs.LeftAsGiven.{none_held}
 use Rattle.zq_spread.specs.Passes.{IsCountOf, IsPassBut, IsPassOf, IsSeatOf, IsSeenLater, IsStopped, seen_at, steps_at}
+use Rattle.zq_spread.specs.Turns.{IsLeftAsGiven, turns_at}
 use Rattle.zq_spread.specs.declared.kept.Kept.{Kept}
 use Rattle.zq_spread.specs.declared.pass.Pass.{Pass}
 use Rattle.zq_spread.specs.declared.room.Room.{Room}
@@ -100,14 +102,18 @@ pub seen_later : (o : Option Kept) → IsSeenLater o o
 seen_later (Some x) = follows_itself x
 seen_later None = tt
 
--- a pass whose seat came back, having seen what follows what it had
+-- a pass whose seat came back, having seen what follows what it had, and let go as it was given what it held
 pub stopped : (before after : Pass) (heap : ℕ) → ((k : ℕ) → steps_at after k ≡ steps_at before k) → after.stamp ≡ before.stamp → IsSeenLater (seen_at after heap) (seen_at before heap) →
-    ((k : ℕ) → (k ≡ heap → ⊥) → seen_at after k ≡ seen_at before k) → IsStopped before after
-stopped before after heap steps stamp later others = record {
+    IsLeftAsGiven (turns_at after heap) (turns_at before heap) → ((k : ℕ) → (k ≡ heap → ⊥) → (seen_at after k ≡ seen_at before k) × (turns_at after k ≡ turns_at before k)) → IsStopped before after
+stopped before after heap steps stamp later left others = record {
   stamp = stamp;
   steps = steps;
   seen = λ h. elim (cases_eq h heap) [
     | inl same ↦ subst (λ k. IsSeenLater (seen_at after k) (seen_at before k)) (sym same) later
-    | inr other ↦ subst (λ o. IsSeenLater o (seen_at before h)) (sym (others h other)) (seen_later (seen_at before h))
+    | inr other ↦ subst (λ o. IsSeenLater o (seen_at before h)) (sym (others h other).0) (seen_later (seen_at before h))
+  ];
+  left = λ h. elim (cases_eq h heap) [
+    | inl same ↦ subst (λ k. IsLeftAsGiven (turns_at after k) (turns_at before k)) (sym same) left
+    | inr other ↦ subst (λ l. IsLeftAsGiven l (turns_at before h)) (sym (others h other).1) (none_held (turns_at before h))
   ];
 }

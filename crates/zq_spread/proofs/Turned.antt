@@ -78,7 +78,7 @@ book_set (h ∷ helds) (suc p) y = ap (λ l. (value_of h).book ∷ l) (book_set 
 held_set : (helds : List (Held Kept)) (p : ℕ) (x y : Held Kept) → slice_get helds p ≡ Some x → IsHeldOn x y → AreHeldOn helds (set helds p y)
 held_set [] p x y is on = absurd (cc)
 held_set (h ∷ helds) zero x y is on = (subst (λ k. IsHeldOn k y) (sym (same_Some h x is)) on, held_on_itself helds)
-held_set (h ∷ helds) (suc p) x y is on = (record { lock = refl; was_given = refl; kept = kept_itself (value_of h) }, held_set helds p x y is on)
+held_set (h ∷ helds) (suc p) x y is on = (record { lock = refl; was_given = refl; kept = kept_itself (value_of h); turns = refl }, held_set helds p x y is on)
 
 pub as_many : (items : List (Held Kept)) → length (books_of (reverse items)) ≡ length items
 as_many items = length-map (reverse items) (λ (held : Held Kept). (value_of held).book) ∙ length-reverse items

@@ -12,19 +12,21 @@ use Rattle.zq_model.specs.Sets.{IsIn}
 use Rattle.zq_moves.specs.Lent.{AreLent}
 use Rattle.zq_plans.specs.Run.{IsRun}
 use Rattle.zq_spread.proofs.Commanded.{appended}
-use Rattle.zq_spread.proofs.ManyHeaps.{seen_same, steps_same}
+use Rattle.zq_spread.proofs.ManyHeaps.{seen_same, steps_same, turns_same}
+use Rattle.zq_spread.proofs.LeftAsGiven.{worked_once}
 use Rattle.zq_spread.proofs.Twins.{AreTwins, begun_twin, run_twins}
 use Rattle.zq_spread.specs.Calls.{AreWorkedIn, greatest_stamp, heaps_of}
 use Rattle.zq_spread.specs.Commanded.{AreAppended}
-use Rattle.zq_spread.specs.Dispatch.{IsCommandOver}
+use Rattle.zq_spread.specs.Dispatch.{HasHeldEach, IsCommandOver}
 use Rattle.zq_spread.specs.Passes.{IsRoomAt, seen_at, steps_at}
 use Rattle.zq_spread.specs.Rooms.{IsWorkedOn}
 use Rattle.zq_spread.specs.Several.{AreBegunAt, AreBooksAt, AreHeapsOf, AreHeldOn, HasEndedIn, IsBegunAt, IsHeldOn, IsSameOutside, MayEndIn, books_of}
+use Rattle.zq_spread.specs.Turns.{HasHeldOnce, HasTurn, turns_at}
 use Rattle.zq_spread.specs.declared.kept.Kept.{Kept}
 use Rattle.zq_spread.specs.declared.pass.Pass.{Pass}
 use Rattle.zq_spread.specs.declared.room.Room.{Room}
 use Rattle.zq_spread.specs.declared.site.Site.{Site}
-use Rattle.zq_ticketlock.specs.Seats.{value_of}
+use Rattle.zq_ticketlock.specs.Seats.{entry, held_logged, value_of}
 use Rattle.zq_ticketlock.specs.declared.held.Held.{Held}
 use Rattle.zq_words.specs.Command.{Command}
 use Rattle.zq_words.specs.Words.{Word}
@@ -175,8 +177,8 @@ module _ (site : Site) (before : Pass) (stamp : ℕ) where
   -- and where it ended, the pass has seen what the command left
   ended_each : (mid after : Pass) (heaps : List ℕ) (olds news : List (Held Kept)) (found : List Kept) → AreBegunAt site before stamp heaps olds found → (on : AreHeldOn olds news) →
       ((b : Book) → IsIn b (books_of news) → b.stamp ≤ stamp) → after.stamp ≡ stamp → ((k : ℕ) → steps_at mid k ≡ steps_at before k) → HasEndedIn mid after heaps news →
-      (left : List Kept) × AreWorkedIn before after heaps found left (steps_each olds news on)
-  ended_each mid after [] [] [] [] are on low dated steps ended = ([], tt)
+      (left : List Kept) × AreWorkedIn before after heaps found left (steps_each olds news on) × HasHeldEach before after heaps
+  ended_each mid after [] [] [] [] are on low dated steps ended = ([], tt, λ k none. absurd none)
   ended_each mid after [] [] [] (x ∷ found) are on low dated steps ended = absurd are
   ended_each mid after [] [] (y ∷ news) found are on low dated steps ended = absurd on
   ended_each mid after [] (held ∷ olds) news found are on low dated steps ended = absurd are
@@ -188,7 +190,10 @@ module _ (site : Site) (before : Pass) (stamp : ℕ) where
       let own : List Step = steps_of on.0.kept.1.records in
       let work : IsWorked (value_of y).book x.book stamp own = work_of h held y x are.0 on.0 (low (value_of y).book (inl refl)) in
       let counted : steps_at after h + x.book.count ≡ steps_at mid h + (value_of y).book.count =
-      subst (λ o. IfSome o (λ (z : Kept). steps_at after h + z.book.count ≡ steps_at mid h + (value_of y).book.count)) (on.0.was_given ∙ are.0.was_given) ended.0.steps in (
+      subst (λ o. IfSome o (λ (z : Kept). steps_at after h + z.book.count ≡ steps_at mid h + (value_of y).book.count)) (on.0.was_given ∙ are.0.was_given) ended.0.steps in
+      let turn : HasTurn x ended.0.left (turns_at after h) (turns_at before h) =
+      subst (λ l. HasTurn x ended.0.left (turns_at after h) l) (on.0.turns ∙ are.0.turns)
+      (subst (λ o. IfSome o (λ (z : Kept). HasTurn z ended.0.left (turns_at after h) (held_logged y))) (on.0.was_given ∙ are.0.was_given) ended.0.turn) in (
         ended.0.left ∷ rest.0,
         (
           record {
@@ -196,15 +201,17 @@ module _ (site : Site) (before : Pass) (stamp : ℕ) where
             worked = subst (λ b. IsWorked b x.book after.stamp own) (sym ended.0.book) (subst (λ n. IsWorked (value_of y).book x.book n own) (sym dated) work);
             seen = ended.0.seen;
             own = let made = work.count in let same = steps h in omega (arith, counted, made, same);
+            turn = worked_once x ended.0.left (turns_at after h) (turns_at before h) turn;
           },
           rest.1,
         ),
+        λ k is. elim is [ inl same ↦ subst (λ j. HasHeldOnce before after j) same (entry turn.0 x ended.0.left, turn.1) | inr here ↦ rest.2 k here ],
       )
 
   -- so it is a call
   pub called_over : (command : Command) (reply : Word) (mid after : Pass) (heaps : List ℕ) (olds news : List (Held Kept)) (found : List Kept) → AreBegunAt site before stamp heaps olds found →
       (on : AreHeldOn olds news) → ((b : Book) → IsIn b (books_of news) → b.stamp ≤ stamp) → after.stamp ≡ stamp → IsSameOutside heaps before mid → HasEndedIn mid after heaps news →
-      ((k : ℕ) → (IsIn k heaps → ⊥) → (seen_at after k ≡ seen_at mid k) × (steps_at after k ≡ steps_at mid k)) → stamp ≡ max before.stamp (greatest_stamp found) + 1 →
+      ((k : ℕ) → (IsIn k heaps → ⊥) → (seen_at after k ≡ seen_at mid k) × (steps_at after k ≡ steps_at mid k) × (turns_at after k ≡ turns_at mid k)) → stamp ≡ max before.stamp (greatest_stamp found) + 1 →
       IsRun (rule_of site.rule) site.number stamp command (books_of olds) (books_of news) reply → IsCommandOver site command reply before after heaps found
   called_over command reply mid after heaps olds news found are on low dated outside ended others next ran =
       let steps = λ (k : ℕ). steps_same heaps before mid k outside in
@@ -216,7 +223,7 @@ module _ (site : Site) (before : Pass) (stamp : ℕ) where
           steps = steps_each olds news on;
           next = dated ∙ next;
           worked = each.1;
-          others = λ k out. let stays = others k out in (stays.0 ∙ seen_same heaps before mid k outside out, stays.1 ∙ steps k);
+          others = λ k out. let stays = others k out in (stays.0 ∙ seen_same heaps before mid k outside out, stays.1 ∙ steps k, stays.2 ∙ turns_same heaps before mid k outside out);
           done = record {
             left = other.0;
             ran = subst (λ n. IsRun (rule_of site.rule) site.number n command (map (λ (x : Kept). x.book) found) other.0 reply) (sym dated) other.1;
@@ -224,4 +231,5 @@ module _ (site : Site) (before : Pass) (stamp : ℕ) where
           };
         },
         refl,
+        each.2,
       )

@@ -3,6 +3,7 @@
 use Rattle.std.specs.List.{AllZip}
 use Rattle.std.specs.Prelude.{All, List, Option, Some, None, [], length, slice_get, sum_by, ℕ, ◌+◌, ◌∷◌, ◌≡◌, ◌≤◌}
 use Rattle.zq_spread.specs.Passes.{IsCountOf, IsPassOf, IsSeenLater, seen_at, steps_at}
+use Rattle.zq_spread.specs.Turns.{IsLeftAsGiven, turns_at}
 use Rattle.zq_spread.specs.declared.kept.Kept.{Kept}
 use Rattle.zq_spread.specs.declared.pass.Pass.{Pass}
 use Rattle.zq_spread.specs.declared.room.Room.{Room}
@@ -27,22 +28,24 @@ pub record AreAllPasses (site : Site) (passes : List Pass) : Type 0 where
 abbrev pub steps_of_all : ℕ → List Pass → ℕ
 steps_of_all h passes = sum_by (λ pass. steps_at pass h) passes
 
--- nothing but what the pass has seen of this heap may have changed
+-- nothing may have changed but what the pass has seen of this heap, and its turns there
 pub record IsSameBut (heap : ℕ) (before after : Pass) : Type 0 where
   pub stamp : after.stamp ≡ before.stamp
   pub steps : (k : ℕ) → steps_at after k ≡ steps_at before k
   pub others : (k : ℕ) → (k ≡ heap → ⊥) → seen_at after k ≡ seen_at before k
+  pub turns : (k : ℕ) → (k ≡ heap → ⊥) → turns_at after k ≡ turns_at before k
 
 -- nothing has changed that can be told of the pass
 pub record IsSamePass (before after : Pass) : Type 0 where
   pub stamp : after.stamp ≡ before.stamp
   pub steps : (k : ℕ) → steps_at after k ≡ steps_at before k
   pub seen : (k : ℕ) → seen_at after k ≡ seen_at before k
+  pub turns : (k : ℕ) → turns_at after k ≡ turns_at before k
 
--- the first pass may have seen a later value of the heap, and nothing else has changed
+-- the first pass may have seen a later value of the heap, which it has let go as it was given, and nothing else has changed
 abbrev pub IsSeenByFirst : ℕ → List Pass → List Pass → Type 0
 IsSeenByFirst heap [] [] = Unit {0}
-IsSeenByFirst heap (x ∷ xs) (y ∷ ys) = IsSameBut heap x y × IsSeenLater (seen_at y heap) (seen_at x heap) × AllZip IsSamePass xs ys
+IsSeenByFirst heap (x ∷ xs) (y ∷ ys) = IsSameBut heap x y × IsSeenLater (seen_at y heap) (seen_at x heap) × AllZip IsSamePass xs ys × IsLeftAsGiven (turns_at y heap) (turns_at x heap)
 IsSeenByFirst heap before after = ⊥
 
 -- the first pass has seen a book of the heap whose count is that of the opening book and the steps of all these passes

@@ -5,14 +5,17 @@ use Rattle.std.specs.Prelude.{Bool, List, [], length, map, true, ℕ, ◌∷◌,
 use Rattle.zq_dots.specs.Rule.{rule_of}
 use Rattle.zq_history.specs.Books.{Book, Step}
 use Rattle.zq_model.specs.Rule.{Rule}
+use Rattle.zq_model.specs.Sets.{IsIn}
 use Rattle.zq_moves.specs.Lent.{queues_of}
 use Rattle.zq_spread.specs.Calls.{IsCall, heaps_of}
 use Rattle.zq_spread.specs.Commanded.{IsAnswered, short_reply, worn_reply}
 use Rattle.zq_spread.specs.Drawn.{drawn}
-use Rattle.zq_spread.specs.Passes.{IsStopped}
+use Rattle.zq_spread.specs.Turns.{HasHeldOnce}
+use Rattle.zq_spread.specs.Worn.{IsBusyIn, IsPassedOver, IsWornIn}
 use Rattle.zq_spread.specs.declared.kept.Kept.{Kept}
 use Rattle.zq_spread.specs.declared.pass.Pass.{Pass}
 use Rattle.zq_spread.specs.declared.site.Site.{Site}
+use Rattle.zq_ticketlock.specs.declared.turns.Entry.{Entry}
 use Rattle.zq_words.specs.Command.{Command, Zpopnear}
 use Rattle.zq_words.specs.Heaps as named
 use Rattle.zq_words.specs.Words.{Word}
@@ -23,13 +26,13 @@ use Rattle.zq_words.specs.declared.heaps.Heaps.TheVariants.{All, Near, NoHeap, O
 abbrev pub all_heaps : Site → List ℕ
 all_heaps site = range_with_len 0 (heaps_of site)
 
--- refused, since a lock or the stamp is at its last value
-abbrev pub IsWornOut : Word → Pass → Pass → Type 0
-IsWornOut reply before after = (reply ≡ worn_reply) × IsStopped before after
+-- refused, since a lock of these heaps or the stamp is at its last value
+abbrev pub IsWornOut : List ℕ → Word → Pass → Pass → Type 0
+IsWornOut heaps reply before after = (reply ≡ worn_reply) × IsWornIn heaps before after
 
 -- the same, or since there was no memory to hold more heaps than one, and then no lock was taken
-abbrev pub IsTurnedAway : Word → Pass → Pass → Type 0
-IsTurnedAway reply before after = IsWornOut reply before after ⊎ ((reply ≡ short_reply) × (after ≡ before))
+abbrev pub IsTurnedAway : List ℕ → Word → Pass → Pass → Type 0
+IsTurnedAway heaps reply before after = IsWornOut heaps reply before after ⊎ ((reply ≡ short_reply) × (after ≡ before))
 
 -- one of the books has a member of the key
 abbrev pub HasQueued : Rule → List ℕ → List Book → Type 0
@@ -52,26 +55,51 @@ DoesNear site stamp command reply found steps = DoesCommand site stamp command r
 abbrev pub IsCommand : Site → Command → Word → Pass → Pass → List ℕ → Type 0
 IsCommand site command reply before after heaps = IsCall (DoesCommand site after.stamp command reply) before after heaps
 
+-- it has held each of these heaps once
+abbrev pub HasHeldEach : Pass → Pass → List ℕ → Type 0
+HasHeldEach before after heaps = (h : ℕ) → IsIn h heaps → HasHeldOnce before after h
+
 -- such a call, which has found these values there
 abbrev pub IsCommandOver : Site → Command → Word → Pass → Pass → List ℕ → List Kept → Type 0
-IsCommandOver site command reply before after heaps found = (call : IsCommand site command reply before after heaps) × (call.found ≡ found)
+IsCommandOver site command reply before after heaps found = (call : IsCommand site command reply before after heaps) × (call.found ≡ found) × HasHeldEach before after heaps
 
 -- such a call, where there was enough from the first, or one of the books that it found has a member of the key
 abbrev pub HasAnswered : Site → Command → List ℕ → Bool → Word → Pass → Pass → List ℕ → Type 0
-HasAnswered site command key enough reply before after heaps = (call : IsCommand site command reply before after heaps) × ((enough ≡ true) ⊎ HasQueued (rule_of site.rule) key (map (λ (x : Kept). x.book) call.found))
+HasAnswered site command key enough reply before after heaps =
+    (call : IsCommand site command reply before after heaps) × ((enough ≡ true) ⊎ HasQueued (rule_of site.rule) key (map (λ (x : Kept). x.book) call.found)) × HasHeldEach before after heaps
 
--- a call of ZPOPNEAR in the heaps that it drew, where one of them has a member of the key, or in all, or its refusal
+-- ZPOPNEAR has held each of these heaps twice: first its book had no member of the key, and was let go as it was given
+abbrev pub HasPassedOver : Command → Pass → Pass → List ℕ → Type 0
+HasPassedOver (Zpopnear key) before after heaps = (h : ℕ) → IsIn h heaps → (last : Entry Kept) × IsPassedOver key (last ∷ []) before after h
+HasPassedOver command before after heaps = ⊥
+
+-- the same, but that it may not have come to hold each of them again
+abbrev pub HasFoundNone : Command → Pass → Pass → List ℕ → Type 0
+HasFoundNone (Zpopnear key) before after heaps = (h : ℕ) → IsIn h heaps → (later : List (Entry Kept)) × IsPassedOver key later before after h
+HasFoundNone command before after heaps = ⊥
+
+-- a call of ZPOPNEAR in the heaps that it drew, where one of them has a member of the key, or in all, where it has passed over those; or the refusal of the one
+-- or of the other
 abbrev pub IsNear : Site → Command → Word → Pass → Pass → List ℕ → Type 0
 IsNear site command reply before after drawn =
-    IsCall (DoesNear site after.stamp command reply) before after drawn ⊎ (IsCommand site command reply before after (all_heaps site) ⊎ IsTurnedAway reply before after)
+    IsCall (DoesNear site after.stamp command reply) before after drawn
+    ⊎ ((IsCommand site command reply before after (all_heaps site) × HasPassedOver command before after drawn)
+    ⊎ (IsTurnedAway drawn reply before after ⊎ (IsWornOut (all_heaps site) reply before after × HasFoundNone command before after drawn)))
 
 -- a command that needs no heap is answered over no books, and leaves the pass; one of a member is a call in its heap; ZPOPNEAR is a call in the two heaps that
 -- it draws where one of them has a member of the key, or in all; any other is a call in all heaps; else it is refused
 abbrev pub IsCalledIn : Heaps → Site → Command → ℕ → ℕ → Word → Pass → Pass → Type 0
 IsCalledIn NoHeap site command w1 w2 reply before after = (after ≡ before) × DoesCommand site after.stamp command reply [] []
-IsCalledIn (One heap) site command w1 w2 reply before after = IsCommand site command reply before after (heap ∷ []) ⊎ IsWornOut reply before after
+IsCalledIn (One heap) site command w1 w2 reply before after = IsCommand site command reply before after (heap ∷ []) ⊎ IsWornOut (heap ∷ []) reply before after
 IsCalledIn Near site command w1 w2 reply before after = IsNear site command reply before after (drawn (heaps_of site) w1 w2)
-IsCalledIn All site command w1 w2 reply before after = IsCommand site command reply before after (all_heaps site) ⊎ IsTurnedAway reply before after
+IsCalledIn All site command w1 w2 reply before after = IsCommand site command reply before after (all_heaps site) ⊎ IsTurnedAway (all_heaps site) reply before after
+
+-- a command that works in these heaps was refused since one of them is another's
+abbrev pub IsBusyWith : Heaps → Site → Pass → Pass → Type 0
+IsBusyWith NoHeap site before after = ⊥
+IsBusyWith (One heap) site before after = IsBusyIn (heap ∷ []) before after
+IsBusyWith Near site before after = IsBusyIn (all_heaps site) before after
+IsBusyWith All site before after = IsBusyIn (all_heaps site) before after
 
 -- the command was called by the two words, and answered with these bytes
 abbrev pub IsCalled : Site → Command → ℕ → ℕ → Word → Pass → Pass → Type 0

@@ -6,12 +6,13 @@ use Rattle.zq_spread.specs.Calls.{heaps_of}
 use Rattle.zq_spread.specs.Kept.{Follows, IsAtHome}
 use Rattle.zq_spread.specs.Passes.{IsPassBut, seen_at, steps_at}
 use Rattle.zq_spread.specs.Rooms.{IsOf}
+use Rattle.zq_spread.specs.Turns.{HasTurn, turns_at}
 use Rattle.zq_spread.specs.declared.holdings.Holding.{Holding}
 use Rattle.zq_spread.specs.declared.kept.Kept.{Kept}
 use Rattle.zq_spread.specs.declared.pass.Pass.{Pass}
 use Rattle.zq_spread.specs.declared.room.Room.{Room}
 use Rattle.zq_spread.specs.declared.site.Site.{Site}
-use Rattle.zq_ticketlock.specs.Seats.{given, held_lock, id_of, value_of}
+use Rattle.zq_ticketlock.specs.Seats.{given, held_lock, held_logged, id_of, value_of}
 use Rattle.zq_ticketlock.specs.Steps.{FollowsSeen}
 
 abbrev pub kept_held : Holding → Kept
@@ -37,10 +38,14 @@ pub record IsHeldBy (before : Pass) (h : ℕ) (holding : Holding) : Type 0 where
   pub others : (k : ℕ) → (k ≡ h → ⊥) → seen_at holding.pass k ≡ seen_at before k
   pub steps : (k : ℕ) → steps_at holding.pass k ≡ steps_at before k
   pub stamp : holding.pass.stamp ≡ before.stamp
+  pub turns : held_logged holding.held ≡ turns_at before h
+  pub rest : (k : ℕ) → (k ≡ h → ⊥) → turns_at holding.pass k ≡ turns_at before k
 
--- the pass is back, and has seen the book that was held; all else of it is as it was
+-- the pass is back, and has seen the book that was held, which was let go as it was given; all else of it is as it was
 pub record IsBack (holding : Holding) (after : Pass) : Type 0 where
   pub seen : seen_at after holding.heap ≡ Some (kept_held holding)
   pub others : (k : ℕ) → (k ≡ holding.heap → ⊥) → seen_at after k ≡ seen_at holding.pass k
   pub steps : (k : ℕ) → steps_at after k ≡ steps_at holding.pass k
   pub stamp : after.stamp ≡ holding.pass.stamp
+  pub turn : HasTurn (kept_held holding) (kept_held holding) (turns_at after holding.heap) (held_logged holding.held)
+  pub rest : (k : ℕ) → (k ≡ holding.heap → ⊥) → turns_at after k ≡ turns_at holding.pass k

@@ -1,5 +1,6 @@
 pub mod Kept
 pub mod Rooms
+pub mod Turns
 pub mod Passes
 pub mod Answers
 pub mod Calls

@@ -1,9 +1,11 @@
 -- What two passes have seen of a heap after they met.
 
-use Rattle.std.specs.Prelude.{Option, Some, ◌≡◌}
+use Rattle.std.specs.Prelude.{List, Option, Some, ◌++◌, ◌≡◌}
 use Rattle.zq_spread.specs.Kept.{Follows}
+use Rattle.zq_spread.specs.Turns.{IsLeftAsGiven}
 use Rattle.zq_spread.specs.declared.kept.Kept.{Kept}
 use Rattle.zq_ticketlock.specs.Steps.{FollowsSeen}
+use Rattle.zq_ticketlock.specs.declared.turns.Entry.{Entry}
 
 -- the first has seen what follows all that either had; the second has seen what follows what it had, and what the first has seen follows it
 abbrev pub HaveMet : Option Kept → Option Kept → Option Kept → Option Kept → Type 0
@@ -14,3 +16,7 @@ HaveMet first second first_now second_now =
 abbrev pub HaveParted : Option Kept → Option Kept → Option Kept → Option Kept → Type 0
 HaveParted first second first_now second_now =
     (x : Kept) × (first_now ≡ Some x) × (second_now ≡ Some x) × FollowsSeen Follows x first × FollowsSeen Follows x second
+
+-- both have the holds of both, and the heap was let go as it was given
+abbrev pub HaveLeft : List (Entry Kept) → List (Entry Kept) → List (Entry Kept) → List (Entry Kept) → Type 0
+HaveLeft first second first_now second_now = IsLeftAsGiven first_now (first ++ second) × IsLeftAsGiven second_now (first ++ second)

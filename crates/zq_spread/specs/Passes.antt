@@ -5,6 +5,7 @@ use Rattle.zq_journal.specs.Books.{LAST_STAMP}
 use Rattle.zq_model.specs.Sets.{IsIn}
 use Rattle.zq_spread.specs.Kept.{Follows}
 use Rattle.zq_spread.specs.Rooms.{IsOf}
+use Rattle.zq_spread.specs.Turns.{IsLeftAsGiven, turns_at}
 use Rattle.zq_spread.specs.declared.kept.Kept.{Kept}
 use Rattle.zq_spread.specs.declared.pass.Pass.{Pass}
 use Rattle.zq_spread.specs.declared.room.Room.{Room}
@@ -67,8 +68,9 @@ pub record IsPassOf (site : Site) (pass : Pass) : Type 0 where
 abbrev pub IsSeenLater : Option Kept → Option Kept → Type 0
 IsSeenLater later before = IfSome later (λ x. FollowsSeen Follows x before)
 
--- a call was refused: the pass has made no step and has its stamp, and what it has seen follows what it had
+-- a call was refused: the pass has made no step and has its stamp, what it has seen follows what it had, and each heap that it held was let go as it was given
 pub record IsStopped (before after : Pass) : Type 0 where
   pub stamp : after.stamp ≡ before.stamp
   pub steps : (h : ℕ) → steps_at after h ≡ steps_at before h
   pub seen : (h : ℕ) → IsSeenLater (seen_at after h) (seen_at before h)
+  pub left : (h : ℕ) → IsLeftAsGiven (turns_at after h) (turns_at before h)

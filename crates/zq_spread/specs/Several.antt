@@ -14,13 +14,14 @@ use Rattle.zq_spread.specs.Kept.{Follows, IsAtHome}
 use Rattle.zq_spread.specs.Passes.{IsSeatOf, IsSeenLater, seen_at, steps_at}
 use Rattle.zq_spread.specs.Recorded.{IsKeptOn, kept_itself, kept_through}
 use Rattle.zq_spread.specs.Rooms.{IsOf, IsWorkedOn}
+use Rattle.zq_spread.specs.Turns.{HasTurn, IsLeftAsGiven, turns_at}
 use Rattle.zq_spread.specs.declared.holds.Holds.{Holds}
 use Rattle.zq_spread.specs.declared.kept.Kept.{Kept}
 use Rattle.zq_spread.specs.declared.pass.Pass.{Pass}
 use Rattle.zq_spread.specs.declared.room.Room.{Room}
 use Rattle.zq_spread.specs.declared.site.Site.{Site}
 use Rattle.zq_spread.specs.declared.sought.Sought.{Sought}
-use Rattle.zq_ticketlock.specs.Seats.{given, held_lock, id_of, value_of}
+use Rattle.zq_ticketlock.specs.Seats.{given, held_lock, held_logged, id_of, value_of}
 use Rattle.zq_ticketlock.specs.Steps.{FollowsSeen}
 use Rattle.zq_ticketlock.specs.declared.held.Held.{Held}
 
@@ -54,11 +55,12 @@ pub record IsSameOutside (heaps : List ℕ) (before after : Pass) : Type 0 where
   pub counts : after.counts ≡ before.counts
   pub stamp : after.stamp ≡ before.stamp
 
--- the pass has its seats in these heaps again, and they have seen what follows what they had
+-- the pass has its seats in these heaps again, they have seen what follows what they had, and let go as it was given what they held
 pub record AreBack (site : Site) (heaps : List ℕ) (before after : Pass) : Type 0 where
   pub seats : HasSeatsIn site heaps after
   pub outside : IsSameOutside heaps before after
   pub seen : (h : ℕ) → IsIn h heaps → IsSeenLater (seen_at after h) (seen_at before h)
+  pub left : (h : ℕ) → IsIn h heaps → IsLeftAsGiven (turns_at after h) (turns_at before h)
 
 -- ---- heaps that are held
 
@@ -78,6 +80,7 @@ pub record IsBegunFrom (stamp : ℕ) (old now : Held Kept) : Type 0 where
   pub worked : IsWorked (value_of now).book (value_of old).book stamp []
   pub total : (value_of now).total ≡ (value_of old).total
   pub bounded : IsBoundedBook (value_of now).book
+  pub turns : held_logged now ≡ held_logged old
 
 -- and it was put onto the stack
 abbrev pub HasPushed : ℕ → Held Kept → List (Held Kept) → List (Held Kept) → Type 0
@@ -96,6 +99,7 @@ pub record IsBegunAt (site : Site) (before : Pass) (stamp h : ℕ) (held : Held 
   pub worked : IsWorked (value_of held).book found.book stamp []
   pub total : (value_of held).total ≡ found.total
   pub bounded : IsBoundedBook (value_of held).book
+  pub turns : held_logged held ≡ turns_at before h
 
 -- in each of the heaps
 abbrev pub AreBegunAt : Site → Pass → ℕ → List ℕ → List (Held Kept) → List Kept → Type 0
@@ -134,6 +138,7 @@ pub record IsHeldOn (old new : Held Kept) : Type 0 where
   pub lock : held_lock new ≡ held_lock old
   pub was_given : given new ≡ given old
   pub kept : IsKeptOn (value_of old) (value_of new)
+  pub turns : held_logged new ≡ held_logged old
 
 abbrev pub AreHeldOn : List (Held Kept) → List (Held Kept) → Type 0
 AreHeldOn [] [] = Unit {0}
@@ -142,7 +147,7 @@ AreHeldOn old new = ⊥
 
 pub held_on_itself : (helds : List (Held Kept)) → AreHeldOn helds helds
 held_on_itself [] = tt
-held_on_itself (x ∷ helds) = (record { lock = refl; was_given = refl; kept = kept_itself (value_of x) }, held_on_itself helds)
+held_on_itself (x ∷ helds) = (record { lock = refl; was_given = refl; kept = kept_itself (value_of x); turns = refl }, held_on_itself helds)
 
 pub held_on_through : (xs ys zs : List (Held Kept)) → AreHeldOn xs ys → AreHeldOn ys zs → AreHeldOn xs zs
 held_on_through [] [] [] first second = tt
@@ -155,6 +160,7 @@ held_on_through (x ∷ xs) (y ∷ ys) (z ∷ zs) first second = (
     lock = second.0.lock ∙ first.0.lock;
     was_given = second.0.was_given ∙ first.0.was_given;
     kept = kept_through (value_of x) (value_of y) (value_of z) first.0.kept second.0.kept;
+    turns = second.0.turns ∙ first.0.turns;
   },
   held_on_through xs ys zs first.1 second.1,
 )
@@ -171,12 +177,13 @@ MayEndIn site [] [] = Unit {0}
 MayEndIn site (h ∷ heaps) (held ∷ helds) = MayEndAt site h held × MayEndIn site heaps helds
 MayEndIn site heaps helds = ⊥
 
--- the call has ended in the heap: the pass has seen the book that was held, and has made the steps by which its count rose
+-- the call has ended in the heap: the pass has seen the book that was held, has made the steps by which its count rose, and has put that home
 pub record HasEndedAt (before after : Pass) (h : ℕ) (held : Held Kept) : Type 0 where
   pub left : Kept
   pub seen : seen_at after h ≡ Some left
   pub book : left.book ≡ (value_of held).book
   pub steps : IfSome (given held) (λ found. steps_at after h + found.book.count ≡ steps_at before h + (value_of held).book.count)
+  pub turn : IfSome (given held) (λ found. HasTurn found left (turns_at after h) (held_logged held))
 
 abbrev pub HasEndedIn : Pass → Pass → List ℕ → List (Held Kept) → Type 0
 HasEndedIn before after [] [] = Unit {0}

@@ -4,7 +4,9 @@ ghost use Rattle.zq_dots.specs.Rule.{rule_of};
 ghost use Rattle.zq_resp.specs.Reply.{is_writable, reply_bytes};
 ghost use Rattle.zq_spread.specs.Calls.{IsCall, heaps_of};
 ghost use Rattle.zq_spread.specs.Commanded.{IsAnswered, short_reply, worn_reply};
-ghost use Rattle.zq_spread.specs.Passes.{IsPassOf, IsStopped};
+ghost use Rattle.zq_spread.specs.Dispatch.{IsWornOut};
+ghost use Rattle.zq_spread.specs.Passes.{IsPassOf};
+ghost use Rattle.zq_spread.specs.Worn.{IsBusyIn};
 ghost use Rattle.zq_words.specs.Heaps as named;
 ghost use Rattle.zq_words.specs.declared.heaps.Heaps.TheVariants.{One};
 
@@ -56,7 +58,7 @@ impl Site {
         requires heap { heap < heaps_of self.now }
         requires one { named.heaps_of command.now (heaps_of self.now) ≡ One heap }
         ensures pass { IsPassOf self.now pass.new }
-        ensures called { IsCall (IsAnswered (rule_of self.now.rule) self.now.number pass.new.stamp command.now (reply_bytes result)) pass.old pass.new (heap ∷ []) ⊎ ((reply_bytes result ≡ worn_reply) × IsStopped pass.old pass.new) }
+        ensures called { IsCall (IsAnswered (rule_of self.now.rule) self.now.number pass.new.stamp command.now (reply_bytes result)) pass.old pass.new (heap ∷ []) ⊎ IsWornOut (heap ∷ []) (reply_bytes result) pass.old pass.new }
         ensures writable { IsTrue (is_writable result) }
     {
         let heap = usize::from(heap);
@@ -82,8 +84,8 @@ impl Site {
         requires heap { heap < heaps_of self.now }
         requires one { named.heaps_of command.now (heaps_of self.now) ≡ One heap }
         ensures pass { IsPassOf self.now pass.new }
-        ensures called { IfOk result (λ reply. IsCall (IsAnswered (rule_of self.now.rule) self.now.number pass.new.stamp command.now (reply_bytes reply)) pass.old pass.new (heap ∷ []) ⊎ ((reply_bytes reply ≡ worn_reply) × IsStopped pass.old pass.new)) }
-        ensures busy { OnErr result (IsStopped pass.old pass.new) }
+        ensures called { IfOk result (λ reply. IsCall (IsAnswered (rule_of self.now.rule) self.now.number pass.new.stamp command.now (reply_bytes reply)) pass.old pass.new (heap ∷ []) ⊎ IsWornOut (heap ∷ []) (reply_bytes reply) pass.old pass.new) }
+        ensures busy { OnErr result (IsBusyIn (heap ∷ []) pass.old pass.new) }
         ensures writable { IfOk result (λ reply. IsTrue (is_writable reply)) }
     {
         let heap = usize::from(heap);

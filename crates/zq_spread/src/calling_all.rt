@@ -1,15 +1,16 @@
 //! Commands that work in several heaps of a site.
 ghost use Rattle.std.specs.List.{range_with_len};
-ghost use Rattle.std.specs.Prelude.{◌≡◌, ◌<◌, ◌≤◌, ◌⊎◌, [], IfOk, IsTrue, List, OnErr, length, vec_capacity};
+ghost use Rattle.std.specs.Prelude.{◌≡◌, ◌<◌, ◌≤◌, ◌⊎◌, [], IfErr, IfOk, IsErrOf, IsTrue, List, OnErr, length, vec_capacity};
 ghost use Rattle.zq_commands.specs.Commands.{HasBooks};
 ghost use Rattle.zq_commands.specs.VecBooks.{lending_of};
 ghost use Rattle.zq_history.specs.Books.{Book as Books};
 ghost use Rattle.zq_resp.specs.Reply.{is_writable, reply_bytes};
 ghost use Rattle.zq_spread.specs.Calls.{heaps_of};
-ghost use Rattle.zq_spread.specs.Dispatch.{HasAnswered, IsCommand, IsNear, IsTurnedAway, IsWornOut, all_heaps};
+ghost use Rattle.zq_spread.specs.Dispatch.{HasAnswered, HasHeldEach, IsCommand, IsNear, IsTurnedAway, IsWornOut, all_heaps};
 ghost use Rattle.zq_spread.specs.Drawn.{drawn};
 ghost use Rattle.zq_spread.specs.Passes.{IsPassOf, IsStopped};
 ghost use Rattle.zq_spread.specs.Several.{AreBooksAt, AreHeapsOf, helds_of};
+ghost use Rattle.zq_spread.specs.Worn.{IsStopOf};
 ghost use Rattle.zq_words.specs.Command.{Zpopnear};
 
 use crate::calling::{short, worn};
@@ -56,6 +57,8 @@ impl Site {
         ensures pass { IsPassOf self.now pass.new }
         ensures called { IfOk result (λ reply. HasAnswered self.now command.now key.now is_enough (reply_bytes reply) pass.old pass.new heaps.now) }
         ensures stopped { OnErr result (IsStopped pass.old pass.new) }
+        ensures why { IfErr result (IsStopOf pass.old.stamp is_enough heaps.now key.now pass.old pass.new) }
+        ensures waits { IsErrOf result Stop.Busy → ⊥ }
         ensures writable { IfOk result (λ reply. IsTrue (is_writable reply)) }
         ensures empty { helds_of holds.new ≡ [] }
         ensures stays { OnErr result (vec_capacity holds.new.helds ≡ vec_capacity holds.old.helds) }
@@ -83,14 +86,17 @@ impl Site {
         requires empty { helds_of holds.old ≡ [] }
         requires room { heaps_of self.now ≤ vec_capacity holds.old.helds }
         ensures pass { IsPassOf self.now pass.new }
-        ensures called { IsCommand self.now command.now (reply_bytes result) pass.old pass.new (all_heaps self.now) ⊎ IsWornOut (reply_bytes result) pass.old pass.new }
+        ensures called { (IsCommand self.now command.now (reply_bytes result) pass.old pass.new (all_heaps self.now) × HasHeldEach pass.old pass.new (all_heaps self.now))
+            ⊎ IsWornOut (all_heaps self.now) (reply_bytes result) pass.old pass.new }
         ensures writable { IsTrue (is_writable result) }
         ensures empty { helds_of holds.new ≡ [] }
     {
         let heaps = every(self.rooms.len());
         match self.call_in(rt, alloc, pass, heaps, &[], true, holds, command) {
             Ok(reply) => reply,
-            Err(_) => worn(),
+            Err(Stop::Worn) => worn(),
+            // A call that waits is never busy, and a command over all heaps needs no member.
+            Err(Stop::Busy | Stop::Nothing) => unreachable!(),
         }
     }
 
@@ -121,7 +127,9 @@ impl Site {
         match self.call_in(rt, alloc, pass, drawn, key, false, holds, command) {
             Ok(reply) => reply,
             Err(Stop::Nothing) => self.answer_all(rt, alloc, pass, holds, command),
-            Err(_) => worn(),
+            Err(Stop::Worn) => worn(),
+            // A call that waits is never busy.
+            Err(Stop::Busy) => unreachable!(),
         }
     }
 
@@ -136,7 +144,7 @@ impl Site {
     ) -> Reply
         requires pass { IsPassOf self.now pass.old }
         ensures pass { IsPassOf self.now pass.new }
-        ensures called { IsCommand self.now command.now (reply_bytes result) pass.old pass.new (all_heaps self.now) ⊎ IsTurnedAway (reply_bytes result) pass.old pass.new }
+        ensures called { IsCommand self.now command.now (reply_bytes result) pass.old pass.new (all_heaps self.now) ⊎ IsTurnedAway (all_heaps self.now) (reply_bytes result) pass.old pass.new }
         ensures writable { IsTrue (is_writable result) }
     {
         let Ok(mut holds) = Holds::with_room(alloc, self.rooms.len()) else {

@@ -1,9 +1,9 @@
 //! Commands of a site, by the heaps that they work in.
 ghost use Rattle.std.specs.Prelude.{◌≡◌, [], IfOk, IsOk, IsTrue, OnErr};
 ghost use Rattle.zq_resp.specs.Reply.{is_writable, reply_bytes};
-ghost use Rattle.zq_spread.specs.Dispatch.{DoesCommand, IsCalled};
+ghost use Rattle.zq_spread.specs.Dispatch.{DoesCommand, IsBusyWith, IsCalled};
 ghost use Rattle.zq_spread.specs.Calls.{heaps_of};
-ghost use Rattle.zq_spread.specs.Passes.{IsPassOf, IsStopped};
+ghost use Rattle.zq_spread.specs.Passes.{IsPassOf};
 ghost use Rattle.zq_words.specs.Heaps as named;
 ghost use Rattle.zq_words.specs.declared.heaps.Heaps.TheVariants.{NoHeap};
 
@@ -76,7 +76,7 @@ impl Site {
         requires pass { IsPassOf self.now pass.old }
         ensures pass { IsPassOf self.now pass.new }
         ensures called { IfOk result (λ reply. IsCalled self.now command.now w1 w2 (reply_bytes reply) pass.old pass.new) }
-        ensures busy { OnErr result (IsStopped pass.old pass.new) }
+        ensures busy { OnErr result (IsBusyWith (named.heaps_of command.now (heaps_of self.now)) self.now pass.old pass.new) }
         ensures free { named.heaps_of command.now (heaps_of self.now) ≡ NoHeap → IsOk result }
         ensures writable { IfOk result (λ reply. IsTrue (is_writable reply)) }
     {

@@ -41,6 +41,11 @@ pub enum HoldFault {
 }
 
 impl From<TryFault> for HoldFault {
+    ghost use Rattle.std.specs.Prelude.{◌≡◌};
+    ghost use Rattle.zq_spread.specs.Worn.{hold_of};
+
+    ghost from_gives = { λ fault held. held ≡ hold_of fault };
+
     fn from(fault: TryFault) -> HoldFault {
         match fault {
             TryFault::Worn => HoldFault::Worn,

@@ -1,9 +1,11 @@
 //! Holding a heap for a while.
-ghost use Rattle.std.specs.Prelude.{◌≡◌, ◌<◌, IfErr, IfOk};
+ghost use Rattle.std.specs.Prelude.{◌≡◌, ◌<◌, ◌≤◌, ◌↔◌, IfErr, IfOk};
 ghost use Rattle.zq_spread.specs.Calls.{heaps_of};
 ghost use Rattle.zq_spread.specs.Companies.{IsSamePass};
 ghost use Rattle.zq_spread.specs.Holdings.{IsBack, IsHeldBy, IsHoldingOf, book_held};
 ghost use Rattle.zq_spread.specs.Passes.{IsPassOf};
+ghost use Rattle.zq_spread.specs.Worn.{reached_at, served_at};
+ghost use Rattle.zq_ticketlock.specs.Limits.{last_ticket};
 
 use crate::faults::HoldFault;
 use crate::holdings::Holding;
@@ -24,7 +26,8 @@ impl Site {
     /// Takes a heap's lock, if nobody holds it or waits for it, and shows its book, which was reached from what the pass
     /// had seen. Other passes cannot work in the heap until it is released. It never waits, and takes no memory.
     ///
-    /// Or else the pass comes back as it was: `Worn` where the lock is at its last value, else `Busy`.
+    /// Or else the pass comes back as it was: `Worn` where the lock is at its last value, else `Busy`, where it has found that
+    /// somebody else had drawn the ticket which is served.
     pub fn hold(&self, mut pass: Pass, heap: u8) -> Result<Holding, (HoldFault, Pass)>
         requires pass { IsPassOf self.now pass }
         requires heap { heap < heaps_of self.now }
@@ -32,6 +35,8 @@ impl Site {
         ensures held { IfOk result (IsHeldBy pass heap) }
         ensures back { IfErr result (λ e. IsPassOf self.now e.1) }
         ensures same { IfErr result (λ e. IsSamePass pass e.1) }
+        ensures worn { IfErr result (λ e. (e.0 ≡ HoldFault.Worn) ↔ (last_ticket ≤ served_at e.1 heap)) }
+        ensures busy { IfErr result (λ e. e.0 ≡ HoldFault.Busy → served_at e.1 heap < reached_at e.1 heap) }
     {
         let heap = usize::from(heap);
         let seat = self.take_seat(&mut pass, heap);

@@ -1,11 +1,13 @@
 //! How a call locks one of several heaps, and puts it home as it was.
-ghost use Rattle.std.specs.Prelude.{◌≡◌, ◌<◌, ◌∷◌, IfOk, OnErr, Some, [], length, slice_get, ℕ};
+ghost use Rattle.std.specs.Prelude.{◌≡◌, ◌<◌, ◌∷◌, IfErr, IfOk, IsErrOf, OnErr, Some, [], length, slice_get, ℕ};
 ghost use Rattle.zq_spread.specs.Calls.{heaps_of};
 ghost use Rattle.zq_spread.specs.Kept.{Follows};
 ghost use Rattle.zq_spread.specs.Passes.{IsSeatOf, seen_at};
 ghost use Rattle.zq_spread.specs.Several.{AreBack, HasSeatsIn, IsHeldAt, IsSameOutside};
+ghost use Rattle.zq_spread.specs.Turns.{HasTurn, turns_at};
+ghost use Rattle.zq_spread.specs.Worn.{IsUnlocked, reached_at, served_at};
 ghost use Rattle.zq_spread.specs.declared.room.Room.{Room as Rooms};
-ghost use Rattle.zq_ticketlock.specs.Seats.{seen, value_of};
+ghost use Rattle.zq_ticketlock.specs.Seats.{held_logged, logged, reached, seen, served, value_of};
 ghost use Rattle.zq_ticketlock.specs.Steps.{FollowsSeen};
 
 use crate::kept::Kept;
@@ -22,6 +24,7 @@ impl Site {
         requires heap { heap < heaps_of self.now }
         ensures seat { (room : Rooms) → slice_get self.now.rooms.items heap ≡ Some room → IsSeatOf room (Some (Some result)) }
         ensures seen { seen result ≡ seen_at pass.old heap }
+        ensures turns { logged result ≡ turns_at pass.old heap }
         ensures outside { IsSameOutside (heap ∷ []) pass.old pass.new }
     {
         let Some(seat) = pass.seats[heap].take() else {
@@ -37,6 +40,9 @@ impl Site {
         requires seat { (room : Rooms) → slice_get self.now.rooms.items heap ≡ Some room → IsSeatOf room (Some (Some seat)) }
         ensures seats { HasSeatsIn self.now (heap ∷ []) pass.new }
         ensures seen { seen_at pass.new heap ≡ seen seat }
+        ensures turns { turns_at pass.new heap ≡ logged seat }
+        ensures served { served_at pass.new heap ≡ served seat }
+        ensures reached { reached_at pass.new heap ≡ reached seat }
         ensures outside { IsSameOutside (heap ∷ []) pass.old pass.new }
     {
         pass.seats[heap] = Some(seat);
@@ -54,8 +60,11 @@ impl Site {
         requires heap { heap < heaps_of self.now }
         ensures held { IfOk result (IsHeldAt self.now heap) }
         ensures follows { IfOk result (λ held. FollowsSeen Follows (value_of held) (seen_at pass.old heap)) }
+        ensures turns { IfOk result (λ held. held_logged held ≡ turns_at pass.old heap) }
         ensures outside { IsSameOutside (heap ∷ []) pass.old pass.new }
         ensures back { OnErr result (AreBack self.now (heap ∷ []) pass.old pass.new) }
+        ensures why { IfErr result (λ stop. IsUnlocked stop (served_at pass.new heap) (reached_at pass.new heap)) }
+        ensures waits { IsErrOf result Stop.Busy → ⊥ }
     {
         let seat = self.seat_out(pass, heap);
         seat.has_seen();
@@ -74,8 +83,10 @@ impl Site {
         requires heap { heap < heaps_of self.now }
         ensures held { IfOk result (IsHeldAt self.now heap) }
         ensures follows { IfOk result (λ held. FollowsSeen Follows (value_of held) (seen_at pass.old heap)) }
+        ensures turns { IfOk result (λ held. held_logged held ≡ turns_at pass.old heap) }
         ensures outside { IsSameOutside (heap ∷ []) pass.old pass.new }
         ensures back { OnErr result (AreBack self.now (heap ∷ []) pass.old pass.new) }
+        ensures why { IfErr result (λ stop. IsUnlocked stop (served_at pass.new heap) (reached_at pass.new heap)) }
     {
         let seat = self.seat_out(pass, heap);
         seat.has_seen();
@@ -95,6 +106,7 @@ impl Site {
         requires held { IsHeldAt self.now heap held }
         ensures seats { HasSeatsIn self.now (heap ∷ []) pass.new }
         ensures seen { seen_at pass.new heap ≡ Some (value_of held) }
+        ensures turn { HasTurn (value_of held) (value_of held) (turns_at pass.new heap) (held_logged held) }
         ensures outside { IsSameOutside (heap ∷ []) pass.old pass.new }
     {
         let seat = self.rooms[heap].lock.unlock(held);

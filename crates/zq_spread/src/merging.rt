@@ -3,7 +3,8 @@ ghost use Rattle.std.specs.Prelude.{◌≡◌, ◌≢◌, ◌↔◌, ◌⊎◌, 
 ghost use Rattle.zq_dots.specs.Rule.{rule_of};
 ghost use Rattle.zq_spread.specs.Answers.{IsMerged};
 ghost use Rattle.zq_spread.specs.Calls.{IsCall, IsLikeSite, heaps_of};
-ghost use Rattle.zq_spread.specs.Passes.{IsPassOf, IsStopped};
+ghost use Rattle.zq_spread.specs.Passes.{IsPassOf};
+ghost use Rattle.zq_spread.specs.Worn.{IsWornIn};
 
 use crate::pass::Pass;
 use crate::site::Site;
@@ -33,7 +34,7 @@ impl Site {
         ensures wrong_rule { IsErrOf result MergeFault.WrongRule ↔ ((other.now.heaps ≡ heaps_of self.now) × (other.now.rule ≢ rule_of self.now.rule)) }
         ensures unlocked { (IsLikeSite self.now other.now → ⊥) → pass.new ≡ pass.old }
         ensures called { IsLikeSite self.now other.now →
-            IsCall (IsMerged pass.new.stamp other.now result) pass.old pass.new (other.now.heap ∷ []) ⊎ (IsErrOf result MergeFault.Worn × IsStopped pass.old pass.new) }
+            IsCall (IsMerged pass.new.stamp other.now result) pass.old pass.new (other.now.heap ∷ []) ⊎ (IsErrOf result MergeFault.Worn × IsWornIn (other.now.heap ∷ []) pass.old pass.new) }
     {
         if usize::from(other.heaps()) != self.rooms.len() {
             return Err(MergeFault::WrongHeap);

@@ -2,7 +2,8 @@
 ghost use Rattle.std.specs.Prelude.{◌≡◌, ◌<◌, ◌⊎◌, ◌∷◌, [], IfOk, IsErrOf, OnErr};
 ghost use Rattle.zq_spread.specs.Answers.{IsAsked, IsCopied, IsShown, IsSince};
 ghost use Rattle.zq_spread.specs.Calls.{HasSeenBook, IsCall, heaps_of};
-ghost use Rattle.zq_spread.specs.Passes.{IsPassOf, IsStopped};
+ghost use Rattle.zq_spread.specs.Passes.{IsPassOf};
+ghost use Rattle.zq_spread.specs.Worn.{IsWornIn};
 
 use crate::faults::ReadFault;
 use crate::pass::Pass;
@@ -22,7 +23,7 @@ impl Site {
         requires heap { heap < heaps_of self.now }
         ensures pass { IsPassOf self.now pass.new }
         ensures called { IfOk result (λ vector. IsCall (IsShown vector) pass.old pass.new (heap ∷ [])) }
-        ensures refused { OnErr result (IsStopped pass.old pass.new) }
+        ensures refused { OnErr result (IsWornIn (heap ∷ []) pass.old pass.new) }
     {
         let heap = usize::from(heap);
         let Ok((held, stamp)) = self.begin_in(rt, pass, heap) else {
@@ -47,7 +48,7 @@ impl Site {
         requires pass { IsPassOf self.now pass.old }
         requires heap { heap < heaps_of self.now }
         ensures pass { IsPassOf self.now pass.new }
-        ensures called { IsCall (IsCopied result) pass.old pass.new (heap ∷ []) ⊎ (IsErrOf result ReadFault.Worn × IsStopped pass.old pass.new) }
+        ensures called { IsCall (IsCopied result) pass.old pass.new (heap ∷ []) ⊎ (IsErrOf result ReadFault.Worn × IsWornIn (heap ∷ []) pass.old pass.new) }
     {
         let heap = usize::from(heap);
         let Ok((held, stamp)) = self.begin_in(rt, pass, heap) else {
@@ -76,7 +77,7 @@ impl Site {
         requires pass { IsPassOf self.now pass.old }
         requires heap { heap < heaps_of self.now }
         ensures pass { IsPassOf self.now pass.new }
-        ensures called { IsCall (IsAsked result) pass.old pass.new (heap ∷ []) ⊎ (IsErrOf result ReadFault.Worn × IsStopped pass.old pass.new) }
+        ensures called { IsCall (IsAsked result) pass.old pass.new (heap ∷ []) ⊎ (IsErrOf result ReadFault.Worn × IsWornIn (heap ∷ []) pass.old pass.new) }
         ensures answered { IfOk result (λ since. HasSeenBook pass.new heap (IsSince vector.now since)) }
     {
         let heap = usize::from(heap);

@@ -1,11 +1,13 @@
 //! A heap of a site, under its lock.
-ghost use Rattle.std.specs.Prelude.{◌≡◌, ◌≤◌, ◌+◌, Some, [], IfErr, IfOk, IfSome, max};
+ghost use Rattle.std.specs.Prelude.{◌≡◌, ◌≤◌, ◌+◌, ◌⊎◌, Some, [], IfErr, IfOk, IfSome, max};
 ghost use Rattle.zq_history.specs.Reach.{IsWorked};
 ghost use Rattle.zq_journal.specs.Books.{LAST_STAMP};
 ghost use Rattle.zq_spread.specs.Kept.{Follows, IsAtHome};
 ghost use Rattle.zq_spread.specs.Rooms.{IsBegun, IsCountedUp, IsOf, IsWorkedOn};
+ghost use Rattle.zq_spread.specs.Turns.{HasTurn, IsLeftAsGiven};
+ghost use Rattle.zq_spread.specs.Worn.{IsAtLast, IsUnbegun};
 ghost use Rattle.zq_tally.specs.Words as tally;
-ghost use Rattle.zq_ticketlock.specs.Seats.{id_of, lock_of, seen, HasSeen, held_lock, given, value_of};
+ghost use Rattle.zq_ticketlock.specs.Seats.{id_of, lock_of, logged, reached, seen, served, HasSeen, held_lock, held_logged, given, value_of};
 ghost use Rattle.zq_ticketlock.specs.Steps.{FollowsSeen};
 
 use crate::kept::{Kept, LAST};
@@ -43,7 +45,10 @@ impl Room {
         ensures lock { IfOk result (λ begun. held_lock begun.0 ≡ id_of self.now.lock) }
         ensures bounded { IfOk result (λ begun. begun.1 ≤ LAST_STAMP) }
         ensures begun { IfOk result (λ begun. IfSome (given begun.0) (IsBegun self.now (seen seat) floor begun.1 (value_of begun.0))) }
+        ensures turns { IfOk result (λ begun. held_logged begun.0 ≡ logged seat) }
         ensures refused { IfErr result (λ back. (lock_of back ≡ id_of self.now.lock) × IfSome (seen back) (IsOf self.now) × IfSome (seen back) (λ x. FollowsSeen Follows x (seen seat))) }
+        ensures left { IfErr result (λ back. IsLeftAsGiven (logged back) (logged seat)) }
+        ensures worn { IfErr result (λ back. (LAST_STAMP ≤ floor) ⊎ IsAtLast (reached back) (seen back)) }
     {
         match self.lock.lock(rt, seat) {
             Ok(held) => self.date(held, floor),
@@ -62,7 +67,10 @@ impl Room {
         ensures lock { IfOk result (λ begun. held_lock begun.0 ≡ id_of self.now.lock) }
         ensures bounded { IfOk result (λ begun. begun.1 ≤ LAST_STAMP) }
         ensures begun { IfOk result (λ begun. IfSome (given begun.0) (IsBegun self.now (seen seat) floor begun.1 (value_of begun.0))) }
+        ensures turns { IfOk result (λ begun. held_logged begun.0 ≡ logged seat) }
         ensures refused { IfErr result (λ e. (lock_of e.1 ≡ id_of self.now.lock) × IfSome (seen e.1) (IsOf self.now) × IfSome (seen e.1) (λ x. FollowsSeen Follows x (seen seat))) }
+        ensures left { IfErr result (λ e. IsLeftAsGiven (logged e.1) (logged seat)) }
+        ensures why { IfErr result (λ e. IsUnbegun e.0 floor (served e.1) (reached e.1) (seen e.1)) }
     {
         match self.lock.try_lock(seat) {
             Ok(held) => match self.date(held, floor) {
@@ -86,7 +94,10 @@ impl Room {
         ensures begun { IfOk result (λ begun. begun.1 ≡ max floor (value_of held).book.stamp + 1) }
         ensures worked { IfOk result (λ begun. IsWorked (value_of begun.0).book (value_of held).book begun.1 []) }
         ensures total { IfOk result (λ begun. (value_of begun.0).total ≡ (value_of held).total) }
+        ensures turns { IfOk result (λ begun. held_logged begun.0 ≡ held_logged held) }
         ensures refused { IfErr result (λ back. (lock_of back ≡ id_of self.now.lock) × (seen back ≡ Some (value_of held))) }
+        ensures left { IfErr result (λ back. IsLeftAsGiven (logged back) (held_logged held)) }
+        ensures worn { IfErr result (λ back. (LAST_STAMP ≤ floor) ⊎ IsAtLast (reached back) (seen back)) }
     {
         let last = u64::max(floor, held.value().book.stamp());
         if last >= LAST {
@@ -117,7 +128,7 @@ impl Room {
         requires worked { IfSome (given held) (IsWorkedOn self.now (value_of held)) }
         ensures lock { lock_of result ≡ id_of self.now.lock }
         ensures table { tally.count_table count.new ≡ tally.count_table count.old }
-        ensures seen { HasSeen result (λ y. (y.book ≡ (value_of held).book) × IsOf self.now y) }
+        ensures seen { HasSeen result (λ y. (y.book ≡ (value_of held).book) × IsOf self.now y × IfSome (given held) (λ found. HasTurn found y (logged result) (held_logged held))) }
         ensures steps { tally.steps_of count.new + self.now.opening + tally.total_of (value_of held).total ≡ tally.steps_of count.old + (value_of held).book.count }
     {
         held.was_given();

@@ -2,9 +2,10 @@
 ghost use Rattle.std.specs.Prelude.{◌≡◌, ◌<◌, ◌∷◌, [], Some, length, slice_get};
 ghost use Rattle.zq_spread.specs.Companies.{IsSameBut};
 ghost use Rattle.zq_spread.specs.Passes.{IsPassBut, IsPassOf, IsSeatOf, seen_at};
-ghost use Rattle.zq_spread.specs.Worn.{reached_at};
+ghost use Rattle.zq_spread.specs.Turns.{turns_at};
+ghost use Rattle.zq_spread.specs.Worn.{reached_at, served_at};
 ghost use Rattle.zq_spread.specs.declared.room.Room.{Room};
-ghost use Rattle.zq_ticketlock.specs.Seats.{reached, seen};
+ghost use Rattle.zq_ticketlock.specs.Seats.{logged, reached, seen, served};
 
 use crate::kept::Kept;
 use crate::pass::Pass;
@@ -19,6 +20,7 @@ impl Site {
         ensures pass { IsPassBut self.now (heap ∷ []) pass.new }
         ensures seat { (room : Room) → slice_get self.now.rooms.items heap ≡ Some room → IsSeatOf room (Some (Some result)) }
         ensures seen { seen result ≡ seen_at pass.old heap }
+        ensures turns { logged result ≡ turns_at pass.old heap }
         ensures stays { IsSameBut heap pass.old pass.new }
         ensures counts { pass.new.counts ≡ pass.old.counts }
     {
@@ -35,6 +37,8 @@ impl Site {
         requires seat { (room : Room) → slice_get self.now.rooms.items heap ≡ Some room → IsSeatOf room (Some (Some seat)) }
         ensures pass { IsPassOf self.now pass.new }
         ensures seen { seen_at pass.new heap ≡ seen seat }
+        ensures turns { turns_at pass.new heap ≡ logged seat }
+        ensures served { served_at pass.new heap ≡ served seat }
         ensures reached { reached_at pass.new heap ≡ reached seat }
         ensures stays { IsSameBut heap pass.old pass.new }
     {

@@ -1,5 +1,5 @@
 //! How a call begins and ends in several heaps.
-ghost use Rattle.std.specs.Prelude.{◌≡◌, ◌≤◌, ◌<◌, ◌+◌, ◌⊎◌, ◌∷◌, IfOk, OnErr, OnOk, Some, [], length, max, slice_get, true, vec_capacity, ℕ};
+ghost use Rattle.std.specs.Prelude.{◌≡◌, ◌≤◌, ◌<◌, ◌+◌, ◌⊎◌, ◌∷◌, IfErr, IfOk, IsErrOf, OnErr, OnOk, Some, [], false, length, max, slice_get, true, vec_capacity, ℕ};
 ghost use Rattle.zq_journal.specs.Books.{LAST_STAMP, state_of};
 ghost use Rattle.zq_model.specs.Sets.{IsIn};
 ghost use Rattle.zq_shard.specs.Shard.{queue_at};
@@ -7,8 +7,10 @@ ghost use Rattle.zq_spread.specs.Calls.{heaps_of};
 ghost use Rattle.zq_spread.specs.Kept.{Follows};
 ghost use Rattle.zq_spread.specs.Passes.{IsPassBut, IsPassOf, IsSeatOf, seen_at, steps_at};
 ghost use Rattle.zq_spread.specs.Several.{AreBack, AreHeapsOf, HasBegun, HasEndedIn, HasPushed, HasSeatsIn, IsHeldAt, IsSameOutside, MayEndIn, helds_of};
+ghost use Rattle.zq_spread.specs.Turns.{HasTurn, turns_at};
+ghost use Rattle.zq_spread.specs.Worn.{IsStopOf};
 ghost use Rattle.zq_spread.specs.declared.room.Room.{Room as Rooms};
-ghost use Rattle.zq_ticketlock.specs.Seats.{value_of};
+ghost use Rattle.zq_ticketlock.specs.Seats.{held_logged, value_of};
 ghost use Rattle.zq_ticketlock.specs.Steps.{FollowsSeen};
 
 use crate::holds::Holds;
@@ -25,6 +27,7 @@ impl Sought {
     fn with(self, kept: &Kept, key: &[u8]) -> Sought
         ensures stamp { result.stamp ≡ max self.stamp kept.now.book.stamp }
         ensures enough { result.is_enough ≡ true → (self.is_enough ≡ true) ⊎ (1 ≤ length (queue_at (state_of kept.now.book) key.now)) }
+        ensures none { result.is_enough ≡ false → (self.is_enough ≡ false) × (length (queue_at (state_of kept.now.book) key.now) ≡ 0) }
     {
         let book = &kept.book;
         Sought {
@@ -39,6 +42,9 @@ impl Sought {
         ensures next { IfOk result (λ stamp. stamp ≡ self.stamp + 1) }
         ensures last { IfOk result (λ stamp. stamp ≤ LAST_STAMP) }
         ensures enough { IfOk result (λ stamp. self.is_enough ≡ true) }
+        ensures nothing { IsErrOf result Stop.Nothing → self.is_enough ≡ false }
+        ensures worn { IsErrOf result Stop.Worn → LAST_STAMP ≤ self.stamp }
+        ensures free { IsErrOf result Stop.Busy → ⊥ }
     {
         if !self.is_enough {
             return Err(Stop::Nothing);
@@ -71,7 +77,7 @@ impl Site {
         ensures outside { IsSameOutside (heap ∷ []) pass.old pass.new }
         ensures begun { IfOk begins (λ stamp. HasPushed stamp held (helds_of holds.old) (helds_of holds.new)) }
         ensures left { OnOk begins (pass.new ≡ pass.old) }
-        ensures home { OnErr begins ((helds_of holds.new ≡ helds_of holds.old) × HasSeatsIn self.now (heap ∷ []) pass.new × (seen_at pass.new heap ≡ Some (value_of held))) }
+        ensures home { OnErr begins ((helds_of holds.new ≡ helds_of holds.old) × HasSeatsIn self.now (heap ∷ []) pass.new × (seen_at pass.new heap ≡ Some (value_of held)) × HasTurn (value_of held) (value_of held) (turns_at pass.new heap) (held_logged held)) }
         ensures stays { vec_capacity holds.new.helds ≡ vec_capacity holds.old.helds }
     {
         match begins {
@@ -104,6 +110,8 @@ impl Site {
         ensures outside { IsSameOutside heaps.now pass.old pass.new }
         ensures begun { IfOk result (λ stamp. HasBegun self.now pass.old heaps.now key.now sought stamp (helds_of holds.new)) }
         ensures back { OnErr result (AreBack self.now heaps.now pass.old pass.new) }
+        ensures why { IfErr result (IsStopOf sought.stamp sought.is_enough heaps.now key.now pass.old pass.new) }
+        ensures waits { IsErrOf result Stop.Busy → ⊥ }
         ensures none { OnErr result (helds_of holds.new ≡ []) }
         ensures stays { vec_capacity holds.new.helds ≡ vec_capacity holds.old.helds }
     {
@@ -133,6 +141,7 @@ impl Site {
         ensures outside { IsSameOutside heaps.now pass.old pass.new }
         ensures begun { IfOk result (λ stamp. HasBegun self.now pass.old heaps.now key.now sought stamp (helds_of holds.new)) }
         ensures back { OnErr result (AreBack self.now heaps.now pass.old pass.new) }
+        ensures why { IfErr result (IsStopOf sought.stamp sought.is_enough heaps.now key.now pass.old pass.new) }
         ensures none { OnErr result (helds_of holds.new ≡ []) }
         ensures stays { vec_capacity holds.new.helds ≡ vec_capacity holds.old.helds }
     {
@@ -155,7 +164,7 @@ impl Site {
         ensures pass { IsPassOf self.now pass.new }
         ensures stamp { pass.new.stamp ≡ stamp }
         ensures ended { HasEndedIn pass.old pass.new heaps.now (helds_of holds.old) }
-        ensures others { (k : ℕ) → (IsIn k heaps.now → ⊥) → (seen_at pass.new k ≡ seen_at pass.old k) × (steps_at pass.new k ≡ steps_at pass.old k) }
+        ensures others { (k : ℕ) → (IsIn k heaps.now → ⊥) → (seen_at pass.new k ≡ seen_at pass.old k) × (steps_at pass.new k ≡ steps_at pass.old k) × (turns_at pass.new k ≡ turns_at pass.old k) }
         ensures empty { helds_of holds.new ≡ [] }
     {
         let Some((first, others)) = heaps.split_first() else {

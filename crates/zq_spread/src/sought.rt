@@ -21,6 +21,11 @@ pub(crate) enum Stop {
 }
 
 impl From<TryFault> for Stop {
+    ghost use Rattle.std.specs.Prelude.{◌≡◌};
+    ghost use Rattle.zq_spread.specs.Worn.{stop_of};
+
+    ghost from_gives = { λ fault stop. stop ≡ stop_of fault };
+
     fn from(fault: TryFault) -> Stop {
         match fault {
             TryFault::Worn => Stop::Worn,

@@ -2,7 +2,8 @@
 ghost use Rattle.std.specs.Prelude.{◌≡◌, ◌↔◌, ◌⊎◌, ◌∷◌, [], IsErrOf, true};
 ghost use Rattle.zq_spread.specs.Answers.{IsTaken};
 ghost use Rattle.zq_spread.specs.Calls.{IsCall, IsOfSite};
-ghost use Rattle.zq_spread.specs.Passes.{IsPassOf, IsStopped};
+ghost use Rattle.zq_spread.specs.Passes.{IsPassOf};
+ghost use Rattle.zq_spread.specs.Worn.{IsWornIn};
 
 use crate::pass::Pass;
 use crate::site::Site;
@@ -38,7 +39,7 @@ impl Site {
         ensures wrong_heap { IsErrOf result TakeFault.WrongHeap ↔ (IsOfSite self.now op.now → ⊥) }
         ensures unlocked { (IsOfSite self.now op.now → ⊥) → pass.new ≡ pass.old }
         ensures called { IsOfSite self.now op.now →
-            IsCall (IsTaken pass.new.stamp op.now result) pass.old pass.new (op.now.operation.heap ∷ []) ⊎ (IsErrOf result TakeFault.Worn × IsStopped pass.old pass.new) }
+            IsCall (IsTaken pass.new.stamp op.now result) pass.old pass.new (op.now.operation.heap ∷ []) ⊎ (IsErrOf result TakeFault.Worn × IsWornIn (op.now.operation.heap ∷ []) pass.old pass.new) }
     {
         if !self.has_place(op) {
             return Err(TakeFault::WrongHeap);

@@ -42,7 +42,7 @@ impl Room {
 impl Site {
     /// Makes sure that what was recorded and merged in a heap is what these passes have made there. The first pass then has
     /// seen a book there whose count is that of the opening book with the steps of all of them. No image, book or stamp has
-    /// changed. `Worn` where the heap's lock is at its last ticket, which the first pass has then found.
+    /// changed: the book is let go as it was given. `Worn` where the heap's lock is at its last ticket, which the first pass has then found.
     pub fn tally<R: Wait>(&self, rt: &R, passes: &mut [Pass], heap: u8) -> Result<(), Worn>
         requires all { AreAllPasses self.now passes.old }
         requires heap { heap < length self.now.rooms.items }

@@ -1,14 +1,15 @@
 //! Commands that work in several heaps of a site, and wait for nobody.
-ghost use Rattle.std.specs.Prelude.{◌≡◌, ◌<◌, ◌≤◌, ◌⊎◌, [], IfOk, IsTrue, List, OnErr, length, vec_capacity};
+ghost use Rattle.std.specs.Prelude.{◌≡◌, ◌<◌, ◌≤◌, ◌⊎◌, [], IfErr, IfOk, IsTrue, List, OnErr, length, vec_capacity};
 ghost use Rattle.zq_commands.specs.Commands.{HasBooks};
 ghost use Rattle.zq_commands.specs.VecBooks.{lending_of};
 ghost use Rattle.zq_history.specs.Books.{Book as Books};
 ghost use Rattle.zq_resp.specs.Reply.{is_writable, reply_bytes};
 ghost use Rattle.zq_spread.specs.Calls.{heaps_of};
-ghost use Rattle.zq_spread.specs.Dispatch.{HasAnswered, IsCommand, IsNear, IsTurnedAway, IsWornOut, all_heaps};
+ghost use Rattle.zq_spread.specs.Dispatch.{HasAnswered, HasHeldEach, IsCommand, IsNear, IsTurnedAway, IsWornOut, all_heaps};
 ghost use Rattle.zq_spread.specs.Drawn.{drawn};
 ghost use Rattle.zq_spread.specs.Passes.{IsPassOf, IsStopped};
 ghost use Rattle.zq_spread.specs.Several.{AreBooksAt, AreHeapsOf, helds_of};
+ghost use Rattle.zq_spread.specs.Worn.{IsBusyIn, IsStopOf};
 ghost use Rattle.zq_words.specs.Command.{Zpopnear};
 
 use crate::calling::{short, worn};
@@ -43,6 +44,7 @@ impl Site {
         ensures pass { IsPassOf self.now pass.new }
         ensures called { IfOk result (λ reply. HasAnswered self.now command.now key.now is_enough (reply_bytes reply) pass.old pass.new heaps.now) }
         ensures stopped { OnErr result (IsStopped pass.old pass.new) }
+        ensures why { IfErr result (IsStopOf pass.old.stamp is_enough heaps.now key.now pass.old pass.new) }
         ensures writable { IfOk result (λ reply. IsTrue (is_writable reply)) }
         ensures empty { helds_of holds.new ≡ [] }
         ensures stays { OnErr result (vec_capacity holds.new.helds ≡ vec_capacity holds.old.helds) }
@@ -69,8 +71,9 @@ impl Site {
         requires empty { helds_of holds.old ≡ [] }
         requires room { heaps_of self.now ≤ vec_capacity holds.old.helds }
         ensures pass { IsPassOf self.now pass.new }
-        ensures called { IfOk result (λ reply. IsCommand self.now command.now (reply_bytes reply) pass.old pass.new (all_heaps self.now) ⊎ IsWornOut (reply_bytes reply) pass.old pass.new) }
-        ensures busy { OnErr result (IsStopped pass.old pass.new) }
+        ensures called { IfOk result (λ reply. (IsCommand self.now command.now (reply_bytes reply) pass.old pass.new (all_heaps self.now) × HasHeldEach pass.old pass.new (all_heaps self.now))
+            ⊎ IsWornOut (all_heaps self.now) (reply_bytes reply) pass.old pass.new) }
+        ensures busy { OnErr result (IsBusyIn (all_heaps self.now) pass.old pass.new) }
         ensures writable { IfOk result (λ reply. IsTrue (is_writable reply)) }
         ensures empty { helds_of holds.new ≡ [] }
     {
@@ -78,7 +81,9 @@ impl Site {
         match self.try_call_in(alloc, pass, heaps, &[], true, holds, command) {
             Ok(reply) => Ok(reply),
             Err(Stop::Busy) => Err(Busy),
-            Err(_) => Ok(worn()),
+            Err(Stop::Worn) => Ok(worn()),
+            // A command over all heaps needs no member.
+            Err(Stop::Nothing) => unreachable!(),
         }
     }
 
@@ -102,7 +107,7 @@ impl Site {
         requires room { heaps_of self.now ≤ vec_capacity holds.old.helds }
         ensures pass { IsPassOf self.now pass.new }
         ensures called { IfOk result (λ reply. IsNear self.now command.now (reply_bytes reply) pass.old pass.new drawn.now) }
-        ensures busy { OnErr result (IsStopped pass.old pass.new) }
+        ensures busy { OnErr result (IsBusyIn (all_heaps self.now) pass.old pass.new) }
         ensures writable { IfOk result (λ reply. IsTrue (is_writable reply)) }
         ensures empty { helds_of holds.new ≡ [] }
     {
@@ -110,7 +115,7 @@ impl Site {
             Ok(reply) => Ok(reply),
             Err(Stop::Nothing) => self.try_answer_all(alloc, pass, holds, command),
             Err(Stop::Busy) => Err(Busy),
-            Err(_) => Ok(worn()),
+            Err(Stop::Worn) => Ok(worn()),
         }
     }
 
@@ -124,8 +129,8 @@ impl Site {
     ) -> Result<Reply, Busy>
         requires pass { IsPassOf self.now pass.old }
         ensures pass { IsPassOf self.now pass.new }
-        ensures called { IfOk result (λ reply. IsCommand self.now command.now (reply_bytes reply) pass.old pass.new (all_heaps self.now) ⊎ IsTurnedAway (reply_bytes reply) pass.old pass.new) }
-        ensures busy { OnErr result (IsStopped pass.old pass.new) }
+        ensures called { IfOk result (λ reply. IsCommand self.now command.now (reply_bytes reply) pass.old pass.new (all_heaps self.now) ⊎ IsTurnedAway (all_heaps self.now) (reply_bytes reply) pass.old pass.new) }
+        ensures busy { OnErr result (IsBusyIn (all_heaps self.now) pass.old pass.new) }
         ensures writable { IfOk result (λ reply. IsTrue (is_writable reply)) }
     {
         let Ok(mut holds) = Holds::with_room(alloc, self.rooms.len()) else {
@@ -150,7 +155,7 @@ impl Site {
         requires near { command.now ≡ Zpopnear key.now }
         ensures pass { IsPassOf self.now pass.new }
         ensures called { IfOk result (λ reply. IsNear self.now command.now (reply_bytes reply) pass.old pass.new (drawn (heaps_of self.now) w1 w2)) }
-        ensures busy { OnErr result (IsStopped pass.old pass.new) }
+        ensures busy { OnErr result (IsBusyIn (all_heaps self.now) pass.old pass.new) }
         ensures writable { IfOk result (λ reply. IsTrue (is_writable reply)) }
     {
         let Ok(mut holds) = Holds::with_room(alloc, self.rooms.len()) else {

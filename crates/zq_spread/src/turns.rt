@@ -1,11 +1,13 @@
 //! How a call begins and ends in one heap.
-ghost use Rattle.std.specs.Prelude.{◌≡◌, ◌≤◌, ◌<◌, ◌+◌, ◌∷◌, [], List, IfOk, IfSome, OnErr, OnOk, Some, length, slice_get, ℕ};
+ghost use Rattle.std.specs.Prelude.{◌≡◌, ◌≤◌, ◌<◌, ◌+◌, ◌∷◌, [], List, IfErr, IfOk, IfSome, OnErr, OnOk, Some, length, slice_get, ℕ};
 ghost use Rattle.zq_journal.specs.Books.{LAST_STAMP};
-ghost use Rattle.zq_spread.specs.Passes.{IsPassBut, IsPassOf, IsStopped, seen_at, steps_at};
+ghost use Rattle.zq_spread.specs.Passes.{IsPassBut, IsPassOf, seen_at, steps_at};
 ghost use Rattle.zq_spread.specs.Rooms.{IsBegun, IsWorkedOn};
+ghost use Rattle.zq_spread.specs.Turns.{HasTurn, turns_at};
+ghost use Rattle.zq_spread.specs.Worn.{IsRefusedIn, IsWornIn};
 ghost use Rattle.zq_spread.specs.declared.kept.Kept.{Kept as Value};
 ghost use Rattle.zq_spread.specs.declared.room.Room.{Room};
-ghost use Rattle.zq_ticketlock.specs.Seats.{id_of, held_lock, given, value_of};
+ghost use Rattle.zq_ticketlock.specs.Seats.{id_of, held_lock, held_logged, given, value_of};
 
 use crate::kept::Kept;
 use crate::pass::Pass;
@@ -28,9 +30,10 @@ impl Site {
         ensures lock { IfOk result (λ begun. (room : Room) → slice_get self.now.rooms.items heap ≡ Some room → held_lock begun.0 ≡ id_of room.lock) }
         ensures begun { IfOk result (λ begun. (room : Room) → slice_get self.now.rooms.items heap ≡ Some room →
             IfSome (given begun.0) (IsBegun room (seen_at pass.old heap) pass.old.stamp begun.1 (value_of begun.0))) }
-        ensures others { OnOk result ((k : ℕ) → (k ≡ heap → ⊥) → seen_at pass.new k ≡ seen_at pass.old k) }
+        ensures turns { IfOk result (λ begun. held_logged begun.0 ≡ turns_at pass.old heap) }
+        ensures others { OnOk result ((k : ℕ) → (k ≡ heap → ⊥) → (seen_at pass.new k ≡ seen_at pass.old k) × (turns_at pass.new k ≡ turns_at pass.old k)) }
         ensures steps { OnOk result ((k : ℕ) → steps_at pass.new k ≡ steps_at pass.old k) }
-        ensures refused { OnErr result (IsPassOf self.now pass.new × IsStopped pass.old pass.new) }
+        ensures refused { OnErr result (IsPassOf self.now pass.new × IsWornIn (heap ∷ []) pass.old pass.new) }
     {
         let Some(seat) = pass.seats[heap].take() else {
             unreachable!()
@@ -58,9 +61,10 @@ impl Site {
         ensures lock { IfOk result (λ begun. (room : Room) → slice_get self.now.rooms.items heap ≡ Some room → held_lock begun.0 ≡ id_of room.lock) }
         ensures begun { IfOk result (λ begun. (room : Room) → slice_get self.now.rooms.items heap ≡ Some room →
             IfSome (given begun.0) (IsBegun room (seen_at pass.old heap) pass.old.stamp begun.1 (value_of begun.0))) }
-        ensures others { OnOk result ((k : ℕ) → (k ≡ heap → ⊥) → seen_at pass.new k ≡ seen_at pass.old k) }
+        ensures turns { IfOk result (λ begun. held_logged begun.0 ≡ turns_at pass.old heap) }
+        ensures others { OnOk result ((k : ℕ) → (k ≡ heap → ⊥) → (seen_at pass.new k ≡ seen_at pass.old k) × (turns_at pass.new k ≡ turns_at pass.old k)) }
         ensures steps { OnOk result ((k : ℕ) → steps_at pass.new k ≡ steps_at pass.old k) }
-        ensures refused { OnErr result (IsPassOf self.now pass.new × IsStopped pass.old pass.new) }
+        ensures refused { IfErr result (λ fault. IsPassOf self.now pass.new × IsRefusedIn fault (heap ∷ []) pass.old pass.new) }
     {
         let seat = self.take_seat(pass, heap);
         match self.rooms[heap].try_begin(seat, pass.stamp) {
@@ -82,9 +86,9 @@ impl Site {
         requires worked { (room : Room) → slice_get self.now.rooms.items heap ≡ Some room → IfSome (given held) (IsWorkedOn room (value_of held)) }
         ensures pass { (out : List ℕ) → IsPassBut self.now (heap ∷ out) pass.old → IsPassBut self.now out pass.new }
         ensures stamp { pass.new.stamp ≡ stamp }
-        ensures seen { (left : Value) × (seen_at pass.new heap ≡ Some left) × (left.book ≡ (value_of held).book) }
+        ensures seen { (left : Value) × (seen_at pass.new heap ≡ Some left) × (left.book ≡ (value_of held).book) × IfSome (given held) (λ found. HasTurn found left (turns_at pass.new heap) (held_logged held)) }
         ensures steps { IfSome (given held) (λ found. steps_at pass.new heap + found.book.count ≡ steps_at pass.old heap + (value_of held).book.count) }
-        ensures others { (k : ℕ) → (k ≡ heap → ⊥) → (seen_at pass.new k ≡ seen_at pass.old k) × (steps_at pass.new k ≡ steps_at pass.old k) }
+        ensures others { (k : ℕ) → (k ≡ heap → ⊥) → (seen_at pass.new k ≡ seen_at pass.old k) × (steps_at pass.new k ≡ steps_at pass.old k) × (turns_at pass.new k ≡ turns_at pass.old k) }
     {
         let Some(mut count) = pass.counts[heap].take() else {
             unreachable!()
@@ -104,9 +108,9 @@ impl Site {
         requires worked { (room : Room) → slice_get self.now.rooms.items heap ≡ Some room → IfSome (given held) (IsWorkedOn room (value_of held)) }
         ensures pass { IsPassOf self.now pass.new }
         ensures stamp { pass.new.stamp ≡ stamp }
-        ensures seen { (left : Value) × (seen_at pass.new heap ≡ Some left) × (left.book ≡ (value_of held).book) }
+        ensures seen { (left : Value) × (seen_at pass.new heap ≡ Some left) × (left.book ≡ (value_of held).book) × IfSome (given held) (λ found. HasTurn found left (turns_at pass.new heap) (held_logged held)) }
         ensures steps { IfSome (given held) (λ found. steps_at pass.new heap + found.book.count ≡ steps_at pass.old heap + (value_of held).book.count) }
-        ensures others { (k : ℕ) → (k ≡ heap → ⊥) → (seen_at pass.new k ≡ seen_at pass.old k) × (steps_at pass.new k ≡ steps_at pass.old k) }
+        ensures others { (k : ℕ) → (k ≡ heap → ⊥) → (seen_at pass.new k ≡ seen_at pass.old k) × (steps_at pass.new k ≡ steps_at pass.old k) × (turns_at pass.new k ≡ turns_at pass.old k) }
     {
         self.finish(pass, heap, held, stamp);
     }

@@ -8,10 +8,10 @@ use Rattle.zq_notes.proofs.examples.a_repeat_changes_nothing.Goals as goal
 pub returns-clause-thread : goal.returns-clause-thread
 unfolding SITES LAST heap_of fnv1a64
 returns-clause-thread c = (
-  record { steps = (record { legal = refl; own = refl }, tt); does = (refl, (refl, refl)) },
+  record { steps = (record { legal = refl; own = refl }, tt); does = (refl, (refl, refl), record { heaps = refl; placed = refl }) },
   (
     record { steps = (record { legal = refl; own = refl }, tt); does = (refl, (refl, refl)) },
-    (record { steps = (record { legal = refl; own = refl }, tt); does = (refl, (refl, refl)) }, tt),
+    (record { steps = (record { legal = refl; own = refl }, tt); does = (refl, (refl, refl), record { heaps = refl; placed = refl }) }, tt),
   ),
 )
 

@@ -12,4 +12,5 @@ returns-clause-held c =
       lock = refl;
       was_given = refl;
       kept = (ap (λ (k : Kept). k.total) c.value_mut-kept.ensures.value, subst (IsRecordedOn old.book) (sym book) (recorded_itself old.book));
+      turns = refl;
     }

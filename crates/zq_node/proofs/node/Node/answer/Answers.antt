@@ -6,7 +6,7 @@ use Rattle.zq_node.proofs.node.Node.answer.Goals as goal
 use Rattle.zq_node.specs.Hearing.{own_have, sent_to}
 
 pub returns-in_err-vector-clause-no_step : goal.returns-in_err-vector-clause-no_step
-returns-in_err-vector-clause-no_step g c = c.in_err-vector.ensures.refused.steps
+returns-in_err-vector-clause-no_step g c = c.in_err-vector.ensures.refused.0.steps
 
 pub returns-in_err-told-clause-no_step : goal.returns-in_err-told-clause-no_step
 returns-in_err-told-clause-no_step g c =

@@ -1,5 +1,5 @@
 use Rattle.std.proofs.Common.{ap, arith}
-use Rattle.zq_node.proofs.Called.{IsTakeOf, stop_take, take_called, take_stopped, unheard_take}
+use Rattle.zq_node.proofs.Called.{IsTakeOf, short_take, stop_take, take_called, take_stopped, unheard_take}
 use Rattle.zq_node.proofs.node.Node.hand.Goals as goal
 use Rattle.zq_node.specs.declared.node.Node.{Node}
 use Rattle.zq_spread.specs.declared.pass.Pass.{Pass}
@@ -36,3 +36,9 @@ returns-in-Err-clause-unheard g c = λ wrong.
     let said : IsTakeOf site node.pass c.take.new.pass c.args.op.now c.take.result = record { wrong_heap = c.take.ensures.wrong_heap; unlocked = c.take.ensures.unlocked; called = c.take.ensures.called } in
     let same = unheard_take site node.pass c.take.new.pass c.args.op.now c.take.result c.in-Err.fault c.from.result c.in-Err.is c.from.ensures said (cc) in
     ap (λ (p : Pass). let n : Node = record { home = node.home; pass = p; parked = node.parked } in n) same
+
+pub returns-in-Err-clause-short : goal.returns-in-Err-clause-short
+returns-in-Err-clause-short g c = λ none.
+    let site = c.args.self.now.home.site.now in
+    let said : IsTakeOf site c.args.self.now.pass c.take.new.pass c.args.op.now c.take.result = record { wrong_heap = c.take.ensures.wrong_heap; unlocked = c.take.ensures.unlocked; called = c.take.ensures.called } in
+    short_take site c.args.self.now.pass c.take.new.pass c.args.op.now c.take.result c.in-Err.fault c.from.result c.in-Err.is c.from.ensures said (cc)

@@ -1,4 +1,4 @@
-use Rattle.std.proofs.Common.{[], Some, ap, refl, subst, sym, ◌∷◌, ◌≡◌, ◌∙◌}
+use Rattle.std.proofs.Common.{[], Err, Some, ap, length, refl, subst, sym, ◌<◌, ◌∷◌, ◌≡◌, ◌∙◌}
 use Rattle.zq_node.proofs.Called.{on_err}
 use Rattle.zq_node.proofs.Nodes.{handed_work, keeping, none_in, only_stopped, own_heap, own_stop, put_node, same_err, stopped_more, then_stopped}
 use Rattle.zq_node.proofs.Told.{if_err}
@@ -6,14 +6,19 @@ use Rattle.zq_node.proofs.node.Node.take.Goals as goal
 use Rattle.zq_node.specs.Calls.{IsCalled, Took}
 use Rattle.zq_node.specs.Hearing.{IsStopOf}
 use Rattle.zq_node.specs.Node.{parked_of}
-use Rattle.zq_node.specs.Parked.{Entries}
-use Rattle.zq_node.specs.Work.{WaitIn, WasStopped}
+use Rattle.zq_node.specs.Limits.{MOST_PARKED}
+use Rattle.zq_node.specs.Parked.{Entries, HasPlaceOf}
+use Rattle.zq_node.specs.Work.{WaitIn, WasStopped, copying, settling, taking}
 use Rattle.zq_node.specs.declared.faults.NodeFault.TheVariants.{NoMemory, WrongHeap}
 use Rattle.zq_node.specs.declared.node.Node.{Node}
 use Rattle.zq_shard.specs.declared.taken.Taken.TheVariants.{Early, Known, New}
 
 pub returns-in_err-taken-clause-stopped : goal.returns-in_err-taken-clause-stopped
 returns-in_err-taken-clause-stopped g c = on_err _ _ (only_stopped (c.args.op.now ∷ []) c.args.self.now c.hand.new.self c.hand.ensures.parked c.in_err-taken.ensures.stopped)
+
+pub returns-in_err-taken-clause-short : goal.returns-in_err-taken-clause-short
+returns-in_err-taken-clause-short g c = λ none.
+    taking (c.in_err-taken.ensures.short (ap (λ f. Err f) (same_err c.from_residual.result c.in_err-taken.field-0.0 NoMemory c.from_residual.ensures.1 none)))
 
 pub returns-in_ok-settle-in-New-clause-turn : goal.returns-in_ok-settle-in-New-clause-turn
 returns-in_ok-settle-in-New-clause-turn g c =
@@ -47,6 +52,12 @@ pub returns-in_err-settle-in-New-clause-unheard : goal.returns-in_err-settle-in-
 returns-in_err-settle-in-New-clause-unheard g c = λ wrong.
     let why = c.in_err-settle-in-New.field-0.0 in
     absurd (own_heap why c.in_err-settle-in-New.ensures.fault (same_err c.from_residual-in_err-settle-in-New.result why WrongHeap c.from_residual-in_err-settle-in-New.ensures.1 wrong))
+
+pub returns-in_err-settle-in-New-clause-short : goal.returns-in_err-settle-in-New-clause-short
+returns-in_err-settle-in-New-clause-short g c = λ _.
+    let old = c.args.self.now in
+    let asked = c.hand.new.self in
+    settling asked.pass (subst (λ t. IsCalled old.home.site.now old.pass asked.pass (Took c.args.op.now t)) c.in-New.is c.in_ok-taken.ensures.called)
 
 pub returns-in-Known-clause-turn : goal.returns-in-Known-clause-turn
 returns-in-Known-clause-turn g c =
@@ -83,6 +94,15 @@ pub returns-in_err-keep-in-Early-clause-unheard : goal.returns-in_err-keep-in-Ea
 returns-in_err-keep-in-Early-clause-unheard g c = λ wrong.
     let same = same_err c.from_residual-in_err-keep-in-Early.result NoMemory WrongHeap c.from_residual-in_err-keep-in-Early.ensures.1 wrong in
     absurd (cc)
+
+pub returns-in_err-keep-in-Early-clause-short : goal.returns-in_err-keep-in-Early-clause-short
+returns-in_err-keep-in-Early-clause-short g c = λ _.
+    let old = c.args.self.now in
+    let asked = c.hand.new.self in
+    let parked : parked_of asked ≡ parked_of old = c.hand.ensures.parked in
+    let absent : HasPlaceOf (parked_of old) c.args.op.now → ⊥ = subst (λ e. HasPlaceOf e c.args.op.now → ⊥) parked c.in_err-keep-in-Early.ensures.absent in
+    let room : length (parked_of old) < MOST_PARKED = subst (λ (e : Entries). length e < MOST_PARKED) parked c.in_err-keep-in-Early.ensures.room in
+    copying asked.pass (subst (λ t. IsCalled old.home.site.now old.pass asked.pass (Took c.args.op.now t)) c.in-Early.is c.in_ok-taken.ensures.called) absent room
 
 pub returns-in_ok-keep-in-Early-clause-node : goal.returns-in_ok-keep-in-Early-clause-node
 returns-in_ok-keep-in-Early-clause-node g c =

@@ -11,7 +11,7 @@ pub returns-in_err-vector-clause-stopped : goal.returns-in_err-vector-clause-sto
 returns-in_err-vector-clause-stopped g c =
     let node = c.args.self.now in
     let stopped : WasStopped [] node (record { home = node.home; pass = c.vector.new.pass; parked = node.parked }) =
-    (node.pass, idle node.home.site.now [] node.parked node.pass, c.in_err-vector.ensures.refused.steps) in
+    (node.pass, idle node.home.site.now [] node.parked node.pass, c.in_err-vector.ensures.refused.0.steps) in
     on_err _ _ stopped
 
 pub returns-in_default-clause-work : goal.returns-in_default-clause-work

@@ -1,6 +1,6 @@
-use Rattle.std.proofs.Common.{arith, length, subst, sym, None, ◌+◌, ◌≡◌}
+use Rattle.std.proofs.Common.{arith, length, subst, sym, None, ◌+◌, ◌∙◌, ◌≡◌}
 use Rattle.std.specs.Prelude.{IsSome}
-use Rattle.zq_node.proofs.Changed.{one_fewer, parked_before, placed_without}
+use Rattle.zq_node.proofs.Changed.{none_fewer, one_fewer, parked_before, placed_without}
 use Rattle.zq_node.specs.Parked.{IsUpdated, Place, parked_at}
 use Rattle.zq_node.proofs.parked.Parked.leave.Goals as goal
 
@@ -36,3 +36,15 @@ returns-clause-fewer c = λ here.
     let one : length new + 1 ≡ length old = one_fewer c.remove.result (length new) (length old) c.remove.ensures.len removed in
     let then : length c.settle.new.self + 1 ≡ length old = subst (λ e. length e + 1 ≡ length old) (sym c.settle.ensures) one in
     subst (λ e. length c.settle.new.self + 1 ≡ length e) c.self.view_is then
+
+pub returns-clause-none : goal.returns-clause-none
+returns-clause-none c = λ gone.
+    let old = c.self.inside.ops.entries in
+    let new = c.remove.new.self.entries in
+    let place : Place = (c.args.heap, c.value-site.result, c.args.dot.n) in
+    let named : Place = (c.args.heap, c.args.dot.site, c.args.dot.n) in
+    let same : place ≡ named = λ i. (c.args.heap, c.value-site.ensures.same i, c.args.dot.n) in
+    let nothing : parked_at old place ≡ None = subst (λ p. parked_at old p ≡ None) (sym same) (subst (λ e. parked_at e named ≡ None) (sym c.self.view_is) gone) in
+    let all : length new ≡ length old = none_fewer c.remove.result (length new) (length old) c.remove.ensures.len (c.remove.ensures.value ∙ nothing) in
+    let then : length c.settle.new.self ≡ length old = subst (λ e. length e ≡ length old) (sym c.settle.ensures) all in
+    subst (λ e. length c.settle.new.self ≡ length e) c.self.view_is then

@@ -1,9 +1,10 @@
 use Rattle.std.proofs.Common.{subst}
 use Rattle.zq_spread.proofs.Counted.{counted_follows, counted_of, if_some}
+use Rattle.zq_spread.proofs.LeftAsGiven.{turns_of_given}
 use Rattle.zq_spread.proofs.room.Room.end.Goals as goal
 use Rattle.zq_spread.specs.Rooms.{IsCountedUp, IsWorkedOn}
 use Rattle.zq_ticketlock.proofs.Told.{seen_some}
-use Rattle.zq_ticketlock.specs.Seats.{given}
+use Rattle.zq_ticketlock.specs.Seats.{given, held_logged, logged}
 
 pub unlock-requires-clause-follows : goal.unlock-requires-clause-follows
 unlock-requires-clause-follows c =
@@ -20,4 +21,4 @@ returns-clause-seen c =
     let old = c.args.held.value in
     let counted : IsCountedUp room now old = subst (IsCountedUp room now) c.value_mut.ensures.value c.count_up.ensures.counted in
     let found = seen_some (IsWorkedOn room old) (given c.args.held) c.was_given.ensures c.requires.worked in
-    (now, c.unlock.ensures.seen, (counted.book, counted_of room now old found.0 counted found.2))
+    (now, c.unlock.ensures.seen, (counted.book, counted_of room now old found.0 counted found.2, turns_of_given (given c.args.held) now c.args.held.ticket (logged c.unlock.result) (held_logged c.args.held) c.unlock.ensures.logged))

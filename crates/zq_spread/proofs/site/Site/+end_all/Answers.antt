@@ -41,4 +41,4 @@ returns-clause-others t c = λ k out.
     let cut : c.args.heaps.now ≡ h ∷ rest = c.in-Some.ensures.cases.0 ∙ ap (λ k. k ∷ rest) (sym c.from-heap.ensures) in
     let away : IsIn k (h ∷ rest) → ⊥ = subst (λ l. IsIn k l → ⊥) cut out in
     let later = c.end_all.ensures.others k (λ here. away (inr here)) in
-    let first = c.finish.ensures.others k (λ e. away (inl (sym e))) in (later.0 ∙ first.0, later.1 ∙ first.1)
+    let first = c.finish.ensures.others k (λ e. away (inl (sym e))) in (later.0 ∙ first.0, later.1 ∙ first.1, later.2 ∙ first.2)

@@ -1,10 +1,13 @@
-use Rattle.std.proofs.Common.{ap, arith, length, subst, sym, ◌∙◌}
+use Rattle.std.proofs.Common.{[], ap, arith, inl, inr, length, subst, sym, true, ◌∙◌}
 use Rattle.std.proofs.lemmas.List.FromFn.{length-range_with_len}
 use Rattle.std.specs.List.{range_with_len}
 use Rattle.zq_spread.proofs.Called.{heaps_all, homes_all}
 use Rattle.zq_spread.proofs.site.Site.answer_all.Goals as goal
+use Rattle.zq_resp.specs.Reply.{reply_bytes}
 use Rattle.zq_spread.specs.Calls.{heaps_of}
+use Rattle.zq_spread.specs.Dispatch.{HasHeldEach, IsCommand}
 use Rattle.zq_spread.specs.Several.{AreBooksAt, AreHeapsOf}
+use Rattle.zq_spread.specs.Worn.{HasFoundLast, IsStopOf}
 
 pub call_in-requires-clause-heaps : goal.call_in-requires-clause-heaps
 call_in-requires-clause-heaps g c =
@@ -24,3 +27,15 @@ call_in-requires-clause-room g c =
     let long = length-range_with_len 0 (heaps_of c.args.self.now) in
     let room = c.requires.room in
     omega (arith, all, long, room)
+
+pub returns-in-Ok-clause-called : goal.returns-in-Ok-clause-called
+returns-in-Ok-clause-called g c =
+    let site = c.args.self.now in
+    let all = c.every-heaps.ensures ∙ ap (range_with_len 0) (c.len.ensures ∙ c.args.self.now.rooms.ok.0) in
+    let called = c.in-Ok.ensures.called in
+    inl (subst (λ l. IsCommand site c.args.command.now (reply_bytes c.in-Ok.reply) c.args.pass.now c.call_in.new.pass l × HasHeldEach c.args.pass.now c.call_in.new.pass l) all (called.0, called.2))
+
+pub returns-in-Err-Worn-clause-called : goal.returns-in-Err-Worn-clause-called
+returns-in-Err-Worn-clause-called g c =
+    let all = c.every-heaps.ensures ∙ ap (range_with_len 0) (c.len.ensures ∙ c.args.self.now.rooms.ok.0) in
+    inr (c.worn.ensures.bytes, (c.in-Err-Worn.ensures.stopped, subst (λ l. HasFoundLast c.args.pass.now.stamp l c.call_in.new.pass) all (subst (IsStopOf c.args.pass.now.stamp true c.every-heaps.result.now [] c.args.pass.now c.call_in.new.pass) c.in-Err-Worn.field-0-is c.in-Err-Worn.ensures.why)))

@@ -4,7 +4,9 @@ use Rattle.zq_resp.specs.Reply.{reply_bytes}
 use Rattle.zq_spread.proofs.Called.{near_after}
 use Rattle.zq_spread.proofs.site.Site.answer_near.Goals as goal
 use Rattle.zq_spread.specs.Dispatch.{HasNear}
+use Rattle.zq_spread.specs.Worn.{IsStopOf}
 use Rattle.zq_spread.specs.declared.kept.Kept.{Kept}
+use Rattle.zq_spread.specs.declared.sought.Stop.TheVariants as stop
 
 differ : false ≡ true → ⊥
 differ e = cc
@@ -28,5 +30,9 @@ returns-in-Ok-clause-called g c =
 
 pub returns-in-Err-Nothing-clause-called : goal.returns-in-Err-Nothing-clause-called
 returns-in-Err-Nothing-clause-called g c =
-    near_after c.args.self.now c.args.pass.now c.call_in.new.pass c.requires.pass c.in-Err-Nothing.ensures.pass c.in-Err-Nothing.ensures.stopped c.args.command.now (reply_bytes c.answer_all.result) c.answer_all.new.pass
-    c.args.drawn.now c.answer_all.ensures.pass c.answer_all.ensures.called
+    let why : IsStopOf c.args.pass.now.stamp false c.args.drawn.now c.args.key.now c.args.pass.now c.call_in.new.pass stop.Nothing = subst (IsStopOf c.args.pass.now.stamp false c.args.drawn.now c.args.key.now c.args.pass.now c.call_in.new.pass) c.in-Err-Nothing.field-0-is c.in-Err-Nothing.ensures.why in
+    near_after c.args.self.now c.args.pass.now c.call_in.new.pass c.requires.pass c.in-Err-Nothing.ensures.pass c.in-Err-Nothing.ensures.stopped c.args.command.now c.args.key.now (reply_bytes c.answer_all.result)
+    c.answer_all.new.pass c.args.drawn.now c.requires.near c.requires.drawn c.answer_all.ensures.pass why.1 c.answer_all.ensures.called
+
+pub returns-in-Err-Worn-clause-called : goal.returns-in-Err-Worn-clause-called
+returns-in-Err-Worn-clause-called g c = inr (inr (inl (inl (c.worn.ensures.bytes, (c.in-Err-Worn.ensures.stopped, subst (IsStopOf c.args.pass.now.stamp false c.args.drawn.now c.args.key.now c.args.pass.now c.call_in.new.pass) c.in-Err-Worn.field-0-is c.in-Err-Worn.ensures.why)))))

@@ -3,13 +3,16 @@ use Rattle.std.proofs.lemmas.Option.{same_Some, slice_get_read}
 use Rattle.std.specs.Vec as Vec
 use Rattle.std.specs.Prelude.{IfSome, None, Some, [], refl, length, slice_get, ℕ, ◌<◌, ◌∷◌, ◌≡◌}
 use Rattle.zq_posheap.proofs.Lists.{slice_get-set_other, slice_get-set_same, there_is}
+use Rattle.zq_spread.proofs.Refused.{found_last}
 use Rattle.zq_spread.proofs.Seats.{seat_back, seat_out, stopped, taken_at}
 use Rattle.zq_spread.proofs.site.Site.begin_in.Goals as goal
 use Rattle.zq_spread.specs.Passes.{IsPassBut, IsSeatOf, IsSeenLater, seen_at, seen_in}
 use Rattle.zq_spread.specs.Rooms.{IsBegun}
+use Rattle.zq_spread.specs.Turns.{IsLeftAsGiven, turns_at, turns_in}
+use Rattle.zq_spread.specs.Worn.{reached_in}
 use Rattle.zq_spread.specs.declared.pass.Pass.{Pass}
 use Rattle.zq_spread.specs.declared.room.Room.{Room}
-use Rattle.zq_ticketlock.specs.Seats.{given, id_of, value_of}
+use Rattle.zq_ticketlock.specs.Seats.{given, id_of, logged, reached, seen, value_of}
 
 pub unreachable-requires : goal.unreachable-requires
 unreachable-requires g c =
@@ -53,7 +56,15 @@ returns-in-Ok-clause-begun g c = λ room at.
     (subst (λ o. IfSome (given c.in-Ok.begun.0) (IsBegun c.index.result.now o c.args.pass.now.stamp c.in-Ok.begun.1 (value_of c.in-Ok.begun.0))) (sym (ap seen_in there)) c.in-Ok.ensures.begun)
 
 pub returns-in-Ok-clause-others : goal.returns-in-Ok-clause-others
-returns-in-Ok-clause-others g c = λ k other. ap seen_in (slice_get-set_other c.args.pass.now.seats.items c.args.heap k c.take.new.self other)
+returns-in-Ok-clause-others g c = λ k other.
+    let seat = slice_get-set_other c.args.pass.now.seats.items c.args.heap k c.take.new.self other in
+    (ap seen_in seat, ap turns_in seat)
+
+pub returns-in-Ok-clause-turns : goal.returns-in-Ok-clause-turns
+returns-in-Ok-clause-turns g c =
+    let there : slice_get c.args.pass.now.seats.items c.args.heap ≡ Some (Some c.in-Some.seat) =
+    taken_at c.args.pass.now.seats.items (length c.args.self.now.rooms.items) c.args.heap c.index_mut.result.now c.take.result (Some c.in-Some.seat) c.requires.pass.seats c.requires.heap c.index_mut.ensures.value c.take.ensures.value c.in-Some.is in
+    c.in-Ok.ensures.turns ∙ sym (ap turns_in there)
 
 pub returns-in-Err-clause-refused : goal.returns-in-Err-clause-refused
 returns-in-Err-clause-refused g c =
@@ -70,6 +81,11 @@ returns-in-Err-clause-refused g c =
     let now : slice_get new.seats.items heap ≡ Some (Some c.in-Err.seat) = slice_get-set_same mid.seats.items heap (Some c.in-Err.seat) (subst (λ n. heap < n) (sym but.seats) c.requires.heap) in
     let later : IsSeenLater (seen_at new heap) (seen_at old heap) =
     subst (λ o. IsSeenLater o (seen_at old heap)) (sym (ap seen_in now)) (subst (λ o. IsSeenLater (seen_in (Some (Some c.in-Err.seat))) o) (sym (ap seen_in there)) c.in-Err.ensures.refused.2) in
-    let others : (k : ℕ) → (k ≡ heap → ⊥) → seen_at new k ≡ seen_at old k =
-    λ k other. ap seen_in (slice_get-set_other mid.seats.items heap k (Some c.in-Err.seat) other ∙ slice_get-set_other old.seats.items heap k c.take.new.self other) in
-    (seat_back site mid new heap c.index.result.now c.in-Err.seat c.requires.heap here refl refl refl fits but, stopped old new heap (λ k. refl) refl later others)
+    let left : IsLeftAsGiven (turns_at new heap) (turns_at old heap) =
+    subst (λ l. IsLeftAsGiven l (turns_at old heap)) (sym (ap turns_in now)) (subst (λ l. IsLeftAsGiven (logged c.in-Err.seat) l) (sym (ap turns_in there)) c.in-Err.ensures.left) in
+    let others : (k : ℕ) → (k ≡ heap → ⊥) → (seen_at new k ≡ seen_at old k) × (turns_at new k ≡ turns_at old k) = λ k other.
+    let seat = slice_get-set_other mid.seats.items heap k (Some c.in-Err.seat) other ∙ slice_get-set_other old.seats.items heap k c.take.new.self other in
+    (ap seen_in seat, ap turns_in seat) in (
+      seat_back site mid new heap c.index.result.now c.in-Err.seat c.requires.heap here refl refl refl fits but,
+      (stopped old new heap (λ k. refl) refl later left others, found_last old.stamp heap new (reached c.in-Err.seat) (seen c.in-Err.seat) (ap reached_in now) (ap seen_in now) c.in-Err.ensures.worn),
+    )

@@ -9,10 +9,11 @@ use Rattle.zq_spread.proofs.Seats.{count_back, seat_home, taken_at}
 use Rattle.zq_spread.proofs.site.Site.finish.Goals as goal
 use Rattle.zq_spread.specs.Passes.{IsCountOf, IsPassBut, seen_in, steps_in}
 use Rattle.zq_spread.specs.Rooms.{IsOf}
+use Rattle.zq_spread.specs.Turns.{HasTurn, turns_in}
 use Rattle.zq_spread.specs.declared.pass.Pass.{Pass}
 use Rattle.zq_spread.specs.declared.room.Room.{Room}
 use Rattle.zq_tally.specs.Words as tally
-use Rattle.zq_ticketlock.specs.Seats.{given, seen}
+use Rattle.zq_ticketlock.specs.Seats.{given, held_logged, seen}
 
 pub unreachable-requires : goal.unreachable-requires
 unreachable-requires c =
@@ -58,7 +59,12 @@ pub returns-clause-seen : goal.returns-clause-seen
 returns-clause-seen c =
     let within : c.args.heap < length c.args.pass.now.seats.items = subst (λ n. c.args.heap < n) (sym c.requires.pass.1.seats) c.requires.heap in
     let left = c.end-seat.ensures.seen in
-    (left.0, ap seen_in (slice_get-set_same c.args.pass.now.seats.items c.args.heap (Some c.end-seat.result) within) ∙ left.1, left.2.0)
+    let here = slice_get-set_same c.args.pass.now.seats.items c.args.heap (Some c.end-seat.result) within in (
+      left.0,
+      ap seen_in here ∙ left.1,
+      left.2.0,
+      subst (λ l. IfSome (given c.args.held) (λ found. HasTurn found left.0 l (held_logged c.args.held))) (sym (ap turns_in here)) left.2.2,
+    )
 
 pub returns-clause-steps : goal.returns-clause-steps
 returns-clause-steps c =
@@ -86,4 +92,5 @@ returns-clause-others c = λ k other. (
   ap steps_in (
       slice_get-set_other (slice_set c.args.pass.now.counts.items c.args.heap c.take.new.self) c.args.heap k (Some c.end-seat.new.count) other
       ∙ slice_get-set_other c.args.pass.now.counts.items c.args.heap k c.take.new.self other),
+  ap turns_in (slice_get-set_other c.args.pass.now.seats.items c.args.heap k (Some c.end-seat.result) other),
 )

@@ -1,11 +1,13 @@
 use Rattle.std.proofs.Common.{ap, subst, sym, ◌∙◌}
 use Rattle.std.proofs.lemmas.Option.{same_Some, slice_get_read}
 use Rattle.std.specs.Prelude.{IfSome, Some, length, refl, slice_get, ◌≡◌}
+use Rattle.zq_spread.proofs.LeftAsGiven.{turn_of}
 use Rattle.zq_spread.proofs.site.Site.let_go.Goals as goal
 use Rattle.zq_spread.specs.Kept.{Follows, follows_itself}
 use Rattle.zq_spread.specs.Rooms.{IsOf}
+use Rattle.zq_spread.specs.Turns.{HasTurn}
 use Rattle.zq_spread.specs.declared.room.Room.{Room}
-use Rattle.zq_ticketlock.specs.Seats.{id_of}
+use Rattle.zq_ticketlock.specs.Seats.{given, held_logged, id_of, logged}
 use Rattle.zq_ticketlock.specs.Steps.{FollowsSeen}
 
 pub unlock-seat-requires-clause-own : goal.unlock-seat-requires-clause-own
@@ -24,3 +26,9 @@ seat_in-requires-clause-seat c = λ room here.
       c.unlock-seat.ensures.lock ∙ c.requires.held.lock ∙ ap (λ (r : Room). id_of r.lock) one,
       subst (λ o. IfSome o (IsOf room)) (sym c.unlock-seat.ensures.seen) (subst (λ (r : Room). IsOf r c.args.held.value) one c.requires.held.of),
     )
+
+pub returns-clause-turn : goal.returns-clause-turn
+returns-clause-turn c =
+    let held = c.args.held in
+    subst (λ l. HasTurn held.value held.value l (held_logged held)) (sym c.seat_in.ensures.turns)
+    (turn_of (given held) held.value held.value held.ticket (logged c.unlock-seat.result) (held_logged held) c.requires.held.was_given c.unlock-seat.ensures.logged)

@@ -1,4 +1,4 @@
-use Rattle.std.proofs.Common.{ap, subst, sym, ◌∙◌}
+use Rattle.std.proofs.Common.{ap, subst, sym, ◌≤◌, ◌∙◌}
 use Rattle.std.proofs.lemmas.Option.{same_Some, slice_get_read}
 use Rattle.std.specs.Prelude.{IfSome, Some, length, refl, slice_get, ◌≡◌}
 use Rattle.zq_spread.proofs.Counted.{of_seen}
@@ -7,6 +7,7 @@ use Rattle.zq_spread.proofs.site.Site.lock_in.Goals as goal
 use Rattle.zq_spread.specs.Kept.{Follows}
 use Rattle.zq_spread.specs.Rooms.{IsOf}
 use Rattle.zq_spread.specs.declared.room.Room.{Room}
+use Rattle.zq_ticketlock.specs.Limits.{last_ticket}
 use Rattle.zq_ticketlock.specs.Seats.{id_of, seen}
 use Rattle.zq_ticketlock.specs.Steps.{FollowsSeen}
 
@@ -48,4 +49,10 @@ returns-in-Err-clause-outside g c = changed_back c.args.heap c.args.pass.now c.s
 pub returns-in-Err-clause-back : goal.returns-in-Err-clause-back
 returns-in-Err-clause-back g c =
     back_one c.args.self.now c.args.heap c.args.pass.now c.seat_out-seat.new.pass c.seat_in.new.pass c.seat_out-seat.ensures.outside c.seat_in.ensures.outside c.seat_in.ensures.seats
-    (c.seat_in.ensures.seen ∙ c.in-Err.ensures.worn.1 ∙ c.seat_out-seat.ensures.seen)
+    (c.seat_in.ensures.seen ∙ c.in-Err.ensures.worn.1 ∙ c.seat_out-seat.ensures.seen) (c.seat_in.ensures.turns ∙ c.in-Err.ensures.worn_logged ∙ c.seat_out-seat.ensures.turns)
+
+pub returns-in-Ok-clause-turns : goal.returns-in-Ok-clause-turns
+returns-in-Ok-clause-turns g c = c.in-Ok.ensures.logged ∙ c.seat_out-seat.ensures.turns
+
+pub returns-in-Err-clause-why : goal.returns-in-Err-clause-why
+returns-in-Err-clause-why g c = subst (λ n. last_ticket ≤ n) (sym c.seat_in.ensures.reached) c.in-Err.ensures.last

@@ -82,6 +82,6 @@ returns-clause-called g c = λ like.
     let within : heap < heaps_of c.args.self.now = omega (arith, heaps, c.heap.ensures.below, c.from-heap.ensures) in
     let here : c.args.other.now.heap ≡ heap = omega (arith, c.from-heap.ensures, c.heap.ensures.same) in
     let call : IsCall (IsMerged c.in-Ok.stamp c.args.other.now c.merge-merged.result) c.args.pass.now c.end_in.new.pass (heap ∷ []) =
-    called_in (IsMerged c.in-Ok.stamp c.args.other.now c.merge-merged.result) c.args.self.now c.args.pass.now c.begin_in.new.pass c.end_in.new.pass heap c.in-Ok.stamp held c.merge-merged.new.self within c.was_given.ensures c.in-Ok.ensures.begun works c.end_in.ensures.stamp c.end_in.ensures.seen c.end_in.ensures.steps c.in-Ok.ensures.others c.in-Ok.ensures.steps c.end_in.ensures.others in
+    called_in (IsMerged c.in-Ok.stamp c.args.other.now c.merge-merged.result) c.args.self.now c.args.pass.now c.begin_in.new.pass c.end_in.new.pass heap c.in-Ok.stamp held c.merge-merged.new.self within c.was_given.ensures c.in-Ok.ensures.begun works c.end_in.ensures.stamp c.end_in.ensures.seen c.end_in.ensures.steps c.in-Ok.ensures.others c.in-Ok.ensures.steps c.end_in.ensures.others c.in-Ok.ensures.turns in
     inl (subst (λ n. IsCall (IsMerged n c.args.other.now c.merge-merged.result) c.args.pass.now c.end_in.new.pass (c.args.other.now.heap ∷ [])) (sym c.end_in.ensures.stamp)
     (subst (λ h. IsCall (IsMerged c.in-Ok.stamp c.args.other.now c.merge-merged.result) c.args.pass.now c.end_in.new.pass (h ∷ [])) (sym here) call))

@@ -5,7 +5,8 @@ use Rattle.zq_posheap.proofs.Lists.{slice_get-set_other, slice_get-set_same, the
 use Rattle.zq_spread.proofs.Seats.{seat_back}
 use Rattle.zq_spread.proofs.site.Site.put_seat.Goals as goal
 use Rattle.zq_spread.specs.Passes.{seen_in}
-use Rattle.zq_spread.specs.Worn.{reached_in}
+use Rattle.zq_spread.specs.Turns.{turns_in}
+use Rattle.zq_spread.specs.Worn.{reached_in, served_in}
 use Rattle.zq_spread.specs.declared.pass.Pass.{Pass}
 
 pub returns-clause-pass : goal.returns-clause-pass
@@ -19,6 +20,14 @@ pub returns-clause-seen : goal.returns-clause-seen
 returns-clause-seen c =
     ap seen_in (slice_get-set_same c.args.pass.now.seats.items c.args.heap (Some c.args.seat) (subst (λ n. c.args.heap < n) (sym c.requires.pass.seats) c.requires.heap))
 
+pub returns-clause-turns : goal.returns-clause-turns
+returns-clause-turns c =
+    ap turns_in (slice_get-set_same c.args.pass.now.seats.items c.args.heap (Some c.args.seat) (subst (λ n. c.args.heap < n) (sym c.requires.pass.seats) c.requires.heap))
+
+pub returns-clause-served : goal.returns-clause-served
+returns-clause-served c =
+    ap served_in (slice_get-set_same c.args.pass.now.seats.items c.args.heap (Some c.args.seat) (subst (λ n. c.args.heap < n) (sym c.requires.pass.seats) c.requires.heap))
+
 pub returns-clause-reached : goal.returns-clause-reached
 returns-clause-reached c =
     ap reached_in (slice_get-set_same c.args.pass.now.seats.items c.args.heap (Some c.args.seat) (subst (λ n. c.args.heap < n) (sym c.requires.pass.seats) c.requires.heap))
@@ -28,4 +37,5 @@ returns-clause-stays c = record {
   stamp = refl;
   steps = λ k. refl;
   others = λ k other. ap seen_in (slice_get-set_other c.args.pass.now.seats.items c.args.heap k (Some c.args.seat) other);
+  turns = λ k other. ap turns_in (slice_get-set_other c.args.pass.now.seats.items c.args.heap k (Some c.args.seat) other);
 }

@@ -5,6 +5,7 @@ use Rattle.zq_posheap.proofs.Lists.{slice_get-set_other, there_is}
 use Rattle.zq_spread.proofs.Seats.{taken_at}
 use Rattle.zq_spread.proofs.site.Site.seat_out.Goals as goal
 use Rattle.zq_spread.specs.Passes.{IsSeatOf, seen_in}
+use Rattle.zq_spread.specs.Turns.{turns_in}
 
 pub unreachable-requires : goal.unreachable-requires
 unreachable-requires c =
@@ -24,6 +25,12 @@ returns-clause-seen c =
     let there : slice_get c.args.pass.now.seats.items c.args.heap ≡ Some (Some c.in-Some.seat) =
     taken_at c.args.pass.now.seats.items (length c.args.self.now.rooms.items) c.args.heap c.index_mut.result.now c.take.result (Some c.in-Some.seat) c.requires.seats.number c.requires.heap c.index_mut.ensures.value c.take.ensures.value c.in-Some.is in
     sym (ap seen_in there)
+
+pub returns-clause-turns : goal.returns-clause-turns
+returns-clause-turns c =
+    let there : slice_get c.args.pass.now.seats.items c.args.heap ≡ Some (Some c.in-Some.seat) =
+    taken_at c.args.pass.now.seats.items (length c.args.self.now.rooms.items) c.args.heap c.index_mut.result.now c.take.result (Some c.in-Some.seat) c.requires.seats.number c.requires.heap c.index_mut.ensures.value c.take.ensures.value c.in-Some.is in
+    sym (ap turns_in there)
 
 pub returns-clause-outside : goal.returns-clause-outside
 returns-clause-outside c = record {

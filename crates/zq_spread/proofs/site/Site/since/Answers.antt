@@ -24,11 +24,12 @@ returns-clause-called g c =
     asked_by c.args.vector.now c.since-since.result held.value.book a c.in-Ok.stamp (subst (λ (v : Kept). read_of (IsSince c.args.vector.now) c.since-since.result v.book) c.value.ensures c.since-since.ensures) begun in
     let within : heap < heaps_of c.args.self.now = subst (λ h. h < heaps_of c.args.self.now) (sym c.from-heap.ensures) c.requires.heap in
     let call : IsCall (IsAsked c.since-since.result) c.args.pass.now c.end_in.new.pass (heap ∷ []) =
-    called_in (IsAsked c.since-since.result) c.args.self.now c.args.pass.now c.begin_in.new.pass c.end_in.new.pass heap c.in-Ok.stamp held held.value within c.was_given.ensures c.in-Ok.ensures.begun works c.end_in.ensures.stamp c.end_in.ensures.seen c.end_in.ensures.steps c.in-Ok.ensures.others c.in-Ok.ensures.steps c.end_in.ensures.others in
+    called_in (IsAsked c.since-since.result) c.args.self.now c.args.pass.now c.begin_in.new.pass c.end_in.new.pass heap c.in-Ok.stamp held held.value within c.was_given.ensures c.in-Ok.ensures.begun works c.end_in.ensures.stamp c.end_in.ensures.seen c.end_in.ensures.steps c.in-Ok.ensures.others c.in-Ok.ensures.steps c.end_in.ensures.others c.in-Ok.ensures.turns in
     inl (subst (λ h. IsCall (IsAsked c.since-since.result) c.args.pass.now c.end_in.new.pass (h ∷ [])) c.from-heap.ensures call)
 
 pub returns-clause-answered : goal.returns-clause-answered
 returns-clause-answered g c =
+    let saw = c.end_in.ensures.seen in
     let said = subst (λ (v : Kept). read_of (IsSince c.args.vector.now) c.since-since.result v.book) c.value.ensures c.since-since.ensures in
     subst (λ h. IfOk c.since-since.result (λ since. HasSeenBook c.end_in.new.pass h (IsSince c.args.vector.now since))) c.from-heap.ensures
-    (answered_of c.args.vector.now c.since-since.result c.in-Ok.held.value.book c.end_in.new.pass c.from-heap.result said c.end_in.ensures.seen)
+    (answered_of c.args.vector.now c.since-since.result c.in-Ok.held.value.book c.end_in.new.pass c.from-heap.result said (saw.0, saw.1, saw.2))

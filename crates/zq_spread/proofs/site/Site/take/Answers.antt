@@ -55,6 +55,6 @@ returns-clause-called g c = λ of.
     let within : heap < heaps_of c.args.self.now = let e = of.heaps in omega (arith, e, c.heap.ensures.below, c.from-heap.ensures) in
     let here : c.args.op.now.operation.heap ≡ heap = omega (arith, c.from-heap.ensures, c.heap.ensures.same) in
     let call : IsCall (IsTaken c.in-Ok.stamp c.args.op.now c.take-taken.result) c.args.pass.now c.end_in.new.pass (heap ∷ []) =
-    called_in (IsTaken c.in-Ok.stamp c.args.op.now c.take-taken.result) c.args.self.now c.args.pass.now c.begin_in.new.pass c.end_in.new.pass heap c.in-Ok.stamp held c.take-taken.new.self within c.was_given.ensures c.in-Ok.ensures.begun works c.end_in.ensures.stamp c.end_in.ensures.seen c.end_in.ensures.steps c.in-Ok.ensures.others c.in-Ok.ensures.steps c.end_in.ensures.others in
+    called_in (IsTaken c.in-Ok.stamp c.args.op.now c.take-taken.result) c.args.self.now c.args.pass.now c.begin_in.new.pass c.end_in.new.pass heap c.in-Ok.stamp held c.take-taken.new.self within c.was_given.ensures c.in-Ok.ensures.begun works c.end_in.ensures.stamp c.end_in.ensures.seen c.end_in.ensures.steps c.in-Ok.ensures.others c.in-Ok.ensures.steps c.end_in.ensures.others c.in-Ok.ensures.turns in
     inl (subst (λ n. IsCall (IsTaken n c.args.op.now c.take-taken.result) c.args.pass.now c.end_in.new.pass (c.args.op.now.operation.heap ∷ [])) (sym c.end_in.ensures.stamp)
     (subst (λ h. IsCall (IsTaken c.in-Ok.stamp c.args.op.now c.take-taken.result) c.args.pass.now c.end_in.new.pass (h ∷ [])) (sym here) call))

@@ -4,6 +4,7 @@ use Rattle.zq_posheap.proofs.Lists.{slice_get-set_other, there_is}
 use Rattle.zq_spread.proofs.Seats.{seat_out, taken_at}
 use Rattle.zq_spread.proofs.site.Site.take_seat.Goals as goal
 use Rattle.zq_spread.specs.Passes.{IsSeatOf, seen_in}
+use Rattle.zq_spread.specs.Turns.{turns_in}
 
 pub unreachable-requires : goal.unreachable-requires
 unreachable-requires c =
@@ -27,9 +28,16 @@ returns-clause-seen c =
     taken_at c.args.pass.now.seats.items (length c.args.self.now.rooms.items) c.args.heap c.index_mut.result.now c.take.result (Some c.in-Some.seat) c.requires.pass.seats c.requires.heap c.index_mut.ensures.value c.take.ensures.value c.in-Some.is in
     sym (ap seen_in there)
 
+pub returns-clause-turns : goal.returns-clause-turns
+returns-clause-turns c =
+    let there : slice_get c.args.pass.now.seats.items c.args.heap ≡ Some (Some c.in-Some.seat) =
+    taken_at c.args.pass.now.seats.items (length c.args.self.now.rooms.items) c.args.heap c.index_mut.result.now c.take.result (Some c.in-Some.seat) c.requires.pass.seats c.requires.heap c.index_mut.ensures.value c.take.ensures.value c.in-Some.is in
+    sym (ap turns_in there)
+
 pub returns-clause-stays : goal.returns-clause-stays
 returns-clause-stays c = record {
   stamp = refl;
   steps = λ k. refl;
   others = λ k other. ap seen_in (slice_get-set_other c.args.pass.now.seats.items c.args.heap k c.take.new.self other);
+  turns = λ k other. ap turns_in (slice_get-set_other c.args.pass.now.seats.items c.args.heap k c.take.new.self other);
 }

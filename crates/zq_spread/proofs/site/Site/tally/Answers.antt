@@ -6,11 +6,13 @@ use Rattle.std.specs.Prelude.{All, IfSome, List, Some, refl, sum, ℕ, ◌+◌, 
 use Rattle.zq_spread.proofs.Companies.{all_back, all_same, back_but, back_but_same, follows_of, held_of, same_but_then, same_itself, same_sum, tallied_follows}
 use Rattle.zq_spread.proofs.Places.{zip_length}
 use Rattle.zq_spread.proofs.Seats.{seen_later}
+use Rattle.zq_spread.proofs.LeftAsGiven.{held_once, none_held, turn_of}
 use Rattle.zq_spread.proofs.site.Site.tally.Goals as goal
 use Rattle.zq_spread.specs.Companies.{HasSeenAll, IsCountBack, IsSeenByFirst, opening_at, opening_of, steps_of_all}
 use Rattle.zq_spread.specs.Kept.{Follows, follows_further}
 use Rattle.zq_spread.specs.Passes.{IsPassOf, IsSeatOf, IsSeenLater, seen_at, steps_at}
 use Rattle.zq_spread.specs.Rooms.{IsOf}
+use Rattle.zq_spread.specs.Turns.{HasTurn, IsLeftAsGiven, turns_at}
 use Rattle.zq_spread.specs.Worn.{reached_at}
 use Rattle.zq_spread.specs.declared.kept.Kept.{Kept}
 use Rattle.zq_spread.specs.declared.pass.Pass.{Pass}
@@ -19,6 +21,7 @@ use Rattle.zq_tally.specs.Words.{IsSameTotal, kept_of, parts_of, passes_of, tota
 use Rattle.zq_tally.specs.declared.view.TheConstants.{PARTS}
 use Rattle.zq_ticketlock.specs.Steps.{FollowsSeen}
 use Rattle.zq_ticketlock.specs.Limits.{last_ticket}
+use Rattle.zq_ticketlock.specs.Seats.{given, held_logged, logged}
 
 pub gather-requires-clause-own : goal.gather-requires-clause-own
 gather-requires-clause-own g c =
@@ -124,12 +127,21 @@ returns-in-Ok-clause-stays g c =
     let seen_was : seen_at first h ≡ Some held.0 = sym c.take_seat-seat.ensures.seen ∙ held.1 in
     let follow : IsSeenLater (seen_at c.put_seat.new.pass h) (seen_at first h) =
     subst (λ o. IsSeenLater o (seen_at first h)) (sym seen_now) (subst (λ o. FollowsSeen Follows now o) (sym seen_was) (follows_further now value held.0 later held.2)) in
+    let held_here = c.in-Ok.held in
+    let turn : HasTurn value now (logged c.unlock-seat.result) (held_logged held_here) =
+    turn_of (given held_here) value now held_here.ticket (logged c.unlock-seat.result) (held_logged held_here) c.in-Ok.ensures.given c.unlock-seat.ensures.logged in
+    let before : held_logged held_here ≡ turns_at first h = c.in-Ok.ensures.logged ∙ c.take_seat-seat.ensures.turns in
+    let left : IsLeftAsGiven (turns_at c.put_seat.new.pass h) (turns_at first h) =
+    held_once value now (turns_at c.put_seat.new.pass h) (turns_at first h)
+    (subst (λ l. HasTurn value now (turns_at c.put_seat.new.pass h) l) before (subst (λ l. HasTurn value now l (held_logged held_here)) (sym c.put_seat.ensures.turns) turn))
+    (ap (λ (v : Kept). v.book) c.value_mut.ensures.value) in
     let there : IsSeenByFirst h (first ∷ others) (c.put_seat.new.pass ∷ back) = (
       same_but_then h first c.gather.new.first c.put_seat.new.pass
           (same_but_then h first c.take_seat-seat.new.pass c.gather.new.first c.take_seat-seat.ensures.stays (back_but_same room h c.take_seat-seat.new.pass c.gather.new.first c.gather.ensures.first))
           c.put_seat.ensures.stays,
       follow,
       all_same room h others back c.gather.ensures.others,
+      left,
     ) in
     subst (λ k. IsSeenByFirst k c.args.passes.now (c.put_seat.new.pass ∷ back)) c.from-heap.ensures (subst (λ l. IsSeenByFirst h l (c.put_seat.new.pass ∷ back)) (sym c.in-Some.ensures.cases.0) there)
 
@@ -180,10 +192,12 @@ returns-in-Err-clause-stays g c =
     let others : List Pass = c.in-Some.others.now in
     let new : Pass = c.put_seat-in-Err.new.pass in
     let seen_is : seen_at new h ≡ seen_at first h = c.put_seat-in-Err.ensures.seen ∙ c.in-Err.ensures.worn.1 ∙ c.take_seat-seat.ensures.seen in
+    let turns : turns_at new h ≡ turns_at first h = c.put_seat-in-Err.ensures.turns ∙ c.in-Err.ensures.worn_logged ∙ c.take_seat-seat.ensures.turns in
     let there : IsSeenByFirst h (first ∷ others) (new ∷ others) = (
       same_but_then h first c.take_seat-seat.new.pass new c.take_seat-seat.ensures.stays c.put_seat-in-Err.ensures.stays,
       subst (λ o. IsSeenLater o (seen_at first h)) (sym seen_is) (seen_later (seen_at first h)),
       same_itself others,
+      subst (λ l. IsLeftAsGiven l (turns_at first h)) (sym turns) (none_held (turns_at first h)),
     ) in
     subst (λ k. IsSeenByFirst k c.args.passes.now (new ∷ others)) c.from-heap.ensures (subst (λ l. IsSeenByFirst h l (new ∷ others)) (sym c.in-Some.ensures.cases.0) there)
 

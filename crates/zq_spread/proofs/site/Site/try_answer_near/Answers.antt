@@ -1,11 +1,13 @@
-use Rattle.std.proofs.Common.{false, inl, inr, map, refl, subst, sym, true, ◌≡◌}
+use Rattle.std.proofs.Common.{false, inl, inr, map, subst, sym, true, ◌≡◌}
 use Rattle.std.proofs.lemmas.Result.{IfOk-weaker, on_err_weaker}
 use Rattle.zq_dots.specs.Rule.{rule_of}
 use Rattle.zq_resp.specs.Reply.{reply_bytes}
-use Rattle.zq_spread.proofs.Called.{near_after, worn_before}
+use Rattle.zq_spread.proofs.Called.{busy_among, busy_before, near_after}
 use Rattle.zq_spread.proofs.site.Site.try_answer_near.Goals as goal
-use Rattle.zq_spread.specs.Dispatch.{HasNear}
+use Rattle.zq_spread.specs.Dispatch.{HasNear, all_heaps}
+use Rattle.zq_spread.specs.Worn.{IsStopOf}
 use Rattle.zq_spread.specs.declared.kept.Kept.{Kept}
+use Rattle.zq_spread.specs.declared.sought.Stop.TheVariants as stop
 
 differ : false ≡ true → ⊥
 differ e = cc
@@ -30,12 +32,20 @@ returns-in-Ok-clause-called c =
 pub returns-in-Err-Nothing-clause-called : goal.returns-in-Err-Nothing-clause-called
 returns-in-Err-Nothing-clause-called c =
     let site = c.args.self.now in
+    let why : IsStopOf c.args.pass.now.stamp false c.args.drawn.now c.args.key.now c.args.pass.now c.try_call_in.new.pass stop.Nothing = subst (IsStopOf c.args.pass.now.stamp false c.args.drawn.now c.args.key.now c.args.pass.now c.try_call_in.new.pass) c.in-Err-Nothing.field-0-is c.in-Err-Nothing.ensures.why in
     IfOk-weaker c.try_answer_all.result _ _
-    (λ reply called. near_after site c.args.pass.now c.try_call_in.new.pass c.requires.pass c.in-Err-Nothing.ensures.pass c.in-Err-Nothing.ensures.stopped c.args.command.now (reply_bytes reply) c.try_answer_all.new.pass c.args.drawn.now
-    c.try_answer_all.ensures.pass called) c.try_answer_all.ensures.called
+    (λ reply called. near_after site c.args.pass.now c.try_call_in.new.pass c.requires.pass c.in-Err-Nothing.ensures.pass c.in-Err-Nothing.ensures.stopped c.args.command.now c.args.key.now (reply_bytes reply)
+    c.try_answer_all.new.pass c.args.drawn.now c.requires.near c.requires.drawn c.try_answer_all.ensures.pass why.1 called) c.try_answer_all.ensures.called
+
+pub returns-in-Err-Worn-clause-called : goal.returns-in-Err-Worn-clause-called
+returns-in-Err-Worn-clause-called c = inr (inr (inl (inl (c.worn.ensures.bytes, (c.in-Err-Worn.ensures.stopped, subst (IsStopOf c.args.pass.now.stamp false c.args.drawn.now c.args.key.now c.args.pass.now c.try_call_in.new.pass) c.in-Err-Worn.field-0-is c.in-Err-Worn.ensures.why)))))
+
+pub returns-in-Err-Busy-clause-busy : goal.returns-in-Err-Busy-clause-busy
+returns-in-Err-Busy-clause-busy c = (c.in-Err-Busy.ensures.stopped, busy_among c.args.self.now c.args.drawn.now c.try_call_in.new.pass c.requires.drawn (subst (IsStopOf c.args.pass.now.stamp false c.args.drawn.now c.args.key.now c.args.pass.now c.try_call_in.new.pass) c.in-Err-Busy.field-0-is c.in-Err-Busy.ensures.why))
 
 pub returns-in-Err-Nothing-clause-busy : goal.returns-in-Err-Nothing-clause-busy
 returns-in-Err-Nothing-clause-busy c =
     on_err_weaker c.try_answer_all.result
-    (λ stopped. (worn_before c.args.self.now c.args.pass.now c.try_call_in.new.pass c.requires.pass c.in-Err-Nothing.ensures.pass c.in-Err-Nothing.ensures.stopped _ c.try_answer_all.new.pass c.try_answer_all.ensures.pass (refl, stopped)).1)
+    (λ busy. busy_before c.args.self.now c.args.pass.now c.try_call_in.new.pass c.requires.pass c.in-Err-Nothing.ensures.pass c.in-Err-Nothing.ensures.stopped (all_heaps c.args.self.now) c.try_answer_all.new.pass
+    c.try_answer_all.ensures.pass busy)
     c.try_answer_all.ensures.busy

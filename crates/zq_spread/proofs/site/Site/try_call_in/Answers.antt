@@ -24,6 +24,7 @@ returns-in-Ok-clause-called c =
         | inr has ↦ inr (subst (λ found. HasQueued (rule_of c.args.self.now.rule) c.args.key.now (map (λ (x : Kept). x.book) found)) (sym over.1)
             (queued_found c.args.self.now c.requires.pass.rooms c.args.pass.now c.in-Ok.stamp c.args.heaps.now c.args.key.now helds begun.found begun.each has))
       ],
+      over.2,
     )
 
 pub returns-in-Err-clause-pass : goal.returns-in-Err-clause-pass

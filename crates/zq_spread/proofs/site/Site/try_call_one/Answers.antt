@@ -47,7 +47,7 @@ returns-in-Ok-clause-called c =
     let works = λ (a : Book) (begun : IsWorked held.value.book a c.in-Ok.stamp []).
     c.answer-reply.ensures.worked a (subst (λ (v : Kept). IsWorked v.book a c.in-Ok.stamp []) (sym c.value_mut.ensures.value) begun) in
     let call : IsCall (IsAnswered c.value_mut.result.now.book.rule c.args.self.now.number c.in-Ok.stamp c.args.command.now (reply_bytes c.answer-reply.result)) c.args.pass.now c.end_in.new.pass (heap ∷ []) =
-    called_in (IsAnswered c.value_mut.result.now.book.rule c.args.self.now.number c.in-Ok.stamp c.args.command.now (reply_bytes c.answer-reply.result)) c.args.self.now c.args.pass.now c.try_begin_in.new.pass c.end_in.new.pass heap c.in-Ok.stamp held c.answer-reply.new.self within c.was_given.ensures c.in-Ok.ensures.begun works c.end_in.ensures.stamp c.end_in.ensures.seen c.end_in.ensures.steps c.in-Ok.ensures.others c.in-Ok.ensures.steps c.end_in.ensures.others in
+    called_in (IsAnswered c.value_mut.result.now.book.rule c.args.self.now.number c.in-Ok.stamp c.args.command.now (reply_bytes c.answer-reply.result)) c.args.self.now c.args.pass.now c.try_begin_in.new.pass c.end_in.new.pass heap c.in-Ok.stamp held c.answer-reply.new.self within c.was_given.ensures c.in-Ok.ensures.begun works c.end_in.ensures.stamp c.end_in.ensures.seen c.end_in.ensures.steps c.in-Ok.ensures.others c.in-Ok.ensures.steps c.end_in.ensures.others c.in-Ok.ensures.turns in
     inl (subst (λ r. IsCall (IsAnswered r c.args.self.now.number c.end_in.new.pass.stamp c.args.command.now (reply_bytes c.answer-reply.result)) c.args.pass.now c.end_in.new.pass (c.args.heap ∷ [])) rule
     (subst (λ n. IsCall (IsAnswered c.value_mut.result.now.book.rule c.args.self.now.number n c.args.command.now (reply_bytes c.answer-reply.result)) c.args.pass.now c.end_in.new.pass (c.args.heap ∷ [])) (sym c.end_in.ensures.stamp)
     (subst (λ h. IsCall (IsAnswered c.value_mut.result.now.book.rule c.args.self.now.number c.in-Ok.stamp c.args.command.now (reply_bytes c.answer-reply.result)) c.args.pass.now c.end_in.new.pass (h ∷ [])) c.from-heap.ensures call)))

@@ -3,11 +3,13 @@ use Rattle.std.proofs.lemmas.Option.{same_Some, slice_get_read}
 use Rattle.std.specs.Prelude.{IfSome, Some, length, refl, slice_get, ◌≡◌}
 use Rattle.zq_spread.proofs.Counted.{of_seen}
 use Rattle.zq_spread.proofs.ManyHeaps.{back_one, changed_back}
+use Rattle.zq_spread.proofs.Refused.{unlocked_by}
 use Rattle.zq_spread.proofs.site.Site.try_lock_in.Goals as goal
 use Rattle.zq_spread.specs.Kept.{Follows}
 use Rattle.zq_spread.specs.Rooms.{IsOf}
+use Rattle.zq_spread.specs.Worn.{IsUnlocked, reached_at}
 use Rattle.zq_spread.specs.declared.room.Room.{Room}
-use Rattle.zq_ticketlock.specs.Seats.{id_of, seen}
+use Rattle.zq_ticketlock.specs.Seats.{id_of, reached, seen, served}
 use Rattle.zq_ticketlock.specs.Steps.{FollowsSeen}
 
 pub try_lock-requires : goal.try_lock-requires
@@ -48,4 +50,13 @@ returns-in-Err-clause-outside c = changed_back c.args.heap c.args.pass.now c.sea
 pub returns-in-Err-clause-back : goal.returns-in-Err-clause-back
 returns-in-Err-clause-back c =
     back_one c.args.self.now c.args.heap c.args.pass.now c.seat_out-seat.new.pass c.seat_in.new.pass c.seat_out-seat.ensures.outside c.seat_in.ensures.outside c.seat_in.ensures.seats
-    (c.seat_in.ensures.seen ∙ c.in-Err.ensures.refused.1 ∙ c.seat_out-seat.ensures.seen)
+    (c.seat_in.ensures.seen ∙ c.in-Err.ensures.refused.1 ∙ c.seat_out-seat.ensures.seen) (c.seat_in.ensures.turns ∙ c.in-Err.ensures.refused_logged ∙ c.seat_out-seat.ensures.turns)
+
+pub returns-in-Ok-clause-turns : goal.returns-in-Ok-clause-turns
+returns-in-Ok-clause-turns c = c.in-Ok.ensures.logged ∙ c.seat_out-seat.ensures.turns
+
+pub returns-in-Err-clause-why : goal.returns-in-Err-clause-why
+returns-in-Err-clause-why c =
+    let new = c.seat_in.new.pass in
+    let why = unlocked_by c.in-Err.fault c.from.result (served c.in-Err.seat) (reached c.in-Err.seat) c.from.ensures c.in-Err.ensures.worn c.in-Err.ensures.last c.in-Err.ensures.busy in
+    subst (λ n. IsUnlocked c.from.result n (reached_at new c.args.heap)) (sym c.seat_in.ensures.served) (subst (λ n. IsUnlocked c.from.result (served c.in-Err.seat) n) (sym c.seat_in.ensures.reached) why)
