@@ -1,10 +1,10 @@
 -- A session that goes on read by read.
-use Rattle.std.proofs.Common.{◌≡◌, ◌≤◌, ℕ, ◌+◌, Option, Some, None, List, [], ◌∷◌, ◌++◌, length, map, Result, Ok, Err, inl, inr, refl, sym, ap, subst, ◌∙◌, append_assoc, append-nil}
+use Rattle.std.proofs.Common.{◌≡◌, ◌≤◌, ℕ, Option, Some, None, List, [], ◌∷◌, ◌++◌, length, map, Result, Ok, Err, inl, inr, refl, sym, ap, subst, ◌∙◌, append_assoc, append-nil}
 use Rattle.std.specs.Io.KnownBytes.{Appends, Consumes}
 use Rattle.zq_resp.specs.Reply.{joined}
 use Rattle.zq_server.proofs.Served.{Stands, breaks-off, goes-no-further, serves-nothing, serves-so-far, serves-to-end, stands-first, stands-on}
 use Rattle.zq_server.proofs.Talks.{heard-append, heard-turn, said-append, said-turn, read-write-did, read-write-ended, talks-join, with_turn}
-use Rattle.zq_server.specs.Conversation.{EndsBy, InTime, IsConversation, IsPaid, IsTalk}
+use Rattle.zq_server.specs.Conversation.{InTime, IsConversation, IsPaid, IsTalk}
 use Rattle.zq_server.specs.Serving.{EndsWith, ServesPiece}
 use Rattle.zq_server.specs.Session.{IsReadOff, Relation, Serves}
 use Rattle.zq_server.specs.Steps.{Does, Failed, Heard, Said, Says, Step, ReadsAndWrites, Talks, heard, reads, said}

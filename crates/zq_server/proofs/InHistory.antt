@@ -13,7 +13,7 @@ use Rattle.zq_runs.specs.Reading.{answer_of, answer_over, heaps_in, queues_over}
 use Rattle.zq_resp.specs.Reply.{reply_bytes}
 use Rattle.zq_resp.specs.Stream.{Requests}
 use Rattle.zq_resp.specs.declared.reply.Reply.{Reply}
-use Rattle.zq_server.specs.Calls.{Stands, StandsBy, noted, refused, unheld}
+use Rattle.zq_server.specs.Calls.{GoesOn, Stands, StandsBy, noted, refused, unheld}
 use Rattle.zq_server.specs.Passing.{AnswersByCall, Passed, PassesReading, words_for}
 use Rattle.zq_server.specs.Session.{Runs}
 use Rattle.zq_spread.specs.Dispatch.{IsCalled}
@@ -26,19 +26,19 @@ use Rattle.zq_words.specs.Words.{Word}
 abbrev pub AreNoted : Type 0
 AreNoted =
     (site : Site) (p : ℕ) (before after : Pass) (command : Command) (w1 w2 : ℕ) (reply : Word) → IsCalled site command w1 w2 reply before after →
-    HasNote site p before after (ToRun command w1 w2) (Replied reply) ⊎ HeldNone site command reply before after
+    HasNote site p before after (ToRun command w1 w2) (Replied reply) ⊎ HeldNone site command w1 w2 reply before after
 
 module _ (leaves : AreNoted) (p : ℕ) (old new : Passed) (bytes : Word) where
-  called : (command : Command) → HasNote old.site p old.pass new.pass (ToRun command (words_for command old.draws).0 (words_for command old.draws).1) (Replied bytes) ⊎
-      HeldNone old.site command bytes old.pass new.pass → Stands p old (Ok command) bytes new
-  called command (inl has) =
+  called : (command : Command) → GoesOn old command new → HasNote old.site p old.pass new.pass (ToRun command (words_for command old.draws).0 (words_for command old.draws).1) (Replied bytes) ⊎
+      HeldNone old.site command (words_for command old.draws).0 (words_for command old.draws).1 bytes old.pass new.pass → Stands p old (Ok command) bytes new
+  called command on (inl has) =
       noted command refl (record { before = old.pass; after = new.pass; note = has.0 }) has.2
-      (record { before = refl; after = refl; is = has.1; asked = has.3; answer = has.4 })
-  called command (inr held) = unheld command refl held
+      (record { on = on; before = refl; after = refl; is = has.1; asked = has.3; answer = has.4 })
+  called command on (inr held) = unheld command refl on held
 
   pub stands : (reading : Reading) → PassesReading old reading new bytes → Stands p old reading bytes new
   stands (Ok command) (inl passed) =
-      called command (leaves old.site p old.pass new.pass command (words_for command old.draws).0 (words_for command old.draws).1 bytes passed.called)
+      called command (record { site = passed.site; draws = passed.draws }) (leaves old.site p old.pass new.pass command (words_for command old.draws).0 (words_for command old.draws).1 bytes passed.called)
   stands (Ok command) (inr is) = refused is.0 is.1
   stands (Err why) is = refused is.0 is.1
 

@@ -1,5 +1,5 @@
 -- What a session has served, with one more piece.
-use Rattle.std.proofs.Common.{◌≡◌, List, ℕ, [], ◌++◌, Option, None, Some, Result, Ok, Err, sym, ap, subst, ◌∙◌, append_assoc, append-nil, refl, ◌≤◌, length, arith, inl, inr, take, drop, take-append-drop}
+use Rattle.std.proofs.Common.{◌≡◌, List, ℕ, [], ◌++◌, Option, None, Some, Result, Ok, Err, sym, ap, subst, ◌∙◌, append_assoc, append-nil, refl, ◌≤◌, length, inl, inr, take, drop, take-append-drop}
 use Rattle.zq_resp.specs.Front.{Part}
 use Rattle.zq_resp.specs.Grammar.{request_at}
 use Rattle.zq_resp.specs.Stream.{Breaks, Feeds, Reaches, Requests, Splits, Stops, handed}
@@ -14,7 +14,7 @@ use Rattle.zq_server.specs.declared.outcome.SessionFault.{SessionFault}
 use Rattle.zq_server.specs.declared.outcome.SessionFault.TheVariants as stop
 use Rattle.zq_server.specs.Session.{Relation, IsAnswered, IsBegun, IsClosed, IsOwed, IsStopped, IsWanting, Serves, closing}
 use Rattle.zq_server.specs.Serving.{AnswersAll, EndsWith, ServesLast, ServesPiece}
-use Rattle.zq_server.proofs.Runs.{answered-none, answered-join, begun-whole, stopped-join, stopped-whole, stopped-begun}
+use Rattle.zq_server.proofs.Runs.{answered-none, answered-join, begun-whole, stopped-join, stopped-begun}
 use Rattle.zq_server.proofs.Streams.{reaches-more, reaches-on, splits-on, breaks-on, splits-none, handed-append}
 
 module _ {S : Type 0} (answers : Relation S) where

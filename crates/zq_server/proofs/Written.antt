@@ -1,5 +1,5 @@
 -- What a piece is answered with, once what is gathered is written too.
-use Rattle.std.proofs.Common.{◌≡◌, List, ℕ, [], ◌++◌, Option, Result, Ok, Err, append-nil, drop, sym, take, take-append-drop}
+use Rattle.std.proofs.Common.{List, ℕ, [], ◌++◌, Option, Result, Ok, Err, append-nil, drop, sym, take, take-append-drop}
 use Rattle.zq_server.proofs.GatheredBytes.{all-written, front-written, puts-cut}
 use Rattle.zq_server.proofs.Served.{owed-written}
 use Rattle.zq_server.specs.Gathering.{Puts, held}

@@ -1,13 +1,12 @@
-use Rattle.std.proofs.Common.{[], subst, ◌∷◌}
+use Rattle.std.proofs.Common.{[], subst, sym, ◌∷◌}
 use Rattle.zq_dots.specs.Rule.{rule_of}
 use Rattle.zq_model.proofs.Worlds.{world_part}
 use Rattle.zq_notes.specs.Calls.{notes_of}
 use Rattle.zq_notes.specs.Gathered.{gathered}
-use Rattle.zq_notes.specs.Readings.{IsOrShort, is_list}
 use Rattle.zq_notes.specs.Sites.{has_at, made_of}
-use Rattle.zq_runs.specs.Reading.{answer_over, heaps_in, queues_over}
 use Rattle.zq_resp.specs.Reply.{reply_bytes}
 use Rattle.zq_server.proofs.InHistory.{all_stand, answered_so, run_off, stands}
+use Rattle.zq_server.specs.Calls.{IsAnsweredBy}
 use Rattle.zq_server.specs.Passing.{words_for}
 use Rattle.zq_spread.specs.Calls.{heaps_of}
 use Rattle.zq_words.specs.Command.{command_of}
@@ -34,23 +33,23 @@ returns-clause-reads c = λ W opening before call after old new words command by
 
 pub returns-clause-linked : goal.returns-clause-linked
 returns-clause-linked c = λ rule K sites events before e after old new words command bytes two are at question read is.
+    let links = c.linking.ensures.links rule K sites events two are in
     let S = has_at (made_of events) e.site before in
-    let off = c.linking.ensures.answers rule K sites events two are before e after at in
+    let off = links.answers before e after at in
     let runs = run_off rule K e.site S (words_for command old.draws).0 (words_for command old.draws).1 command bytes e.call.note is.asked is.answer off in
     let reads = c.asking.ensures.reads words command question read in
     answered_so rule K S words command bytes read
     (c.reading_notes.ensures.asks rule K S (words_for command old.draws).0 (words_for command old.draws).1 command runs.0 bytes two
-    (world_part K S (made_of events) (c.linking.ensures.within rule K sites events two are e.site before (e ∷ after) at) (c.linking.ensures.world rule K sites events two are)) reads runs.1)
+    (world_part K S (made_of events) (links.within e.site before (e ∷ after) at) links.world) reads runs.1)
 
 pub returns-clause-converging : goal.returns-clause-converging
 returns-clause-converging c = λ rule K sites events one other words two are question is_one is_other same.
+    let links = c.linking.ensures.links rule K sites events two are in
     let W = made_of events in
     let S = has_at W one.event.site one.before in
     let T = has_at W other.event.site other.before in
-    let world = c.linking.ensures.world rule K sites events two are in
-    let inside = c.linking.ensures.within rule K sites events two are one.event.site one.before (one.event ∷ one.after) is_one.at in (
-      queues_over rule T (heaps_in K),
-      subst (λ q. IsOrShort (is_list q (command_of words)) (answer_over q (command_of words)) one.bytes) (c.reading_notes.ensures.alike rule K W S T world inside same)
-          (returns-clause-linked c rule K sites events one.before one.event one.after one.old one.new words one.command one.bytes two are is_one.at question is_one.read is_one.call),
-      returns-clause-linked c rule K sites events other.before other.event other.after other.old other.new words other.command other.bytes two are is_other.at question is_other.read is_other.call,
+    let inside = links.within one.event.site one.before (one.event ∷ one.after) is_one.at in (
+      returns-clause-linked c rule K sites events one.before one.event one.after one.old one.new words one.command one.bytes two are is_one.at question is_one.read is_one.call,
+      subst (λ q. IsAnsweredBy q words other.bytes) (sym (c.reading_notes.ensures.alike rule K W S T links.world inside same))
+          (returns-clause-linked c rule K sites events other.before other.event other.after other.old other.new words other.command other.bytes two are is_other.at question is_other.read is_other.call),
     )

@@ -1,4 +1,4 @@
-use Rattle.std.proofs.Common.{◌≡◌, ◌≤◌, ◌+◌, [], Err, length, take, refl, arith}
+use Rattle.std.proofs.Common.{◌≡◌, ◌≤◌, [], Err, length, take, refl, arith}
 use Rattle.std.proofs.lemmas.List.{length-take}
 use Rattle.std.proofs.lemmas.Result.{err_from_is_err_and}
 use Rattle.zq_server.specs.declared.outcome.SessionFault.TheVariants as stop
