@@ -9,32 +9,36 @@ use Rattle.std.specs.declared.alloc.Global.{Global}
 use Rattle.std.specs.declared.vec.Vec.{Vec}
 use Rattle.zq_drill.specs.Listed.{AreListed, IsListed}
 use Rattle.zq_drill.specs.Lists.{listed, lists_of}
-use Rattle.zq_drill.specs.Posts.{site_of}
+use Rattle.zq_drill.specs.Posts.{Place, place_of, places_of, site_of}
 use Rattle.zq_drill.specs.declared.post.Post.{Post}
 use Rattle.zq_model.specs.Meaning.{Scored, scored_cmp}
 use Rattle.zq_spread.specs.declared.pass.Pass.{Pass}
 
 -- there are as many as posts
-pub listed_number : (posts : List Post) (lists : List (List Scored)) → AreListed posts lists → length lists ≡ length posts
+pub listed_number : (places : List Place) (lists : List (List Scored)) → AreListed places lists → length lists ≡ length places
 listed_number [] [] is = omega arith
 listed_number [] (list ∷ lists) is = absurd is
-listed_number (post ∷ posts) [] is = absurd is
-listed_number (post ∷ posts) (list ∷ lists) is = omega (arith, listed_number posts lists is.2)
+listed_number (place ∷ places) [] is = absurd is
+listed_number (place ∷ places) (list ∷ lists) is = omega (arith, listed_number places lists is.2)
 
 -- each is sorted
-pub listed_sorted : (posts : List Post) (lists : List (List Scored)) → AreListed posts lists → All (IsSorted scored_cmp) lists
+pub listed_sorted : (places : List Place) (lists : List (List Scored)) → AreListed places lists → All (IsSorted scored_cmp) lists
 listed_sorted [] [] is = λ k d high. absurd (omega (arith, high))
 listed_sorted [] (list ∷ lists) is = absurd is
-listed_sorted (post ∷ posts) [] is = absurd is
-listed_sorted (post ∷ posts) (list ∷ lists) is = All-cons (IsSorted scored_cmp) list lists is.1.sorted (listed_sorted posts lists is.2)
+listed_sorted (place ∷ places) [] is = absurd is
+listed_sorted (place ∷ places) (list ∷ lists) is = All-cons (IsSorted scored_cmp) list lists is.1.sorted (listed_sorted places lists is.2)
 
 -- a list is listed before the others
-pub listed_next : (post : Post) (others posts : List Post) (list : List Scored) (lists : List (List Scored)) (after : Pass) → IsFirstAndRest posts post others → IsListed (site_of post) post.pass after list → AreListed others lists → AreListed posts (list ∷ lists)
-listed_next post others posts list lists after is one rest = subst (λ (ps : List Post). AreListed ps (list ∷ lists)) (sym is.0) (after, one, rest)
+pub listed_next : (post : Post) (others posts : List Post) (list : List Scored) (lists : List (List Scored)) (after : Pass) → IsFirstAndRest posts post others → IsListed (site_of post) post.pass after list → AreListed (places_of others) lists → AreListed (places_of posts) (list ∷ lists)
+listed_next post others posts list lists after is one rest = subst (λ (ps : List Post). AreListed (places_of ps) (list ∷ lists)) (sym is.0) (after, one, rest)
 
 -- what is appended one by one is appended together
 pub appended : {A : Type 0} (old mid new : List A) (x : A) (xs : List A) → mid ≡ old ++ (x ∷ []) → new ≡ mid ++ xs → new ≡ old ++ (x ∷ xs)
 appended old mid new x xs first then = then ∙ (ap (λ ys. ys ++ xs) first ∙ append_assoc old (x ∷ []) xs)
+
+-- there are as many places as posts
+pub places_number : (posts : List Post) → length (places_of posts) ≡ length posts
+places_number posts = length-map posts place_of
 
 -- there are as many as vectors
 pub lists_number : (lists : List (Vec (ℤ × Vec ℕ Global) Global)) → length (lists_of lists) ≡ length lists

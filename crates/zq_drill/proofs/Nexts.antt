@@ -8,7 +8,7 @@ use Rattle.zq_shard.specs.Shard.{HeapImage}
 use Rattle.zq_spread.specs.declared.pass.Pass.{Pass}
 use Rattle.zq_spread.specs.declared.site.Site.{Site}
 
-next : (n : ℕ) → suc n ≡ n + 1
+pub next : (n : ℕ) → suc n ≡ n + 1
 next n = omega arith
 
 -- is handed over after the others

@@ -1,5 +1,7 @@
 pub mod Draws
 pub mod Faults
+pub mod Gathered
+pub mod Limits
 pub mod Listed
 pub mod Lists
 pub mod Meetings

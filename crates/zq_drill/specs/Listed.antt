@@ -2,9 +2,9 @@
 
 use Rattle.std.specs.List.Sorted.{IsPermutation, IsSorted}
 use Rattle.std.specs.Prelude.{List, [], codes, suc, zero, ℕ, ◌++◌, ◌∷◌, ◌≡◌}
-use Rattle.zq_drill.specs.Posts.{site_of}
-use Rattle.zq_drill.specs.declared.post.Post.{Post}
-use Rattle.zq_drill.specs.declared.station.TheConstants.{HEAPS}
+use Rattle.zq_drill.specs.Limits.{heap_count}
+use Rattle.zq_drill.specs.Meetings.{AreMeetings, round}
+use Rattle.zq_drill.specs.Posts.{Place, numbers_of}
 use Rattle.zq_model.specs.Meaning.{Scored, scored_cmp}
 use Rattle.zq_node.specs.Calls.{Copied, IsCalled}
 use Rattle.zq_shard.specs.Shard.{HeapImage, queue_at}
@@ -25,12 +25,20 @@ members_of (image ∷ images) = members_of images ++ queue_at image (codes "q")
 -- the list has what copies of all heaps have in the key q, by score and then by bytes
 pub record IsListed (site : Site) (before after : Pass) (list : List Scored) : Type 0 where
   pub images : List HeapImage
-  pub copied : AreCopied site before after HEAPS images
+  pub copied : AreCopied site before after heap_count images
   pub same : IsPermutation (members_of images) list
   pub sorted : IsSorted scored_cmp list
 
--- each list is what was listed at the post of its place
-abbrev pub AreListed : List Post → List (List Scored) → Type 0
+-- each list is what was listed at its place
+abbrev pub AreListed : List Place → List (List Scored) → Type 0
 AreListed [] [] = Unit {0}
-AreListed (post ∷ posts) (list ∷ lists) = (after : Pass) × IsListed (site_of post) post.pass after list × AreListed posts lists
-AreListed posts lists = ⊥
+AreListed (place ∷ places) (list ∷ lists) = (after : Pass) × IsListed place.site place.pass after list × AreListed places lists
+AreListed places lists = ⊥
+
+-- three sites met twice over, and then each was listed
+pub record AreOfSites (lists : List (List Scored)) : Type 0 where
+  pub opened : List Place
+  pub met : List Place
+  pub numbers : numbers_of opened ≡ 0 ∷ 1 ∷ 2 ∷ []
+  pub exchanged : AreMeetings (round ++ round) opened met
+  pub listed : AreListed met lists

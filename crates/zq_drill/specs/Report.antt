@@ -3,6 +3,8 @@
 use Rattle.std.specs.Fmt.{signed_decimal}
 use Rattle.std.specs.List.Sorted.{IsSorted}
 use Rattle.std.specs.Prelude.{All, Bool, IsTrue, List, [], codes, decimal, flat_map, if◌then◌else◌, length, ℕ, ◌++◌, ◌+◌, ◌∷◌, ◌↔◌, ◌≡◌}
+use Rattle.zq_drill.specs.Limits.{site_count}
+use Rattle.zq_drill.specs.Listed.{AreOfSites}
 use Rattle.zq_model.specs.Meaning.{Scored, scored_cmp}
 
 -- the line of a member: its score, a space, its bytes
@@ -28,8 +30,9 @@ AreAlike [] = Unit {0}
 AreAlike (list ∷ []) = Unit {0}
 AreAlike (one ∷ (other ∷ lists)) = (one ≡ other) × AreAlike (other ∷ lists)
 
--- three lists, each by score and then by bytes, and whether all are the same
+-- the lists of three sites that met, each by score and then by bytes, and whether all are the same
 pub record IsOutcome (lists : List (List Scored)) (equal : Bool) : Type 0 where
-  pub number : length lists ≡ 3
+  pub number : length lists ≡ site_count
   pub sorted : All (IsSorted scored_cmp) lists
   pub equal_is : IsTrue equal ↔ AreAlike lists
+  pub sites : AreOfSites lists

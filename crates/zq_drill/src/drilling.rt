@@ -1,10 +1,12 @@
 //! A drill.
 
 ghost use Rattle.std.specs.Io.KnownBytes.{Appends};
-ghost use Rattle.std.specs.Prelude.{[], ◌≡◌, ◌++◌, ◌∷◌, IfOk, List, OnOk, length, map};
+ghost use Rattle.std.specs.Prelude.{[], ◌≡◌, ◌++◌, ◌↔◌, ◌∷◌, IfOk, IsTrue, List, OnOk, length, map};
+ghost use Rattle.zq_drill.specs.Limits.{site_count};
 ghost use Rattle.zq_drill.specs.Listed.{AreListed};
 ghost use Rattle.zq_drill.specs.Lists.{listed, lists_of};
-ghost use Rattle.zq_drill.specs.Report.{IsOutcome, report};
+ghost use Rattle.zq_drill.specs.Posts.{places_of};
+ghost use Rattle.zq_drill.specs.Report.{AreAlike, IsOutcome, report};
 ghost use Rattle.zq_model.specs.Meaning.{Scored as Scoreds};
 
 use crate::exchange::exchange_twice;
@@ -14,7 +16,6 @@ use crate::opening::{Posts, open_all};
 use crate::post::Post;
 use crate::report::write_report;
 use crate::running::{Plan, run_all};
-use crate::station::SITES;
 use std::alloc::{AllocError, Global};
 use std::io::Write;
 use std::sync::Wait;
@@ -35,7 +36,7 @@ fn list_each<R: Wait>(
     posts: &mut [Post],
     lists: &mut Vec<Vec<Scored>>,
 ) -> Result<(), DrillFault>
-    ensures { OnOk result ((added : List (List Scoreds)) × (lists_of lists.new.items ≡ lists_of lists.old.items ++ added) × AreListed posts.old added) }
+    ensures { OnOk result ((added : List (List Scoreds)) × (lists_of lists.new.items ≡ lists_of lists.old.items ++ added) × AreListed (places_of posts.old) added) }
 {
     let Some((post, others)) = posts.split_first_mut() else {
         return Ok(());
@@ -52,7 +53,7 @@ fn list_sites<R: Wait>(
     alloc: Global,
     posts: &mut [Post],
 ) -> Result<Vec<Vec<Scored>>, DrillFault>
-    ensures { IfOk result (λ lists. AreListed posts.old (lists_of lists.items)) }
+    ensures { IfOk result (λ lists. AreListed (places_of posts.old) (lists_of lists.items)) }
 {
     let mut lists = Vec::new(alloc);
     list_each(rt, alloc, posts, &mut lists)?;
@@ -66,9 +67,10 @@ fn finish<R: Wait, W: Write>(
     posts: &mut [Post],
     out: &mut W,
 ) -> Result<bool, DrillFault>
-    requires { length posts.old ≡ SITES }
+    requires { length posts.old ≡ site_count }
     ensures { IfOk result (λ equal. (lists : List (List Scoreds))
-        × IsOutcome lists equal
+        × AreListed (places_of posts.old) lists
+        × (IsTrue equal ↔ AreAlike lists)
         × Appends (W.contents out.old) (W.contents out.new) (report lists equal)) }
 {
     let lists = list_sites(rt, alloc, posts)?;

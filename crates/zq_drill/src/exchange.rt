@@ -1,8 +1,9 @@
 //! How the sites of a drill come to have the same.
 
-ghost use Rattle.std.specs.Prelude.{◌≡◌, ◌≢◌, ◌<◌, ◌≤◌, IfErr, IfOk, OnOk, length};
-ghost use Rattle.zq_drill.specs.Meetings.{AreHandedOver, IsHandedOver};
-ghost use Rattle.zq_drill.specs.Posts.{site_of};
+ghost use Rattle.std.specs.Prelude.{◌≡◌, ◌++◌, ◌<◌, ◌≤◌, IfErr, IfOk, OnOk, length};
+ghost use Rattle.zq_drill.specs.Limits.{heap_count, site_count};
+ghost use Rattle.zq_drill.specs.Meetings.{AreHandedOver, AreMeetings, IsHandedOver, pair_of, round, to_each, to_one};
+ghost use Rattle.zq_drill.specs.Posts.{places_of, site_of};
 
 use crate::fault::DrillFault;
 use crate::post::Post;
@@ -33,7 +34,7 @@ fn hand_over<R: Wait>(
     receiver: &mut Post,
     heap: u8,
 ) -> Result<(), DrillFault>
-    requires { heap < HEAPS }
+    requires { heap < heap_count }
     ensures sender { sender.new.station ≡ sender.old.station }
     ensures receiver { receiver.new.station ≡ receiver.old.station }
     ensures handed { OnOk result (IsHandedOver (site_of sender.old) (site_of receiver.old) heap sender.old.pass sender.new.pass receiver.old.pass receiver.new.pass) }
@@ -53,7 +54,7 @@ fn hand_all<R: Wait>(
 ) -> Result<(), DrillFault>
     ensures sender { sender.new.station ≡ sender.old.station }
     ensures receiver { receiver.new.station ≡ receiver.old.station }
-    ensures handed { OnOk result (AreHandedOver (site_of sender.old) (site_of receiver.old) HEAPS sender.old.pass sender.new.pass receiver.old.pass receiver.new.pass) }
+    ensures handed { OnOk result (AreHandedOver (site_of sender.old) (site_of receiver.old) heap_count sender.old.pass sender.new.pass receiver.old.pass receiver.new.pass) }
 {
     for heap in 0..HEAPS {
         hand_over(rt, alloc, sender, receiver, heap)?;
@@ -61,7 +62,7 @@ fn hand_all<R: Wait>(
     Ok(())
 }
 
-/// Merges each heap of the sender into the receiver, which is another site.
+/// Merges each heap of the sender into the receiver. A site hands nothing to itself.
 fn meet<R: Wait>(
     rt: &R,
     alloc: Global,
@@ -71,15 +72,17 @@ fn meet<R: Wait>(
 ) -> Result<(), DrillFault>
     requires receiver { receiver < length posts.old }
     requires sender { sender < length posts.old }
-    requires others { sender ≢ receiver }
-    ensures { length posts.new ≡ length posts.old }
+    ensures len { length posts.new ≡ length posts.old }
+    ensures met { OnOk result (AreMeetings (pair_of receiver sender) (places_of posts.old) (places_of posts.new)) }
 {
     if sender < receiver {
         let (before, after) = posts.split_at_mut(receiver);
         hand_all(rt, alloc, &mut before[sender], &mut after[0])
-    } else {
+    } else if receiver < sender {
         let (before, after) = posts.split_at_mut(sender);
         hand_all(rt, alloc, &mut after[0], &mut before[receiver])
+    } else {
+        Ok(())
     }
 }
 
@@ -91,19 +94,19 @@ fn gather<R: Wait>(
     receiver: usize,
 ) -> Result<(), DrillFault>
     requires { receiver < length posts.old }
-    ensures { length posts.new ≡ length posts.old }
+    ensures len { length posts.new ≡ length posts.old }
+    ensures gathered { OnOk result (AreMeetings (to_one receiver (length posts.old)) (places_of posts.old) (places_of posts.new)) }
 {
     for sender in 0..posts.len() {
-        if sender != receiver {
-            meet(rt, alloc, posts, receiver, sender)?;
-        }
+        meet(rt, alloc, posts, receiver, sender)?;
     }
     Ok(())
 }
 
 /// Merges the heaps of all sites into every other site, in the order of the receivers' numbers.
 fn exchange_all<R: Wait>(rt: &R, alloc: Global, posts: &mut [Post]) -> Result<(), DrillFault>
-    ensures { length posts.new ≡ length posts.old }
+    ensures len { length posts.new ≡ length posts.old }
+    ensures exchanged { OnOk result (AreMeetings (to_each (length posts.old) (length posts.old)) (places_of posts.old) (places_of posts.new)) }
 {
     for receiver in 0..posts.len() {
         gather(rt, alloc, posts, receiver)?;
@@ -111,9 +114,11 @@ fn exchange_all<R: Wait>(rt: &R, alloc: Global, posts: &mut [Post]) -> Result<()
     Ok(())
 }
 
-/// Merges the heaps of all sites into every other site, twice over.
+/// Merges the heaps of the three sites into every other site, twice over.
 pub fn exchange_twice<R: Wait>(rt: &R, alloc: Global, posts: &mut [Post]) -> Result<(), DrillFault>
-    ensures { length posts.new ≡ length posts.old }
+    requires { length posts.old ≡ site_count }
+    ensures len { length posts.new ≡ length posts.old }
+    ensures exchanged { OnOk result (AreMeetings (round ++ round) (places_of posts.old) (places_of posts.new)) }
 {
     exchange_all(rt, alloc, posts)?;
     exchange_all(rt, alloc, posts)

@@ -7,6 +7,7 @@ mod draws;
 mod drilling;
 mod exchange;
 mod fault;
+pub mod laws;
 mod linking;
 mod listing;
 mod opening;

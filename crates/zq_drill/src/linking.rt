@@ -3,6 +3,7 @@
 ghost use Rattle.rand_core.specs.Pcg32Seed.{pcg32_seed};
 ghost use Rattle.rand_pcg.specs.Pcg.{pcg32_of_seed};
 ghost use Rattle.std.specs.Prelude.{◌≡◌, ◌+◌, ◌%◌, ◌^◌, [], IfOk, replicate};
+ghost use Rattle.zq_drill.specs.Limits.{site_count};
 
 use crate::post::Post;
 use crate::station::{HEAPS, SITES};
@@ -22,7 +23,7 @@ fn faulty<'a, R: Wait>(
     inboxes: &'a [Mailbox],
     seed: u64,
 ) -> Result<Lossy<Straight<'a, R>>, AllocError>
-    ensures links { IfOk result (λ lossy. lossy.links.items ≡ replicate SITES []) }
+    ensures links { IfOk result (λ lossy. lossy.links.items ≡ replicate site_count []) }
     ensures words { IfOk result (λ lossy. lossy.words ≡ pcg32_of_seed (pcg32_seed 16 ((seed + (8 + number)) % 2 ^ 64))) }
 {
     let words = seed.wrapping_add(8 + u64::from(number.value()));

@@ -3,6 +3,7 @@
 ghost use Rattle.std.specs.List.Sorted.{IsPermutation, IsSorted};
 ghost use Rattle.std.specs.Prelude.{◌≡◌, ◌++◌, IfOk, List, OnOk, codes, length, map};
 ghost use Rattle.zq_drill.specs.Listed.{AreCopied, IsListed, members_of};
+ghost use Rattle.zq_drill.specs.Limits.{heap_count};
 ghost use Rattle.zq_drill.specs.Lists.{listed};
 ghost use Rattle.zq_drill.specs.Posts.{site_of};
 ghost use Rattle.zq_model.specs.Meaning.{scored_cmp};
@@ -43,7 +44,7 @@ fn order(list: &mut Vec<Scored>) -> Result<(), AllocError>
 /// heaps.
 fn collect<R: Wait>(rt: &R, alloc: Global, post: &mut Post) -> Result<Vec<Scored>, DrillFault>
     ensures station { post.new.station ≡ post.old.station }
-    ensures collected { IfOk result (λ list. (images : List HeapImage) × AreCopied (site_of post.old) post.old.pass post.new.pass HEAPS images × (map listed list.items ≡ members_of images)) }
+    ensures collected { IfOk result (λ list. (images : List HeapImage) × AreCopied (site_of post.old) post.old.pass post.new.pass heap_count images × (map listed list.items ≡ members_of images)) }
 {
     let mut list = Vec::new(alloc);
     for heap in 0..HEAPS {

@@ -1,7 +1,10 @@
 //! The sites of a drill.
 
 ghost use Rattle.std.specs.Arc.{arc_value};
-ghost use Rattle.std.specs.Prelude.{◌≡◌, ◌<◌, ◌+◌, All, IfOk, OnOk, length};
+ghost use Rattle.std.specs.Prelude.{◌≡◌, ◌<◌, ◌++◌, ◌∷◌, [], All, IfOk, OnOk, Some, length, slice_get};
+ghost use Rattle.zq_drill.specs.Limits.{site_count};
+ghost use Rattle.zq_drill.specs.Posts.{numbers_of, places_of, site_of};
+ghost use Rattle.zq_drill.specs.declared.post.Post.{Post as Posted};
 ghost use Rattle.zq_spread.specs.Passes.{IsPassOf};
 
 use crate::fault::DrillFault;
@@ -23,9 +26,9 @@ pub struct Posts {
     pub last: Vec<Post>,
 }
 
-/// Three sites that have done nothing.
+/// Three sites that have done nothing, with the numbers 0, 1 and 2.
 pub fn open_all(alloc: Global) -> Result<Posts, DrillFault>
-    ensures { IfOk result (λ posts. length posts.last.items ≡ SITES) }
+    ensures { IfOk result (λ posts. numbers_of (places_of posts.last.items) ≡ 0 ∷ 1 ∷ 2 ∷ []) }
 {
     let mut posts = Posts {
         callers: Vec::new(alloc),
@@ -42,7 +45,7 @@ pub fn open_all(alloc: Global) -> Result<Posts, DrillFault>
 
 /// The site of this number.
 fn site_at(number: u8) -> SiteNo
-    requires { number < SITES }
+    requires { number < site_count }
     ensures { result ≡ number }
 {
     match SiteNo::new(number) {
@@ -55,7 +58,7 @@ fn site_at(number: u8) -> SiteNo
 fn open(alloc: Global, number: SiteNo) -> Result<(Arc<Station>, Vec<Pass>), DrillFault>
     ensures passes { IfOk result (λ made. length made.1.items ≡ PASSES) }
     ensures own { IfOk result (λ made. All (IsPassOf (arc_value made.0).site) made.1.items) }
-    ensures number { IfOk result (λ made. (arc_value made.0).number ≡ number) }
+    ensures number { IfOk result (λ made. (arc_value made.0).site.number ≡ number) }
 {
     let (site, passes) = match Site::new(alloc, number, HEAPS, PASSES) {
         Ok(made) => made,
@@ -69,7 +72,8 @@ fn open(alloc: Global, number: SiteNo) -> Result<(Arc<Station>, Vec<Pass>), Dril
 /// A post for each of the passes.
 fn hire(alloc: Global, station: &Arc<Station>, passes: Vec<Pass>) -> Result<Vec<Post>, AllocError>
     requires { All (IsPassOf (arc_value station.now).site) passes.items }
-    ensures { IfOk result (λ posts. length posts.items ≡ length passes.items) }
+    ensures number { IfOk result (λ posts. length posts.items ≡ length passes.items) }
+    ensures site { IfOk result (λ posts. All (λ post. site_of post ≡ (arc_value station.now).site) posts.items) }
 {
     let mut posts = Vec::new(alloc);
     for pass in passes {
@@ -85,7 +89,7 @@ fn hire(alloc: Global, station: &Arc<Station>, passes: Vec<Pass>) -> Result<Vec<
 /// Appends a site's three posts, one to each list.
 fn seat(posts: &mut Posts, mut three: Vec<Post>) -> Result<(), AllocError>
     requires { length three.items ≡ PASSES }
-    ensures { OnOk result (length posts.new.last.items ≡ length posts.old.last.items + 1) }
+    ensures { OnOk result ((last : Posted) × (slice_get three.items 0 ≡ Some last) × (posts.new.last.items ≡ posts.old.last.items ++ last ∷ [])) }
 {
     let (Some(caller), Some(link), Some(last)) = (three.pop(), three.pop(), three.pop()) else {
         unreachable!()

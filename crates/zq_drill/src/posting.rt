@@ -1,13 +1,13 @@
 //! What is done at a post.
 
 ghost use Rattle.std.specs.Prelude.{◌≡◌, ◌<◌, IfOk, OnOk};
+ghost use Rattle.zq_drill.specs.Limits.{heap_count};
 ghost use Rattle.zq_drill.specs.Posts.{site_of};
 ghost use Rattle.zq_node.specs.Calls.{Copied, IsCalled as HasCalled, Merged};
 ghost use Rattle.zq_resp.specs.Reply.{reply_bytes};
 ghost use Rattle.zq_spread.specs.Dispatch.{IsCalled};
 
 use crate::post::Post;
-use crate::station::HEAPS;
 use std::alloc::Global;
 use std::sync::Wait;
 use zq_journal::MergeFault;
@@ -36,7 +36,7 @@ impl Post {
 
     /// A copy of a heap, as the site has it.
     pub fn state<R: Wait>(&mut self, rt: &R, alloc: Global, heap: u8) -> Result<Shard, ReadFault>
-        requires { heap < HEAPS }
+        requires { heap < heap_count }
         ensures station { self.new.station ≡ self.old.station }
         ensures copied { IfOk result (λ shard. HasCalled (site_of self.old) self.old.pass self.new.pass (Copied heap shard)) }
     {

@@ -2,7 +2,7 @@
 
 ghost use Rattle.std.specs.Prelude.{◌≡◌};
 ghost use Rattle.zq_dots.specs.declared.rule.Rule.TheVariants.{High};
-ghost use Rattle.zq_drill.specs.declared.station.TheConstants.{HEAPS};
+ghost use Rattle.zq_drill.specs.Limits.{heap_count};
 ghost use Rattle.zq_spread.specs.Calls.{heaps_of};
 
 use zq_dots::SiteNo;
@@ -20,6 +20,6 @@ pub struct Station {
     pub(crate) number: SiteNo,
     pub(crate) site: Site,
     ghost number_is: { number ≡ site.number },
-    ghost heaps_are: { heaps_of site ≡ HEAPS },
+    ghost heaps_are: { heaps_of site ≡ heap_count },
     ghost rule_is: { site.rule ≡ High },
 }

@@ -1,25 +1,23 @@
-use Rattle.std.proofs.Common.{List, ap, arith, subst, sym, ◌∙◌}
-use Rattle.zq_drill.proofs.AllListed.{listed_number, listed_sorted, lists_number}
+use Rattle.std.proofs.Common.{List, ap, arith, subst, sym}
+use Rattle.zq_drill.proofs.AllListed.{listed_number, lists_number, places_number}
 use Rattle.zq_drill.proofs.drilling.finish.Goals as goal
 use Rattle.zq_drill.specs.Listed.{AreListed}
 use Rattle.zq_drill.specs.Lists.{lists_of}
+use Rattle.zq_drill.specs.Posts.{places_of}
 use Rattle.zq_model.specs.Meaning.{Scored}
 
 pub write_report-requires : goal.write_report-requires
 write_report-requires g c =
-    let all = subst (λ (ls : List (List Scored)). AreListed c.args.posts.now ls) (sym (ap lists_of c.deref.ensures.value)) c.in_ok-lists.ensures in
-    let number = listed_number c.args.posts.now (lists_of c.deref.result.now) all in
-    omega (arith, number, lists_number c.deref.result.now, c.requires)
+    let all = subst (λ (ls : List (List Scored)). AreListed (places_of c.args.posts.now) ls) (sym (ap lists_of c.deref.ensures.value)) c.in_ok-lists.ensures in
+    let number = listed_number (places_of c.args.posts.now) (lists_of c.deref.result.now) all in
+    omega (arith, number, lists_number c.deref.result.now, places_number c.args.posts.now, c.requires)
 
 pub returns : goal.returns
 returns g c =
     let lists = lists_of c.deref.result.now in
-    let all = subst (λ (ls : List (List Scored)). AreListed c.args.posts.now ls) (sym (ap lists_of c.deref.ensures.value)) c.in_ok-lists.ensures in (
+    let all = subst (λ (ls : List (List Scored)). AreListed (places_of c.args.posts.now) ls) (sym (ap lists_of c.deref.ensures.value)) c.in_ok-lists.ensures in (
       lists,
-      record {
-        number = listed_number c.args.posts.now lists all ∙ c.requires;
-        sorted = listed_sorted c.args.posts.now lists all;
-        equal_is = c.in_ok-equal.ensures.equal;
-      },
+      all,
+      c.in_ok-equal.ensures.equal,
       c.in_ok-equal.ensures.written,
     )

@@ -2,8 +2,12 @@ use Rattle.std.proofs.Common.{All, ap, arith, length, rules, subst, ◌∷◌, �
 use Rattle.std.proofs.lemmas.List.Elements.{All-head, All-tail}
 use Rattle.std.specs.Arc.{arc_value}
 use Rattle.std.specs.Vec.Iter.{into_iter_items}
+use Rattle.zq_drill.proofs.Opened.{pushed_all}
 use Rattle.zq_drill.proofs.Pushed.{longer}
 use Rattle.zq_drill.proofs.opening.hire.Goals as goal
+use Rattle.zq_drill.specs.Posts.{site_of}
+use Rattle.zq_drill.specs.declared.post.Post.{Post}
+use Rattle.zq_drill.specs.declared.station.Station.{Station}
 use Rattle.zq_spread.specs.Passes.{IsPassOf}
 
 pub invariant_of-post : goal.invariant_of-post
@@ -21,4 +25,5 @@ loop-pass-preserved c =
     let all = subst (All (IsPassOf site)) steps c.loop-pass.invariant.0 in
     let fewer = ap length steps in
     let more = longer c.push.new.self.items c.loop-pass.posts.items _ c.in_ok-push.ensures.items in
-    (All-tail (IsPassOf site) c.in-Some.pass rest all, search rules, omega (arith, c.loop-pass.invariant.2, fewer, more))
+    let same = pushed_all (λ (post : Post). site_of post ≡ site) c.push.new.self.items c.loop-pass.posts.items _ c.in_ok-push.ensures.items c.loop-pass.invariant.3 (ap (λ (station : Station). station.site) c.in_ok-try_clone.ensures) in
+    (All-tail (IsPassOf site) c.in-Some.pass rest all, search rules, omega (arith, c.loop-pass.invariant.2, fewer, more), same)
