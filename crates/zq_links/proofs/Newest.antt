@@ -1,12 +1,12 @@
 -- The bytes of the frames that a link holds last.
 use Rattle.std.proofs.Common.{◌≡◌, ℕ, ◌-◌, List, [], ◌∷◌, ◌++◌, map, length, drop, sym, ap, ◌∙◌, Vec, Global}
 use Rattle.std.proofs.lemmas.List.{map-append, drop-map, length-map}
-use Rattle.zq_links.specs.declared.held.TheConstants.{MOST_HELD}
+use Rattle.zq_links.specs.Limits.{most_held}
 use Rattle.zq_links.specs.Frames.{newest}
 
 -- the newest frames have the newest bytes
 map-newest : {A B : Type 0} (f : A → B) (xs : List A) → map f (newest xs) ≡ newest (map f xs)
-map-newest f xs = sym (drop-map f (length xs - MOST_HELD) xs) ∙ ap (λ n. drop (n - MOST_HELD) (map f xs)) (sym (length-map xs f))
+map-newest f xs = sym (drop-map f (length xs - most_held) xs) ∙ ap (λ n. drop (n - most_held) (map f xs)) (sym (length-map xs f))
 
 -- with one frame behind those that are held
 pub newest_with : (held : List (List ℕ)) (frames after : List (Vec ℕ Global)) (frame : Vec ℕ Global)

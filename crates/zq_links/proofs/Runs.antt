@@ -3,7 +3,7 @@ use Rattle.std.proofs.Common.{ℕ, ◌+◌, ◌-◌, ◌≤◌, List, [], ◌∷
 use Rattle.std.specs.Prelude.{sum_by, flat_map, All, Contains}
 use Rattle.std.proofs.lemmas.List.Sums.{sum_by-cons, sum_by-append, sum_by_push, sum_by-take-drop}
 use Rattle.std.proofs.lemmas.List.Elements.{All-nil, All-cons, All-head, All-tail, All-append, All-push, All-take, All-drop, All-contains_itself}
-use Rattle.zq_links.specs.declared.held.TheConstants.{MOST_HELD}
+use Rattle.zq_links.specs.Limits.{most_held}
 use Rattle.zq_links.specs.declared.fault.Fault.{Fault}
 use Rattle.zq_links.specs.declared.fault.Fault.TheVariants.{Lost, Doubled, HeldBack, Overtakes, Spared}
 use Rattle.zq_links.specs.Frames.{newest}
@@ -24,7 +24,7 @@ module _ (P : List ℕ → Type 0) where
   held_all Lost held frame are is = are
   held_all Doubled held frame are is = are
   held_all HeldBack held frame are is =
-      All-drop P (length (held ++ frame ∷ []) - MOST_HELD) (held ++ frame ∷ []) (All-push P held frame are is)
+      All-drop P (length (held ++ frame ∷ []) - most_held) (held ++ frame ∷ []) (All-push P held frame are is)
   held_all Overtakes held frame are is = All-drop P 1 held are
   held_all Spared held frame are is = are
 
@@ -42,7 +42,7 @@ none_is_invented came =
 
 module _ (weight : List ℕ → ℕ) where
   weigh-newest : (frames : List (List ℕ)) → sum_by weight (newest frames) ≤ sum_by weight frames
-  weigh-newest frames = omega (arith, sum_by-take-drop weight frames (length frames - MOST_HELD))
+  weigh-newest frames = omega (arith, sum_by-take-drop weight frames (length frames - most_held))
 
   -- what is passed on and what is held then weigh no more than what was held, the frame and its copy
   step_weighs : (fault : Fault) (held : List (List ℕ)) (frame : List ℕ)

@@ -1,7 +1,7 @@
 //! A link that loses, doubles and reorders frames.
 
-ghost use Rattle.std.specs.Prelude.{◌≡◌, ◌≤◌, [], ◌∷◌, length, IfOk, IfErr, OnOk, OnErr, IsOk, vec_capacity};
-ghost use Rattle.zq_links.specs.Faults.{fault_of, passed_on, held_after};
+ghost use Rattle.std.specs.Prelude.{◌≡◌, ◌≤◌, [], ◌∷◌, length, IfOk, IfErr, OnOk, OnErr, vec_capacity};
+ghost use Rattle.zq_links.specs.Faults.{AsksMemory, fault_of, passed_on, held_after};
 ghost use Rattle.zq_links.specs.Frames.{frames_in};
 
 use crate::errors::NoMemory;
@@ -20,14 +20,14 @@ pub struct Faulty {
 
 impl Model for Faulty {
     ghost use Rattle.std.specs.Prelude.{List, ℕ, ◌≤◌, length};
-    ghost use Rattle.zq_links.specs.declared.held.TheConstants.{MOST_HELD};
     ghost use Rattle.zq_links.specs.Frames.{held_in};
+    ghost use Rattle.zq_links.specs.Limits.{most_held};
 
     ghost Value = { List (List ℕ) };
 
     ghost view = { λ link. held_in link.held };
 
-    ghost invariant = { λ link. length (held_in link.held) ≤ MOST_HELD };
+    ghost invariant = { λ link. length (held_in link.held) ≤ most_held };
 }
 
 impl Faulty {
@@ -39,7 +39,8 @@ impl Faulty {
     }
 
     /// What the link passes on now, in this order, where a frame comes and a word draws a fault. Where there is no memory
-    /// the frame comes back, and those that are held back stay. To lose a frame takes no memory.
+    /// the frame comes back, and those that are held back stay. To lose a frame takes no memory, nor does holding one back
+    /// where as many are held as a link holds.
     pub fn pass(
         &mut self,
         alloc: Global,
@@ -50,7 +51,7 @@ impl Faulty {
         ensures held { OnOk result (self.new ≡ held_after (fault_of word) self.old frame.items) }
         ensures refused { IfErr result (λ e. e.1 ≡ frame) }
         ensures unchanged { OnErr result (self.new ≡ self.old) }
-        ensures lost { fault_of word ≡ Fault.Lost → IsOk result }
+        ensures memory { OnErr result (AsksMemory (fault_of word) self.old) }
     {
         match Fault::of(word) {
             Fault::Lost => Ok(Vec::new(alloc)),

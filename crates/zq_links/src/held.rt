@@ -1,7 +1,7 @@
 //! The frames that a faulty link holds back, the oldest first.
-ghost use Rattle.std.specs.Prelude.{◌≡◌, ◌≤◌, ◌++◌, [], ◌∷◌, length, map, take, drop, IfOk, IfErr, OnOk, OnErr, option_to_list};
-ghost use Rattle.zq_links.specs.declared.held.TheConstants.{MOST_HELD};
+ghost use Rattle.std.specs.Prelude.{◌≡◌, ◌<◌, ◌≤◌, ◌++◌, [], ◌∷◌, length, map, take, drop, IfOk, IfErr, OnOk, OnErr, option_to_list};
 ghost use Rattle.zq_links.specs.Frames.{frames_in, held_in, newest};
+ghost use Rattle.zq_links.specs.Limits.{most_held};
 
 use crate::errors::NoMemory;
 use std::alloc::Global;
@@ -16,10 +16,11 @@ pub(crate) type Held = Option<VecDeque<Vec<u8>>>;
 /// Puts the frame behind the others. Where as many are held as a link holds, the oldest is lost, and no memory is
 /// taken.
 fn push_last(frames: &mut VecDeque<Vec<u8>>, frame: Vec<u8>) -> Result<(), (NoMemory, Vec<u8>)>
-    requires { length frames.old.items ≤ MOST_HELD }
+    requires { length frames.old.items ≤ most_held }
     ensures held { OnOk result (frames.new.items ≡ newest (frames.old.items ++ frame ∷ [])) }
     ensures refused { IfErr result (λ e. e.1 ≡ frame) }
     ensures unchanged { OnErr result (frames.new.items ≡ frames.old.items) }
+    ensures room { OnErr result (length frames.old.items < most_held) }
 {
     if frames.len() < MOST_HELD {
         return match frames.push_back(frame) {
@@ -45,17 +46,18 @@ fn taken(held: &mut Held, alloc: Global) -> VecDeque<Vec<u8>>
     }
 }
 
-/// Holds the frame back, behind the others. Where as many are held as a link holds, the oldest is lost. Where there is
-/// no memory the frame comes back, and those that are held stay.
+/// Holds the frame back, behind the others. Where as many are held as a link holds, the oldest is lost, and no memory is
+/// taken. Where there is no memory the frame comes back, and those that are held stay.
 pub(crate) fn hold_back(
     held: &mut Held,
     alloc: Global,
     frame: Vec<u8>,
 ) -> Result<(), (NoMemory, Vec<u8>)>
-    requires { length (held_in held.old) ≤ MOST_HELD }
+    requires { length (held_in held.old) ≤ most_held }
     ensures held { OnOk result (held_in held.new ≡ newest (held_in held.old ++ frame.items ∷ [])) }
     ensures refused { IfErr result (λ e. e.1 ≡ frame) }
     ensures unchanged { OnErr result (held_in held.new ≡ held_in held.old) }
+    ensures room { OnErr result (length (held_in held.old) < most_held) }
 {
     let mut frames = taken(held, alloc);
     let result = push_last(&mut frames, frame);

@@ -6,6 +6,7 @@ pub mod Tables
 pub mod Addresses
 pub mod Settings
 pub mod Site
+pub mod Memory
 pub mod Texts
 pub mod Rules
 pub mod SiteRules

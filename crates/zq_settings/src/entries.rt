@@ -1,7 +1,8 @@
 //! Ports from the entries of an array.
 
-ghost use Rattle.std.specs.Prelude.{◌≡◌, length, vec_len, IfOk};
+ghost use Rattle.std.specs.Prelude.{◌≡◌, length, vec_len, IfOk, IsErrOf};
 ghost use Rattle.toml.specs.View.{items_view, table_view, view};
+ghost use Rattle.zq_settings.specs.Memory.{AsksForEntries, AsksForList};
 ghost use Rattle.zq_settings.specs.Settings.{each, port_of as port_in, ports_in, ports_of as ports_at};
 ghost use Rattle.zq_settings.specs.Tables.{value_at as value_in};
 ghost use Rattle.zq_settings.specs.Texts.{Reads, ReadsAll};
@@ -17,7 +18,8 @@ use toml::{Table, Value};
 
 /// The ports of the table.
 pub fn read_ports(alloc: Global, table: &Table) -> Result<Ports, SettingsFault>
-    ensures { Reads result (ports_at (value_in Key.Ports (table_view table.now))) }
+    ensures reads { Reads result (ports_at (value_in Key.Ports (table_view table.now))) }
+    ensures memory { IsErrOf result SettingsFault.NoMemory → AsksForEntries 64 (value_in Key.Ports (table_view table.now)) }
 {
     let Some(value) = value_at(table, Key::Ports) else {
         return Err(Why::Missing(Key::Ports).into());
@@ -31,7 +33,8 @@ pub fn read_ports(alloc: Global, table: &Table) -> Result<Ports, SettingsFault>
 /// The ports of an array with these entries.
 #[tactic(auto, using(crate::proofs::Apart::distinct_since, crate::proofs::Seen::count_seen))]
 fn ports_of(alloc: Global, entries: &[Value]) -> Result<Ports, SettingsFault>
-    ensures { Reads result (ports_in (items_view entries.now)) }
+    ensures reads { Reads result (ports_in (items_view entries.now)) }
+    ensures memory { IsErrOf result SettingsFault.NoMemory → AsksForList 64 (items_view entries.now) }
 {
     if entries.is_empty() || MOST_PORTS < entries.len() {
         return Err(Why::Count(Key::Ports, entries.len()).into());

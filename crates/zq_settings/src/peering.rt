@@ -1,7 +1,8 @@
 //! Peers from the entries of an array.
 
-ghost use Rattle.std.specs.Prelude.{◌≡◌, length, vec_len, IfOk};
+ghost use Rattle.std.specs.Prelude.{◌≡◌, ◌≤◌, length, vec_len, IfOk, IsErrOf};
 ghost use Rattle.toml.specs.View.{items_view, table_view, view};
+ghost use Rattle.zq_settings.specs.Memory.{AsksForEntries, AsksForList};
 ghost use Rattle.zq_settings.specs.Settings.{each};
 ghost use Rattle.zq_settings.specs.Site.{peer_at, peer_of as peer_in, peers_in, peers_of as peers_at};
 ghost use Rattle.zq_settings.specs.Tables.{value_at as value_in};
@@ -29,7 +30,8 @@ pub fn read_peers(
     own: SiteNo,
     secured: bool,
 ) -> Result<Peers, SettingsFault>
-    ensures { Reads result (peers_at own secured (value_in Key.Peers (table_view table.now))) }
+    ensures reads { Reads result (peers_at own secured (value_in Key.Peers (table_view table.now))) }
+    ensures memory { IsErrOf result SettingsFault.NoMemory → AsksForEntries 63 (value_in Key.Peers (table_view table.now)) }
 {
     let Some(value) = value_at(table, Key::Peers) else {
         return Ok(Peers::new(Vec::new(alloc)));
@@ -48,7 +50,8 @@ fn peers_of(
     own: SiteNo,
     secured: bool,
 ) -> Result<Peers, SettingsFault>
-    ensures { Reads result (peers_in own secured (items_view entries.now)) }
+    ensures reads { Reads result (peers_in own secured (items_view entries.now)) }
+    ensures memory { IsErrOf result SettingsFault.NoMemory → AsksForList 63 (items_view entries.now) }
 {
     if MOST_PEERS < entries.len() {
         return Err(Why::Count(Key::Peers, entries.len()).into());
@@ -69,6 +72,7 @@ fn each_peer(
 ) -> Result<Vec<Peer>, SettingsFault>
     ensures peers { ReadsAll result (each (peer_in own secured) (items_view entries.now)) }
     ensures len { IfOk result (λ peers. vec_len peers ≡ length entries.now) }
+    ensures memory { IsErrOf result SettingsFault.NoMemory → 1 ≤ length entries.now }
 {
     let mut peers = Vec::with_capacity(alloc, entries.len())?;
     for entry in entries {

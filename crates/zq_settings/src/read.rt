@@ -1,7 +1,7 @@
 //! Settings from a text.
 
 ghost use Rattle.std.specs.Prelude.{◌≡◌, ◌+◌, ◌≤◌, ◌==◌, count_by, take, length, IfOk, IfErr};
-ghost use Rattle.toml.specs.Errors.{IsMemory, IsWithin};
+ghost use Rattle.toml.specs.Errors.{IsBlank, IsMemory, IsWithin};
 ghost use Rattle.toml.specs.Parse.{parse_document};
 ghost use Rattle.zq_settings.specs.Texts.{HasSettings, HasSiteSettings, IsNoTable, IsRefusal, IsSiteRefusal, line_of};
 
@@ -26,7 +26,7 @@ use toml::de;
 /// # Errors
 ///
 /// `Refused` with the first rule that the text breaks, and never where it breaks none. `NoMemory` where there was no
-/// memory to read the text.
+/// memory to read the text: never of a text that has only white space and comments.
 #[tactic(auto, using(crate::proofs::Told::given_since, crate::proofs::Told::refused_since, crate::proofs::Told::no_table_since))]
 pub fn settings(alloc: Global, text: &str) -> Result<Settings, SettingsFault>
     ensures given { IfOk result (HasSettings text.now) }
@@ -56,7 +56,7 @@ pub fn settings(alloc: Global, text: &str) -> Result<Settings, SettingsFault>
 /// # Errors
 ///
 /// `Refused` with the first rule that the text breaks, and never where it breaks none. `NoMemory` where there was no
-/// memory to read the text.
+/// memory to read the text: never of a text that has only white space and comments.
 #[tactic(auto, using(crate::proofs::Told::site_given_since, crate::proofs::Told::site_refused_since, crate::proofs::Told::no_site_table_since))]
 pub fn site_settings(alloc: Global, text: &str) -> Result<SiteSettings, SettingsFault>
     ensures given { IfOk result (HasSiteSettings text.now) }
@@ -72,6 +72,7 @@ pub fn site_settings(alloc: Global, text: &str) -> Result<SiteSettings, Settings
 fn text_fault(text: &str, error: de::Error) -> SettingsFault
     requires within { IsWithin text.now error }
     requires refused { ¬ IsMemory error → parse_document text.now ≡ None }
+    requires memory { IsMemory error → ¬ IsBlank text.now }
     ensures { IsNoTable text.now result }
 {
     match error.span() {

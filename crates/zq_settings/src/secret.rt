@@ -1,7 +1,8 @@
 //! What a site shares with its peers alone.
 
-ghost use Rattle.std.specs.Prelude.{◌≡◌, ◌≤◌, IfOk, length};
+ghost use Rattle.std.specs.Prelude.{◌≡◌, ◌≤◌, IfOk, IsErrOf, length};
 ghost use Rattle.toml.specs.View.{table_view};
+ghost use Rattle.zq_settings.specs.Memory.{AsksForSecret};
 ghost use Rattle.zq_settings.specs.Site.{secret_of};
 ghost use Rattle.zq_settings.specs.Tables.{value_at as value_in};
 ghost use Rattle.zq_settings.specs.Texts.{Reads};
@@ -62,7 +63,8 @@ impl fmt::Debug for Secret {
 
 /// The secret of the table, if it has one.
 pub fn read_secret(alloc: Global, table: &Table) -> Result<Option<Secret>, SettingsFault>
-    ensures { Reads result (secret_of (value_in Key.Secret (table_view table.now))) }
+    ensures reads { Reads result (secret_of (value_in Key.Secret (table_view table.now))) }
+    ensures memory { IsErrOf result SettingsFault.NoMemory → AsksForSecret (value_in Key.Secret (table_view table.now)) }
 {
     let Some(value) = value_at(table, Key::Secret) else {
         return Ok(None);

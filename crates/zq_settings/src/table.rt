@@ -1,7 +1,8 @@
 //! Settings from a table.
 
-ghost use Rattle.std.specs.Prelude.{◌≡◌};
+ghost use Rattle.std.specs.Prelude.{◌≡◌, IsErrOf};
 ghost use Rattle.toml.specs.View.{table_view};
+ghost use Rattle.zq_settings.specs.Memory.{AsksForValues, AsksOfSite, AsksOfSites};
 ghost use Rattle.zq_settings.specs.Settings.{settings_of};
 ghost use Rattle.zq_settings.specs.Site.{site_settings_of, site_values_of};
 ghost use Rattle.zq_settings.specs.Texts.{Reads};
@@ -22,7 +23,8 @@ use toml::Table;
 
 /// The settings of several sites that the table has, or the first rule that it breaks.
 pub fn read_table(alloc: Global, table: &Table) -> Result<Settings, SettingsFault>
-    ensures { Reads result (settings_of (table_view table.now)) }
+    ensures reads { Reads result (settings_of (table_view table.now)) }
+    ensures memory { IsErrOf result SettingsFault.NoMemory → AsksOfSites (table_view table.now) }
 {
     refuse_unknown(alloc, table, Form::Sites)?;
     let ports = read_ports(alloc, table)?;
@@ -39,7 +41,8 @@ pub fn read_table(alloc: Global, table: &Table) -> Result<Settings, SettingsFaul
 
 /// The settings of one site that the table has, or the first rule that it breaks.
 pub fn read_site_table(alloc: Global, table: &Table) -> Result<SiteSettings, SettingsFault>
-    ensures { Reads result (site_settings_of (table_view table.now)) }
+    ensures reads { Reads result (site_settings_of (table_view table.now)) }
+    ensures memory { IsErrOf result SettingsFault.NoMemory → AsksOfSite (table_view table.now) }
 {
     refuse_unknown(alloc, table, Form::Site)?;
     read_site_values(alloc, table)
@@ -47,7 +50,8 @@ pub fn read_site_table(alloc: Global, table: &Table) -> Result<SiteSettings, Set
 
 /// The values of the keys of one site in their order, in a table that has no other key.
 fn read_site_values(alloc: Global, table: &Table) -> Result<SiteSettings, SettingsFault>
-    ensures { Reads result (site_values_of (table_view table.now)) }
+    ensures reads { Reads result (site_values_of (table_view table.now)) }
+    ensures memory { IsErrOf result SettingsFault.NoMemory → AsksForValues (table_view table.now) }
 {
     let site = read_site(table, Key::Site)?;
     let port = read_required(table, Key::Port)?;

@@ -1,9 +1,10 @@
 //! Keys that tables do not have.
 
 ghost use Rattle.std.specs.BTreeMap.{keys};
-ghost use Rattle.std.specs.Prelude.{◌≡◌, find, not, option_copied, string_bytes};
+ghost use Rattle.std.specs.Prelude.{◌≡◌, IsErrOf, find, not, option_copied, string_bytes};
 ghost use Rattle.toml.specs.View.{table_view};
 ghost use Rattle.zq_settings.specs.Keys.{is_known};
+ghost use Rattle.zq_settings.specs.Memory.{AsksForName};
 ghost use Rattle.zq_settings.specs.Settings.{known_keys};
 ghost use Rattle.zq_settings.specs.Texts.{Reads};
 
@@ -17,7 +18,8 @@ use toml::Table;
 /// Refuses a table with a key that tables of its kind do not have.
 #[tactic(auto, using(crate::proofs::Seen::unknown_seen))]
 pub fn refuse_unknown(alloc: Global, table: &Table, form: Form) -> Result<(), SettingsFault>
-    ensures { Reads result (known_keys form (table_view table.now)) }
+    ensures reads { Reads result (known_keys form (table_view table.now)) }
+    ensures memory { IsErrOf result SettingsFault.NoMemory → AsksForName form (table_view table.now) }
 {
     match find_unknown(table, form) {
         Some(name) => {

@@ -1,5 +1,5 @@
 //! A frame that stands whole at the front.
-ghost use Rattle.std.specs.Prelude.{◌≡◌, ◌≤◌, ◌++◌, length, IfErr, IfOk, IfSome};
+ghost use Rattle.std.specs.Prelude.{◌≡◌, ◌≤◌, ◌++◌, length, IfErr, IfOk, IfSome, OnOk};
 ghost use Rattle.zq_stream.specs.Framed.{IsTooLong, framed};
 
 use crate::fault::StreamFault;
@@ -12,6 +12,7 @@ pub(crate) fn whole_front(most: u32, bytes: &[u8]) -> Result<Option<(&[u8], &[u8
     ensures small { IfOk result (λ found. IfSome found (λ x. length x.0.now ≤ most)) }
     ensures fault { IfErr result (λ e. e ≡ StreamFault.TooLong) }
     ensures long { IfErr result (λ _. IsTooLong most bytes.now) }
+    ensures within { OnOk result (IsTooLong most bytes.now → ⊥) }
 {
     let Some((size, rest)) = read_u32(bytes) else {
         return Ok(None);

@@ -1,5 +1,7 @@
 //! A reader of frames.
-ghost use Rattle.std.specs.Prelude.{◌≡◌, ◌++◌, [], Some};
+ghost use Rattle.std.specs.Prelude.{◌≡◌, ◌≤◌, ◌++◌, [], Err, IfErr, IfOk, IfSome, OnErr, OnOk, Some, length};
+ghost use Rattle.zq_stream.specs.Framed.{IsTooLong, framed};
+ghost use Rattle.zq_stream.specs.Memory.{AsksMemory, ReaderAsks};
 ghost use Rattle.zq_stream.specs.Stream.{Feeds, answered, frames_in, is_inside};
 ghost use Rattle.zq_stream.specs.Unfinished.{PieceGives, Stands, text_so_far};
 
@@ -58,10 +60,12 @@ impl Reader {
     /// - `TooLong`: a length is above the most.
     /// - `NoMemory`: memory was refused. The piece was read up to the frame that needed it.
     ///
-    /// Memory is taken for bytes that have come, never for a length.
+    /// Memory is taken for bytes that have come, never for a length: a piece of no bytes takes none, nor do bytes that begin
+    /// with a length above the most where nothing of a frame is kept.
     pub fn feed(&mut self, alloc: Global, piece: &[u8]) -> Result<Vec<Vec<u8>>, StreamError>
         ensures most { self.new.most ≡ self.old.most }
         ensures feeds { Feeds self.old.most self.old.had piece.now (answered result) self.new.had }
+        ensures memory { IfErr result (λ e. e.fault ≡ StreamFault.NoMemory → ReaderAsks self.old.most self.old.had piece.now (frames_in e.before)) }
     {
         let mut frames = Vec::new(alloc);
         let Some(unfinished) = self.unfinished.take() else {
@@ -83,6 +87,27 @@ impl Reader {
     }
 }
 
+/// The frame that stands whole at the front, and the bytes after it. `None` where it is not all there, or some bytes of a
+/// frame are kept before them. `TooLong` where none are, and the length is above the most.
+fn whole_next<'a>(
+    most: u32,
+    unfinished: &Unfinished,
+    bytes: &'a [u8],
+) -> Result<Option<(&'a [u8], &'a [u8])>, StreamFault>
+    ensures none { IfOk result (λ found. IfSome found (λ _. text_so_far unfinished.now ≡ [])) }
+    ensures spelled { IfOk result (λ found. IfSome found (λ x. bytes.now ≡ framed x.0.now ++ x.1.now)) }
+    ensures small { IfOk result (λ found. IfSome found (λ x. length x.0.now ≤ most)) }
+    ensures fault { IfErr result (λ e. e ≡ StreamFault.TooLong) }
+    ensures long { OnErr result (text_so_far unfinished.now ≡ []) }
+    ensures begins { OnErr result (IsTooLong most bytes.now) }
+    ensures within { OnOk result (text_so_far unfinished.now ≡ [] → IsTooLong most bytes.now → ⊥) }
+{
+    if unfinished.is_begun() {
+        return Ok(None);
+    }
+    whole_front(most, bytes)
+}
+
 /// Reads a piece. Adds the frames that end in it, and answers the one that does not end in it. A frame that stands whole
 /// in the piece is copied from it at once.
 fn read_on(
@@ -94,14 +119,13 @@ fn read_on(
 ) -> Result<Unfinished, StreamFault>
     requires stands { Stands most unfinished }
     requires none { frames.old.items ≡ [] }
-    ensures { PieceGives most (text_so_far unfinished ++ piece.now) result (frames_in frames.new) }
+    ensures gives { PieceGives most (text_so_far unfinished ++ piece.now) result (frames_in frames.new) }
+    ensures memory { IfErr result (λ e. e ≡ StreamFault.NoMemory → AsksMemory most (text_so_far unfinished) piece.now (frames_in frames.new)) }
 {
     let mut unfinished = unfinished;
     let mut rest = piece;
     while !rest.is_empty() {
-        if !unfinished.is_begun()
-            && let Some((frame, after)) = whole_front(most, rest)?
-        {
+        if let Some((frame, after)) = whole_next(most, &unfinished, rest)? {
             frames.push(Vec::from_slice(alloc, frame)?)?;
             rest = after;
             continue;
