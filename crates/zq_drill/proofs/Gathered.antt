@@ -6,11 +6,10 @@ use Rattle.std.proofs.lemmas.Option.{slice_get_within}
 use Rattle.std.specs.Prelude.{IfSome, List, Ok, Some, [], length, slice_get, slice_set, suc, true, zero, ℕ, ◌<◌, ◌∷◌, ◌≡◌, ◌≢◌, ◌⊎◌}
 use Rattle.zq_drill.specs.Gathered.{AllHaveAll, Knows, KnowsAt}
 use Rattle.zq_drill.specs.Limits.{heap_count}
-use Rattle.zq_drill.specs.Meetings.{AreHandedOver, AreMeetings, IsHandedOver, IsMeeting, round}
+use Rattle.zq_drill.specs.Meetings.{AreHandedOver, AreMeetings, IsMeeting, round}
 use Rattle.zq_drill.specs.Posts.{Place, place_at}
 use Rattle.zq_history.proofs.Covered.{reached_covers_too}
 use Rattle.zq_history.specs.Books.{Book}
-use Rattle.zq_history.specs.Reach.{Reached}
 use Rattle.zq_journal.specs.Books.{state_of}
 use Rattle.zq_model.proofs.Taken.{covers_at, covers_from}
 use Rattle.zq_model.specs.Sets.{IsIn, covers}
@@ -21,7 +20,6 @@ use Rattle.zq_shard.specs.Shard.{HeapImage}
 use Rattle.zq_spread.specs.Answers.{IsCopied}
 use Rattle.zq_spread.specs.Calls.{HasSeenBook}
 use Rattle.zq_spread.specs.Kept.{Follows}
-use Rattle.zq_spread.specs.Passes.{seen_at}
 use Rattle.zq_spread.specs.declared.kept.Kept.{Kept}
 use Rattle.zq_spread.specs.declared.pass.Pass.{Pass}
 use Rattle.zq_spread.specs.declared.site.Site.{Site}

@@ -1,5 +1,5 @@
 -- Meetings one after the other.
-use Rattle.std.proofs.Common.{arith, ne_eqb, eq-eqb, refl, subst, sym, ◌∙◌}
+use Rattle.std.proofs.Common.{ne_eqb, eq-eqb, refl, subst, sym}
 use Rattle.std.proofs.lemmas.Bool.{cond-false, cond-true}
 use Rattle.std.specs.Prelude.{List, [], ℕ, ◌+◌, ◌++◌, ◌==◌, ◌∷◌, ◌≡◌, ◌≢◌}
 use Rattle.zq_drill.proofs.Nexts.{next}

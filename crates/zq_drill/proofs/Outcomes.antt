@@ -1,5 +1,5 @@
 -- What a drill ends with.
-use Rattle.std.proofs.Common.{ap, subst, ◌∙◌}
+use Rattle.std.proofs.Common.{subst, ◌∙◌}
 use Rattle.std.specs.Prelude.{Bool, Err, IfOk, IsTrue, List, Ok, Result, [], length, ◌++◌, ◌↔◌, ◌∷◌, ◌≡◌}
 use Rattle.zq_drill.proofs.AllListed.{listed_number, listed_sorted, places_number}
 use Rattle.zq_drill.specs.Listed.{AreListed}

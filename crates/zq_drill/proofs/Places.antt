@@ -2,11 +2,11 @@
 use Rattle.std.proofs.Common.{ap, arith, refl, sym, ◌∙◌}
 use Rattle.std.proofs.lemmas.List.{get_or-append-add, get_or_append_left, length-append, length-set, map-set, set-append_left, set-append_right}
 use Rattle.std.proofs.lemmas.Option.{slice_get-map, slice_get_read}
-use Rattle.std.specs.Prelude.{List, Some, length, option_map, slice_get, slice_index_or, slice_set, ℕ, ◌+◌, ◌++◌, ◌-◌, ◌<◌, ◌≡◌, ◌≤◌}
+use Rattle.std.specs.Prelude.{List, Some, length, option_map, slice_get, slice_index_or, slice_set, ℕ, ◌+◌, ◌++◌, ◌-◌, ◌<◌, ◌≡◌}
 use Rattle.zq_drill.proofs.Stations.{same_site}
 use Rattle.zq_drill.specs.Limits.{heap_count}
 use Rattle.zq_drill.specs.Meetings.{AreHandedOver, IsMeeting}
-use Rattle.zq_drill.specs.Posts.{Place, place_at, place_of, places_of, site_of}
+use Rattle.zq_drill.specs.Posts.{place_at, place_of, places_of, site_of}
 use Rattle.zq_drill.specs.declared.post.Post.{Post}
 use Rattle.zq_spread.specs.declared.site.Site.{Site}
 

@@ -19,7 +19,7 @@ use Rattle.zq_model.specs.Heaps.{heap_of}
 use Rattle.zq_model.specs.Image.{Image, image_after}
 use Rattle.zq_model.specs.Operation.{has}
 use Rattle.zq_model.specs.Sets as sets
-use Rattle.zq_node.specs.Calls.{AreCalled, Asked, Call, Copied, HadNoRoom, IsCalled, IsEarlyTo, IsKnownTo, MadeNoStep, Merged, Saw, Took, WasTaken}
+use Rattle.zq_node.specs.Calls.{AreCalled, Asked, Call, Copied, HadNoRoom, IsCalled, IsEarlyTo, IsKnownTo, MadeNoStep, Merged, Saw, Took, WasAtLast, WasTaken}
 use Rattle.zq_node.specs.Faults.{untaken}
 use Rattle.zq_node.specs.Hearing.{IsStopOf}
 use Rattle.zq_node.specs.declared.faults.NodeFault.{NodeFault}
@@ -269,6 +269,21 @@ short_take site before after o r fault n is told said none = short_by fault (sub
         elim (said.called is) [
           | inl call ↦ (is, call)
           | inr worn ↦ absurd (let e = worn.0 in cc)
+        ]
+
+-- where the node is worn at it, the site is
+pub worn_take : (site : Site) (before after : Pass) (o : Placed) (r : Result Taken TakeFault) (fault : TakeFault) (n : NodeFault) → r ≡ Err fault → n ≡ untaken fault →
+    IsTakeOf site before after o r → n ≡ node.Worn → WasAtLast site before after o
+worn_take site before after o r fault n is told said worn = worn_by fault (subst (IsTakeOf site before after o) is said) (sym told ∙ worn)
+  where
+    worn_by : (fault : TakeFault) → IsTakeOf site before after o (Err fault) → untaken fault ≡ node.Worn → WasAtLast site before after o
+    worn_by unheld.WrongHeap said worn = absurd (cc)
+    worn_by unheld.NoMemory said worn = absurd (cc)
+    worn_by unheld.Worn said worn =
+        let is = of_site site o (λ not. let e = said.wrong_heap.1 not in absurd (cc)) in
+        elim (said.called is) [
+          | inl call ↦ (is, inl call)
+          | inr refused ↦ (is, inr refused.1)
         ]
 
 -- one that is not the site's leaves the pass as it was

@@ -17,7 +17,7 @@ use Rattle.zq_node.specs.Hearing.{AreOpsStopped, IsStopOf}
 use Rattle.zq_node.specs.Limits.{MOST_PARKED}
 use Rattle.zq_node.specs.Node.{IsNode, IsSameHome, parked_of, pass_of, site_of}
 use Rattle.zq_node.specs.Parked.{Entries, HasPlaceOf, IsParked, IsPutAway, place_of}
-use Rattle.zq_node.specs.Work.{AreTurns, DoesAfter, HasWorked, IsHeard, IsTurn, IsWork, WaitIn, WasShort, WasStopped}
+use Rattle.zq_node.specs.Work.{AreTurns, DoesAfter, HasWorked, IsHeard, IsTurn, IsWork, WaitIn, WasShort, WasStopped, WasWorn}
 use Rattle.zq_node.specs.declared.faults.NodeFault.{NodeFault}
 use Rattle.zq_node.specs.declared.faults.NodeFault.TheVariants as node
 use Rattle.zq_node.specs.declared.node.Node.{Node}
@@ -223,8 +223,8 @@ own_stop site o node.NoMemory own is = is
 -- operations are heard no further than before this one
 pub stopped_at : (ops : List Placed) (i : ℕ) (x : Placed) (old mid new : Node) (why : NodeFault) → i < length ops → x ≡ get_or ops i x → AreTurns (take i ops) old mid →
     IsStopOf (site_of mid) (Some x) why → WasStopped (x ∷ []) mid new → (why ≡ node.WrongHeap → new ≡ mid) → (why ≡ node.NoMemory → WasShort x mid new) →
-    AreOpsStopped ops old new why
-stopped_at ops i x old mid new why below is turns stop stopped unheard short =
+    (why ≡ node.Worn → WasWorn x mid new) → AreOpsStopped ops old new why
+stopped_at ops i x old mid new why below is turns stop stopped unheard short worn =
     let here : slice_get ops i ≡ Some x = slice_get_read ops (length ops) i x refl below is in
     record {
       place = record {
@@ -238,6 +238,7 @@ stopped_at ops i x old mid new why below is turns stop stopped unheard short =
       stopped = subst (λ p. WasStopped (option_to_list p) mid new) (sym here) stopped;
       unheard = unheard;
       short = λ none. subst (λ p. IfSome p (λ o. WasShort o mid new)) (sym here) (short none);
+      worn = λ last. subst (λ p. IfSome p (λ o. WasWorn o mid new)) (sym here) (worn last);
     }
 
 -- or after the last one
@@ -258,4 +259,5 @@ stopped_after ops old mid new why turns own stopped =
       stopped = subst (λ p. WasStopped (option_to_list p) mid new) (sym past) stopped;
       unheard = λ wrong. absurd (own_heap why own wrong);
       short = λ none. subst (λ p. IfSome p (λ o. WasShort o mid new)) (sym past) tt;
+      worn = λ last. subst (λ p. IfSome p (λ o. WasWorn o mid new)) (sym past) tt;
     }

@@ -1,6 +1,6 @@
 -- The calls of its site that a node makes with its pass.
 
-use Rattle.std.specs.Prelude.{Err, List, Ok, [], true, ℕ, ◌≡◌, ◌≢◌, ◌∷◌}
+use Rattle.std.specs.Prelude.{Err, List, Ok, [], true, ℕ, ◌≡◌, ◌≢◌, ◌∷◌, ◌⊎◌}
 use Rattle.zq_dots.specs.Placed.{Placed}
 use Rattle.zq_journal.specs.declared.faults.TakeFault.TheVariants as unheld
 use Rattle.zq_journal.specs.declared.since.Since.{Since}
@@ -12,6 +12,7 @@ use Rattle.zq_shard.specs.declared.taken.Taken.TheVariants as taken
 use Rattle.zq_spread.specs.Answers.{IsAsked, IsCopied, IsMerged, IsShown, IsSince, IsTaken}
 use Rattle.zq_spread.specs.Calls.{HasSeenBook, IsCall, IsLikeSite, IsOfSite}
 use Rattle.zq_spread.specs.Passes.{steps_at}
+use Rattle.zq_spread.specs.Worn.{IsWornIn}
 use Rattle.zq_spread.specs.declared.pass.Pass.{Pass}
 use Rattle.zq_spread.specs.declared.site.Site.{Site}
 
@@ -34,6 +35,11 @@ IsCalled site before after (Copied heap shard) = IsCall (IsCopied (Ok shard)) be
 -- the site had no memory to take the operation, which was New to it
 abbrev pub HadNoRoom : Site → Pass → Pass → Placed → Type 0
 HadNoRoom site before after op = IsOfSite site op × IsCall (IsTaken after.stamp op (Err unheld.NoMemory)) before after (op.operation.heap ∷ [])
+
+-- the site found a last value as it was handed the operation: that of its lock or of the stamp; or that of its count, where the operation was New to it
+abbrev pub WasAtLast : Site → Pass → Pass → Placed → Type 0
+WasAtLast site before after op =
+    IsOfSite site op × (IsCall (IsTaken after.stamp op (Err unheld.Worn)) before after (op.operation.heap ∷ []) ⊎ IsWornIn (op.operation.heap ∷ []) before after)
 
 -- the pass made these calls, one after the other, and no others
 abbrev pub AreCalled : Site → Pass → Pass → List Call → Type 0

@@ -14,7 +14,7 @@ use Rattle.zq_node.specs.Calls.{AreCalled, Asked, Call, Copied, IsCalled, MadeNo
 use Rattle.zq_node.specs.Faults.{IsOwnFault}
 use Rattle.zq_node.specs.Limits.{MOST_TOLD}
 use Rattle.zq_node.specs.Node.{parked_of, pass_of, site_of}
-use Rattle.zq_node.specs.Work.{AllWait, AreTurns, HasWorked, IsHeard, IsWork, WasShort, WasStopped}
+use Rattle.zq_node.specs.Work.{AllWait, AreTurns, HasWorked, IsHeard, IsWork, WasShort, WasStopped, WasWorn}
 use Rattle.zq_node.specs.declared.faults.NodeFault.{NodeFault}
 use Rattle.zq_node.specs.declared.faults.NodeFault.TheVariants as fault
 use Rattle.zq_node.specs.declared.node.Node.{Node}
@@ -169,6 +169,7 @@ pub record AreOpsStopped (ops : List Placed) (old new : Node) (why : NodeFault) 
   pub stopped : WasStopped (option_to_list (slice_get ops place.at)) heard new
   pub unheard : why ≡ fault.WrongHeap → new ≡ heard
   pub short : why ≡ fault.NoMemory → IfSome (slice_get ops place.at) (λ o. WasShort o heard new)
+  pub worn : why ≡ fault.Worn → IfSome (slice_get ops place.at) (λ o. WasWorn o heard new)
 
 -- what stands where it is not heard to its end
 abbrev pub HasStopped : code.Frame → Node → Node → NodeFault → Type 0

@@ -3,7 +3,7 @@
 use Rattle.std.specs.Prelude.{List, [], length, ℕ, ◌++◌, ◌<◌, ◌≡◌, ◌≤◌, ◌∷◌, ◌⊎◌}
 use Rattle.zq_dots.specs.Placed.{Placed}
 use Rattle.zq_model.specs.Sets.{IsIn}
-use Rattle.zq_node.specs.Calls.{AreCalled, Asked, Call, Copied, HadNoRoom, IsCalled, IsEarlyTo, IsKnownTo, MadeNoStep, Merged, Saw, Took, WasTaken}
+use Rattle.zq_node.specs.Calls.{AreCalled, Asked, Call, Copied, HadNoRoom, IsCalled, IsEarlyTo, IsKnownTo, MadeNoStep, Merged, Saw, Took, WasAtLast, WasTaken}
 use Rattle.zq_node.specs.Limits.{MOST_PARKED}
 use Rattle.zq_node.specs.Node.{IsSameHome, parked_of, pass_of, site_of}
 use Rattle.zq_node.specs.Parked.{Entries, HasPlaceOf, IsParked, IsPutAway}
@@ -75,6 +75,11 @@ pub data WasShort (o : Placed) (old new : Node) : Type 0 where
   copying : (asked : Pass) → IsCalled (site_of old) (pass_of old) asked (Took o Early) → (HasPlaceOf (parked_of old) o → ⊥) →
       length (parked_of old) < MOST_PARKED → WasShort o old new
   settling : (asked : Pass) → IsCalled (site_of old) (pass_of old) asked (Took o New) → WasShort o old new
+
+-- why a last value was found at an operation's turn: by the site as it was handed it, or by a parked one that was tried after it, where it was New
+pub data WasWorn (o : Placed) (old new : Node) : Type 0 where
+  handing : WasAtLast (site_of old) (pass_of old) (pass_of new) o → WasWorn o old new
+  trying : (asked : Pass) → IsCalled (site_of old) (pass_of old) asked (Took o New) → WasWorn o old new
 
 -- it was handed each of these, one after the other
 abbrev pub AreTurns : List Placed → Node → Node → Type 0

@@ -2,12 +2,12 @@
 ghost use Rattle.std.specs.Prelude.{◌≡◌, ◌<◌, ◌∷◌, IfErr, IfOk, IsErrOf, OnErr, OnOk, Some, [], length};
 ghost use Rattle.zq_dots.specs.Placed.{Placed};
 ghost use Rattle.zq_model.specs.Sets.{IsIn};
-ghost use Rattle.zq_node.specs.Calls.{HadNoRoom, IsCalled, MadeNoStep, Took};
+ghost use Rattle.zq_node.specs.Calls.{HadNoRoom, IsCalled, MadeNoStep, Took, WasAtLast};
 ghost use Rattle.zq_node.specs.Hearing.{AreOpsHeard, AreOpsStopped, IsStopOf};
 ghost use Rattle.zq_node.specs.Limits as limits;
 ghost use Rattle.zq_node.specs.Node.{IsNode, IsSameHome, parked_of, pass_of, site_of};
 ghost use Rattle.zq_node.specs.Parked.{HasPlaceOf, IsPutAway};
-ghost use Rattle.zq_node.specs.Work.{AreTurns, IsTurn, WasShort, WasStopped};
+ghost use Rattle.zq_node.specs.Work.{AreTurns, IsTurn, WasShort, WasStopped, WasWorn};
 ghost use Rattle.zq_spread.specs.Calls.{IsOfSite, heaps_of};
 
 use crate::faults::NodeFault;
@@ -51,6 +51,8 @@ impl Node<'_> {
         ensures unheard { IsErrOf result NodeFault.WrongHeap → self.new ≡ self.old }
         ensures short { IsErrOf result NodeFault.NoMemory →
             HadNoRoom (site_of self.old) (pass_of self.old) (pass_of self.new) op.now }
+        ensures worn { IsErrOf result NodeFault.Worn →
+            WasAtLast (site_of self.old) (pass_of self.old) (pass_of self.new) op.now }
     {
         let _heap = op.heap();
         match self.home.site.take(rt, alloc, &mut self.pass, op) {
@@ -70,6 +72,7 @@ impl Node<'_> {
         ensures stop { IfErr result (IsStopOf (site_of self.old) (Some op.now)) }
         ensures unheard { IsErrOf result NodeFault.WrongHeap → self.new ≡ self.old }
         ensures short { IsErrOf result NodeFault.NoMemory → WasShort op.now self.old self.new }
+        ensures worn { IsErrOf result NodeFault.Worn → WasWorn op.now self.old self.new }
     {
         let taken = self.hand(rt, alloc, op)?;
         match taken {

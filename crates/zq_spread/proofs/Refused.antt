@@ -2,7 +2,7 @@
 
 use Rattle.std.proofs.Common.{ap, arith, inl, inr, subst, sym, ◌∙◌}
 use Rattle.std.proofs.lemmas.Bool.{cases_lt}
-use Rattle.std.specs.Prelude.{Bool, Err, IfErr, IsErrAnd, IsErrOf, List, Ok, OnErr, Option, Result, Some, [], false, length, max, refl, slice_get, ℕ, ◌++◌, ◌<◌, ◌∷◌, ◌≡◌, ◌≤◌, ◌↔◌, ◌⊎◌}
+use Rattle.std.specs.Prelude.{Bool, Err, IfErr, IsErrAnd, IsErrOf, List, Ok, OnErr, Option, Result, Some, [], false, length, max, refl, ℕ, ◌++◌, ◌<◌, ◌∷◌, ◌≡◌, ◌≤◌, ◌↔◌, ◌⊎◌}
 use Rattle.zq_journal.specs.Books.{LAST_STAMP, state_of}
 use Rattle.zq_model.specs.Sets.{IsIn}
 use Rattle.zq_shard.specs.Shard.{queue_at}

@@ -10,7 +10,7 @@ use Rattle.zq_stream.proofs.Streams.{frames_more}
 use Rattle.zq_stream.specs.Framed.{IsTooLong}
 use Rattle.zq_stream.specs.declared.fault.StreamFault.{StreamFault}
 use Rattle.zq_stream.specs.declared.fault.StreamFault.TheVariants.{NoMemory}
-use Rattle.zq_stream.specs.Memory.{AsksFor, AsksMemory, kept_after}
+use Rattle.zq_stream.specs.Memory.{AsksMemory, kept_after}
 use Rattle.zq_stream.specs.Stream.{Frames, Reaches, frames_in}
 
 -- a length within the most is not above it, nor is a part of one

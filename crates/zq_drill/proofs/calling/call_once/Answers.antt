@@ -1,7 +1,7 @@
 use Rattle.std.proofs.Common.{subst}
 use Rattle.zq_drill.proofs.calling.call_once.Goals as goal
 use Rattle.zq_drill.specs.Posts.{site_of}
-use Rattle.zq_drill.specs.Rounds.{IsAsked, IsRound}
+use Rattle.zq_drill.specs.Rounds.{IsAsked}
 use Rattle.zq_drill.proofs.Rounds.{on_ok}
 use Rattle.zq_resp.specs.Reply.{reply_bytes}
 

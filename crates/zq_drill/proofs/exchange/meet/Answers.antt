@@ -1,4 +1,4 @@
-use Rattle.std.proofs.Common.{ap, arith, length, ◌<◌, ◌≡◌, ◌≢◌}
+use Rattle.std.proofs.Common.{ap, arith, length, ◌<◌, ◌≢◌}
 use Rattle.std.proofs.lemmas.Result.{on_ok_weaker}
 use Rattle.std.specs.Prelude.{slice_index_or, slice_set, ◌++◌}
 use Rattle.zq_drill.proofs.Meetings.{one_meeting}
@@ -23,8 +23,8 @@ returns-then-sender-receiver-clause-met g c =
     let some : 0 < length back = omega (arith, cut.ensures.back_len, c.requires.receiver) in
     on_ok_weaker hand.result
     (λ handed. one_meeting receiver sender (places_of posts) (places_of (slice_set front sender hand.new.sender ++ slice_set back 0 hand.new.receiver)) apart
-        (meets_rising posts front back receiver sender (at_sender c.index-before-sender.result) (at_receiver c.index-after-0.result) hand.new.sender hand.new.receiver
-        cut.ensures.value cut.ensures.front_len below some (ap at_sender c.index-before-sender.is) (ap at_receiver c.index-after-0.is) hand.ensures.sender hand.ensures.receiver handed))
+    (meets_rising posts front back receiver sender (at_sender c.index-before-sender.result) (at_receiver c.index-after-0.result) hand.new.sender hand.new.receiver
+    cut.ensures.value cut.ensures.front_len below some (ap at_sender c.index-before-sender.is) (ap at_receiver c.index-after-0.is) hand.ensures.sender hand.ensures.receiver handed))
     hand.ensures.handed
 
 pub returns-then-receiver-sender-clause-met : goal.returns-then-receiver-sender-clause-met
@@ -43,6 +43,6 @@ returns-then-receiver-sender-clause-met g c =
     let some : 0 < length back = omega (arith, cut.ensures.back_len, c.requires.sender) in
     on_ok_weaker hand.result
     (λ handed. one_meeting receiver sender (places_of posts) (places_of (slice_set front receiver hand.new.receiver ++ slice_set back 0 hand.new.sender)) apart
-        (meets_falling posts front back receiver sender (at_sender c.index-after-0-then-receiver-sender.result) (at_receiver c.index-before-receiver.result) hand.new.sender hand.new.receiver
-        cut.ensures.value cut.ensures.front_len below some (ap at_sender c.index-after-0-then-receiver-sender.is) (ap at_receiver c.index-before-receiver.is) hand.ensures.sender hand.ensures.receiver handed))
+    (meets_falling posts front back receiver sender (at_sender c.index-after-0-then-receiver-sender.result) (at_receiver c.index-before-receiver.result) hand.new.sender hand.new.receiver
+    cut.ensures.value cut.ensures.front_len below some (ap at_sender c.index-after-0-then-receiver-sender.is) (ap at_receiver c.index-before-receiver.is) hand.ensures.sender hand.ensures.receiver handed))
     hand.ensures.handed

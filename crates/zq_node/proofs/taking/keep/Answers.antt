@@ -1,4 +1,4 @@
-use Rattle.std.proofs.Common.{arith, inl, inr, refl, false, true, ◌≡◌, sym, ◌∙◌}
+use Rattle.std.proofs.Common.{arith, inl, inr, refl}
 use Rattle.zq_node.proofs.Changed.{put_here}
 use Rattle.zq_node.proofs.taking.keep.Goals as goal
 

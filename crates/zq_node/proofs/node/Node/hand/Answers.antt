@@ -1,5 +1,5 @@
 use Rattle.std.proofs.Common.{ap, arith}
-use Rattle.zq_node.proofs.Called.{IsTakeOf, short_take, stop_take, take_called, take_stopped, unheard_take}
+use Rattle.zq_node.proofs.Called.{IsTakeOf, short_take, stop_take, take_called, take_stopped, unheard_take, worn_take}
 use Rattle.zq_node.proofs.node.Node.hand.Goals as goal
 use Rattle.zq_node.specs.declared.node.Node.{Node}
 use Rattle.zq_spread.specs.declared.pass.Pass.{Pass}
@@ -42,3 +42,9 @@ returns-in-Err-clause-short g c = λ none.
     let site = c.args.self.now.home.site.now in
     let said : IsTakeOf site c.args.self.now.pass c.take.new.pass c.args.op.now c.take.result = record { wrong_heap = c.take.ensures.wrong_heap; unlocked = c.take.ensures.unlocked; called = c.take.ensures.called } in
     short_take site c.args.self.now.pass c.take.new.pass c.args.op.now c.take.result c.in-Err.fault c.from.result c.in-Err.is c.from.ensures said (cc)
+
+pub returns-in-Err-clause-worn : goal.returns-in-Err-clause-worn
+returns-in-Err-clause-worn g c = λ last.
+    let site = c.args.self.now.home.site.now in
+    let said : IsTakeOf site c.args.self.now.pass c.take.new.pass c.args.op.now c.take.result = record { wrong_heap = c.take.ensures.wrong_heap; unlocked = c.take.ensures.unlocked; called = c.take.ensures.called } in
+    worn_take site c.args.self.now.pass c.take.new.pass c.args.op.now c.take.result c.in-Err.fault c.from.result c.in-Err.is c.from.ensures said (cc)

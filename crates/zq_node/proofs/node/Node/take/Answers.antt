@@ -8,8 +8,8 @@ use Rattle.zq_node.specs.Hearing.{IsStopOf}
 use Rattle.zq_node.specs.Node.{parked_of}
 use Rattle.zq_node.specs.Limits.{MOST_PARKED}
 use Rattle.zq_node.specs.Parked.{Entries, HasPlaceOf}
-use Rattle.zq_node.specs.Work.{WaitIn, WasStopped, copying, settling, taking}
-use Rattle.zq_node.specs.declared.faults.NodeFault.TheVariants.{NoMemory, WrongHeap}
+use Rattle.zq_node.specs.Work.{WaitIn, WasStopped, copying, handing, settling, taking, trying}
+use Rattle.zq_node.specs.declared.faults.NodeFault.TheVariants.{NoMemory, Worn, WrongHeap}
 use Rattle.zq_node.specs.declared.node.Node.{Node}
 use Rattle.zq_shard.specs.declared.taken.Taken.TheVariants.{Early, Known, New}
 
@@ -19,6 +19,10 @@ returns-in_err-taken-clause-stopped g c = on_err _ _ (only_stopped (c.args.op.no
 pub returns-in_err-taken-clause-short : goal.returns-in_err-taken-clause-short
 returns-in_err-taken-clause-short g c = λ none.
     taking (c.in_err-taken.ensures.short (ap (λ f. Err f) (same_err c.from_residual.result c.in_err-taken.field-0.0 NoMemory c.from_residual.ensures.1 none)))
+
+pub returns-in_err-taken-clause-worn : goal.returns-in_err-taken-clause-worn
+returns-in_err-taken-clause-worn g c = λ last.
+    handing (c.in_err-taken.ensures.worn (ap (λ f. Err f) (same_err c.from_residual.result c.in_err-taken.field-0.0 Worn c.from_residual.ensures.1 last)))
 
 pub returns-in_ok-settle-in-New-clause-turn : goal.returns-in_ok-settle-in-New-clause-turn
 returns-in_ok-settle-in-New-clause-turn g c =
@@ -58,6 +62,12 @@ returns-in_err-settle-in-New-clause-short g c = λ _.
     let old = c.args.self.now in
     let asked = c.hand.new.self in
     settling asked.pass (subst (λ t. IsCalled old.home.site.now old.pass asked.pass (Took c.args.op.now t)) c.in-New.is c.in_ok-taken.ensures.called)
+
+pub returns-in_err-settle-in-New-clause-worn : goal.returns-in_err-settle-in-New-clause-worn
+returns-in_err-settle-in-New-clause-worn g c = λ _.
+    let old = c.args.self.now in
+    let asked = c.hand.new.self in
+    trying asked.pass (subst (λ t. IsCalled old.home.site.now old.pass asked.pass (Took c.args.op.now t)) c.in-New.is c.in_ok-taken.ensures.called)
 
 pub returns-in-Known-clause-turn : goal.returns-in-Known-clause-turn
 returns-in-Known-clause-turn g c =
@@ -103,6 +113,11 @@ returns-in_err-keep-in-Early-clause-short g c = λ _.
     let absent : HasPlaceOf (parked_of old) c.args.op.now → ⊥ = subst (λ e. HasPlaceOf e c.args.op.now → ⊥) parked c.in_err-keep-in-Early.ensures.absent in
     let room : length (parked_of old) < MOST_PARKED = subst (λ (e : Entries). length e < MOST_PARKED) parked c.in_err-keep-in-Early.ensures.room in
     copying asked.pass (subst (λ t. IsCalled old.home.site.now old.pass asked.pass (Took c.args.op.now t)) c.in-Early.is c.in_ok-taken.ensures.called) absent room
+
+pub returns-in_err-keep-in-Early-clause-worn : goal.returns-in_err-keep-in-Early-clause-worn
+returns-in_err-keep-in-Early-clause-worn g c = λ last.
+    let same = same_err c.from_residual-in_err-keep-in-Early.result NoMemory Worn c.from_residual-in_err-keep-in-Early.ensures.1 last in
+    absurd (cc)
 
 pub returns-in_ok-keep-in-Early-clause-node : goal.returns-in_ok-keep-in-Early-clause-node
 returns-in_ok-keep-in-Early-clause-node g c =

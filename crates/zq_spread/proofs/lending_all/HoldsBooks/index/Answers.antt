@@ -1,4 +1,4 @@
-use Rattle.std.proofs.Common.{List, Some, ap, arith, length, set, subst, ◌<◌, ◌∙◌, ◌≡◌}
+use Rattle.std.proofs.Common.{List, Some, ap, arith, length, set, ◌<◌, ◌∙◌, ◌≡◌}
 use Rattle.std.specs.Prelude.{slice_get}
 use Rattle.zq_commands.specs.VecBooks.{lending_of}
 use Rattle.zq_history.specs.Books.{Book}
