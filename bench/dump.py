@@ -1,6 +1,6 @@
 #!/usr/bin/env python3
 """Nanoseconds that DUMP and RESTORE of a sorted set take in redis-server, over the members and scores of
-crates/image_bench, and the bytes of what DUMP gives: `dump` of the set as it was filled, in no order of its members,
+`zq_bench image`, and the bytes of what DUMP gives: `dump` of the set as it was filled, in no order of its members,
 `restore` of that, and `redump` of the set as it was restored. Each as the server's INFO commandstats has it, and, with
 `-wall` behind its name, as the other end of a loopback connection sees it.
 

@@ -1,5 +1,5 @@
 #!/usr/bin/env python3
-"""Times crates/image_bench, and prints medians of several rounds and their ratios.
+"""Times `zq_bench image`, and prints medians of several rounds and their ratios.
 
     merge   a merge of two shards of 100,000 members, half of them shared, beside a copy of one
     book    a book's makes over 100,000 members beside a shard's, and the memory that its tail takes
@@ -22,8 +22,8 @@ import sys
 import dump
 
 ROOT = pathlib.Path(__file__).resolve().parent.parent
-CRATE = ROOT / "crates" / "image_bench"
-PROGRAM = CRATE / "out" / "image_bench"
+CRATE = ROOT / "crates" / "zq_bench"
+PROGRAM = CRATE / "out" / "zq_bench"
 MAKES = 1000000
 # A site's tail is cut to its newer half when it has so many records.
 LONG = 4096
@@ -32,7 +32,7 @@ LONG = 4096
 def build():
     """Proves and builds the program."""
     rt = subprocess.run([ROOT / "tools" / "find-rt"], stdout=subprocess.PIPE, check=True, text=True).stdout.strip()
-    command = [rt, "run", "--", "merge", "2"]
+    command = [rt, "run", "--", "image", "merge", "2"]
     done = subprocess.run(command, cwd=CRATE, stdin=subprocess.DEVNULL, capture_output=True, text=True)
     if done.returncode:
         sys.exit(done.stdout + done.stderr)
@@ -40,7 +40,7 @@ def build():
 
 def run(*words):
     """What the program says, and the nanoseconds of each kind of step."""
-    command = [PROGRAM, *map(str, words)]
+    command = [PROGRAM, "image", *map(str, words)]
     done = subprocess.run(command, stdin=subprocess.DEVNULL, capture_output=True, check=True, text=True)
     return done.stdout.strip(), {kind: int(time) for kind, time in map(str.split, done.stderr.splitlines())}
 
@@ -61,7 +61,7 @@ class Medians(collections.defaultdict):
 
 def resident(*words):
     """The bytes that the program keeps in memory while it waits for the end of its input."""
-    command = [PROGRAM, *map(str, words)]
+    command = [PROGRAM, "image", *map(str, words)]
     with subprocess.Popen(command, stdin=subprocess.PIPE, stdout=subprocess.PIPE, stderr=subprocess.DEVNULL) as process:
         process.stdout.readline()
         text = pathlib.Path(f"/proc/{process.pid}/status").read_text()

@@ -6,11 +6,12 @@ set -euo pipefail
 root=$(cd "$(dirname "$0")/.." && pwd)
 rt=$("$root/tools/find-rt")
 time=${1:-1000}
-cd "$root/crates/lock_bench"
-"$rt" run >/dev/null 2>&1 || "$rt" run # proves and builds it, and where that fails shows why
+cd "$root/crates/zq_bench"
+# This proves and builds it, and where that fails shows why.
+"$rt" run -- lock rates 1 >/dev/null 2>&1 || "$rt" run -- lock rates 1
 echo "$(nproc) processors"
-out/lock_bench rates "$time"
+out/zq_bench lock rates "$time"
 echo "one processor"
-taskset -c 0 out/lock_bench rates "$time"
+taskset -c 0 out/zq_bench lock rates "$time"
 echo "64 threads, nothing inside, ten seconds"
-out/lock_bench spread 10000
+out/zq_bench lock spread 10000

@@ -1,5 +1,5 @@
 #!/usr/bin/env python3
-"""Times how a node catches up with another one, by crates/node_bench, in alternation with redis-server's full
+"""Times how a node catches up with another one, by `zq_bench node`, in alternation with redis-server's full
 synchronisation of the same set to a new replica on loopback, and prints medians of several rounds and their ratios.
 
     whole    all operations are made first: the node is told whole heaps
@@ -25,8 +25,8 @@ import dump
 import pipe
 
 ROOT = pathlib.Path(__file__).resolve().parent.parent
-CRATE = ROOT / "crates" / "node_bench"
-PROGRAM = CRATE / "out" / "node_bench"
+CRATE = ROOT / "crates" / "zq_bench"
+PROGRAM = CRATE / "out" / "zq_bench"
 # Members that one ZADD adds to redis-server.
 BATCH = 1000
 # Seconds between two looks at a replica.
@@ -36,14 +36,14 @@ PAUSE = 0.002
 def build():
     """Proves and builds the program."""
     rt = subprocess.run([ROOT / "tools" / "find-rt"], stdout=subprocess.PIPE, check=True, text=True).stdout.strip()
-    done = subprocess.run([rt, "run", "--", "1"], cwd=CRATE, stdin=subprocess.DEVNULL, capture_output=True, text=True)
+    done = subprocess.run([rt, "run", "--", "node", "1"], cwd=CRATE, stdin=subprocess.DEVNULL, capture_output=True, text=True)
     if done.returncode:
         sys.exit(done.stdout + done.stderr)
 
 
 def catch_up(operations, few):
     """What the program measured of so many operations, caught up after each few of them."""
-    command = [PROGRAM, str(operations), str(few)]
+    command = [PROGRAM, "node", str(operations), str(few)]
     done = subprocess.run(command, stdin=subprocess.DEVNULL, capture_output=True, check=True, text=True)
     if done.stdout.strip() != f"{operations} and {operations} members, vectors are equal":
         sys.exit(f"nodes.py: {done.stdout}{done.stderr}")

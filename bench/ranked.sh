@@ -1,5 +1,5 @@
 #!/usr/bin/env bash
-# Times crates/ranked_bench, over a Ranked and a PosHeap, bench/ranked, the same work over Rust's own BTreeSet, and
+# Times `zq_bench ranked`, over a Ranked and a PosHeap, bench/ranked, the same work over Rust's own BTreeSet, and
 # redis-server's sorted sets, where it is there, and prints the least nanoseconds a step of several rounds. Needs cargo.
 # Usage: bench/ranked.sh [STEPS [ROUNDS [PAIRS ..]]]. Status 1 where the two programs answer otherwise.
 set -euo pipefail
@@ -11,11 +11,11 @@ rt=$("$root/tools/find-rt")
 out=$root/bench/out
 mkdir -p "$out"
 cargo build --quiet --release --offline --manifest-path "$root/bench/ranked/Cargo.toml" --target-dir "$out"
-(cd "$root/crates/ranked_bench" && "$rt" run -- 1 1) >"$out/log" 2>&1 || { cat "$out/log" >&2; exit 1; }
+(cd "$root/crates/zq_bench" && "$rt" run -- ranked 1 1) >"$out/log" 2>&1 || { cat "$out/log" >&2; exit 1; }
 for pairs; do
   rm -f "$out/steps"
   for ((round = 0; round < rounds; round++)); do
-    ours=$("$root/crates/ranked_bench/out/ranked_bench" "$steps" "$pairs" 2>>"$out/steps")
+    ours=$("$root/crates/zq_bench/out/zq_bench" ranked "$steps" "$pairs" 2>>"$out/steps")
     theirs=$("$out/release/ranked" "$steps" "$pairs" 2>>"$out/steps")
     if [ "$ours" != "$theirs" ]; then
       echo "ranked.sh: a Ranked gave '$ours', and a BTreeSet '$theirs'" >&2

@@ -1,5 +1,5 @@
 #!/usr/bin/env bash
-# Calls a second of a site of 16 heaps by 1, 2 and 4 passes, each in a thread of its own, by crates/site_bench: half of them
+# Calls a second of a site of 16 heaps by 1, 2 and 4 passes, each in a thread of its own, by `zq_bench site`: half of them
 # ZSCORE, a third ZADD, the rest ZINCRBY and ZPOPMIN, over 1,000 keys; and the same with ZPOPNEAR in place of ZPOPMIN. Prints
 # the medians of several rounds, and each one's ratio to that of one pass. Usage: bench/site.sh [CALLS [ROUNDS]]. Status 1
 # where a call answers an error.
@@ -8,12 +8,12 @@ calls=${1:-2000000} rounds=${2:-5}
 root=$(cd "$(dirname "$0")/.." && pwd)
 rt=$("$root/tools/find-rt")
 out=$root/bench/out
-ours=$root/crates/site_bench/out/site_bench
+ours=$root/crates/zq_bench/out/zq_bench
 mkdir -p "$out"
-(cd "$root/crates/site_bench" && "$rt" run -- 1) >"$out/log" 2>&1 || { cat "$out/log" >&2; exit 1; }
+(cd "$root/crates/zq_bench" && "$rt" run -- site 1) >"$out/log" 2>&1 || { cat "$out/log" >&2; exit 1; }
 rm -f "$out/site"
 for ((round = 0; round < rounds; round++)); do
-  said=$("$ours" "$calls" 2>>"$out/site")
+  said=$("$ours" site "$calls" 2>>"$out/site")
   if grep 'errors$' <<<"$said" | grep -qv ' 0 errors$'; then echo "site.sh: $said" >&2; exit 1; fi
 done
 

@@ -1,4 +1,4 @@
-//! The work of `crates/heap_bench`, draw for draw, over the pair of a sorted set and a hash map of Rust's library: it
+//! The work of `zq_bench heap`, draw for draw, over the pair of a sorted set and a hash map of Rust's library: it
 //! writes the same checksum to standard output, and its own steps a second to standard error.
 use std::collections::{BTreeSet, HashMap};
 use std::env;

@@ -1,4 +1,4 @@
-//! The work of `crates/ranked_bench`, draw for draw, over a `BTreeSet` of Rust's library: it writes the same checksums
+//! The work of `zq_bench ranked`, draw for draw, over a `BTreeSet` of Rust's library: it writes the same checksums
 //! to standard output, and nanoseconds a step to standard error. A set knows no places: what hangs on them is found in
 //! a sorted list and not timed, and the ten pairs that are timed begin at a drawn pair.
 use std::collections::BTreeSet;

@@ -1,5 +1,0 @@
-use Rattle.node_bench.proofs.catching.ask_once.Given as goal
-use Rattle.zq_node.specs.Node.{IsNode}
-
-abbrev pub invariant-loop-have : goal.invariant-loop-have
-invariant-loop-have g l = IsNode l.asker × IsNode l.asked

@@ -1,0 +1,5 @@
+use Rattle.zq_bench.proofs.site.calls.call_in_turn.Given as goal
+use Rattle.zq_spread.specs.Passes.{IsPassOf}
+
+abbrev pub invariant-loop-call : goal.invariant-loop-call
+invariant-loop-call g l = IsPassOf l.site l.pass
