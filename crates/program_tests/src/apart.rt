@@ -8,7 +8,7 @@ use clients::{Step, is_answered, serve_all};
 use guests::{Guests, greeting, is_logged, logged_with};
 use log::sink::Locked;
 use log::{LevelFilter, Logged};
-use places::{free_places, reach, settings_at, settings_of};
+use places::{Place, free_places, reach, settings_at, settings_of};
 use std::alloc::Global;
 use std::net::{IpAddr, Ipv4Addr, Net, SocketAddr, TcpListener, TcpStream};
 use std::random::RandomSource;
@@ -46,8 +46,8 @@ fn steps_to(last: usize) -> [Step<'static>; 6] {
     ]
 }
 
-/// Serves so many sites with a secret, the clients of the first and of the last of which find what both were told.
-fn meet<R>(rt: &R, alloc: Global, sites: u8, secret: Option<&str>) -> Result<bool, Fail>
+/// Serves sites at these places with a secret, the clients of the first and of the last of which find what both were told.
+fn meet<R>(rt: &R, alloc: Global, places: &[Place], secret: Option<&str>) -> Result<bool, Fail>
 where
     R: Net<Listener = TcpListener, Stream = TcpStream>
         + RandomSource
@@ -56,21 +56,21 @@ where
         + Wait
         + Sync,
 {
-    let places = free_places(rt, alloc, sites)?;
     let mut settings = Vec::new(alloc);
-    for place in &places {
-        settings.push(settings_of(alloc, *place, &places, secret)?)?;
+    for place in places {
+        settings.push(settings_of(alloc, *place, places, secret)?)?;
     }
     let log = Logged::new(rt, LevelFilter::Warn, Locked::new(rt, Vec::new(alloc)));
-    let steps = steps_to(usize::from(sites).saturating_sub(1));
-    serve_all(rt, &log, alloc, &places, &settings, &steps)
+    let steps = steps_to(places.len().saturating_sub(1));
+    serve_all(rt, &log, alloc, places, &settings, &steps)
 }
 
 #[test]
 fn what_one_site_is_told_others_have(rt: HostRuntime) -> Result<(), Fail> {
     let rounds = [(2, None), (3, Some("a secret of sites"))];
     for (sites, secret) in rounds {
-        assert!(rt; meet(&rt, rt.alloc(), sites, secret)?, "{sites}");
+        let places = free_places(&rt, rt.alloc(), rt.process(), sites)?;
+        assert!(rt; meet(&rt, rt.alloc(), &places, secret)?, "{sites}");
     }
     Ok(())
 }
@@ -79,6 +79,7 @@ fn what_one_site_is_told_others_have(rt: HostRuntime) -> Result<(), Fail> {
 fn lets_go<R>(
     rt: &R,
     alloc: Global,
+    places: &[Place],
     secret: Option<&str>,
     strangers: &[&[u8]],
     words: &[&str],
@@ -91,11 +92,10 @@ where
         + Wait
         + Sync,
 {
-    let places = free_places(rt, alloc, 2)?;
-    let [own, _] = places.as_slice() else {
+    let [own, _] = places else {
         return Err("two places".into());
     };
-    let settings = settings_of(alloc, *own, &places, secret)?;
+    let settings = settings_of(alloc, *own, places, secret)?;
     let guests = Guests::Strangers(strangers, own.door());
     let log = logged_with(rt, alloc, &settings, &guests, own.clients)?;
     is_logged(&log, words)
@@ -115,7 +115,8 @@ fn who_is_not_welcome_is_let_go(rt: HostRuntime) -> Result<(), Fail> {
         "site 0 refuses a peer: it has 3 heaps",
         "site 0 refuses a peer: site 2 is not expected",
     ];
-    assert!(rt; lets_go(&rt, rt.alloc(), None, &strangers, &words)?);
+    let places = free_places(&rt, rt.alloc(), rt.process(), 2)?;
+    assert!(rt; lets_go(&rt, rt.alloc(), &places, None, &strangers, &words)?);
     Ok(())
 }
 
@@ -127,14 +128,15 @@ fn who_does_not_know_the_secret_is_let_go(rt: HostRuntime) -> Result<(), Fail> {
         "site 0 refuses a peer: it does not know the secret",
     ];
     let secret = Some("a secret of sites");
-    assert!(rt; lets_go(&rt, rt.alloc(), secret, &strangers, &words)?);
+    let places = free_places(&rt, rt.alloc(), rt.process(), 2)?;
+    assert!(rt; lets_go(&rt, rt.alloc(), &places, secret, &strangers, &words)?);
     Ok(())
 }
 
 #[test]
 fn a_peer_is_dialled_again_after_a_break(rt: HostRuntime) -> Result<(), Fail> {
     let alloc = rt.alloc();
-    let places = free_places(&rt, alloc, 2)?;
+    let places = free_places(&rt, alloc, rt.process(), 2)?;
     let [peer, own] = places.as_slice() else {
         return Err("two places".into());
     };
@@ -154,7 +156,7 @@ fn a_peer_is_dialled_again_after_a_break(rt: HostRuntime) -> Result<(), Fail> {
 #[test]
 fn each_byte_of_a_nonce_is_drawn(rt: HostRuntime) -> Result<(), Fail> {
     let alloc = rt.alloc();
-    let places = free_places(&rt, alloc, 2)?;
+    let places = free_places(&rt, alloc, rt.process(), 2)?;
     let [own, _] = places.as_slice() else {
         return Err("two places".into());
     };
@@ -169,7 +171,7 @@ fn each_byte_of_a_nonce_is_drawn(rt: HostRuntime) -> Result<(), Fail> {
 #[test]
 fn no_loss_is_warned_of_where_a_newer_link_or_the_end_came(rt: HostRuntime) -> Result<(), Fail> {
     let alloc = rt.alloc();
-    let places = free_places(&rt, alloc, 2)?;
+    let places = free_places(&rt, alloc, rt.process(), 2)?;
     let [own, _] = places.as_slice() else {
         return Err("two places".into());
     };
@@ -180,31 +182,25 @@ fn no_loss_is_warned_of_where_a_newer_link_or_the_end_came(rt: HostRuntime) -> R
     Ok(())
 }
 
-/// Whether a client is answered at 127.0.0.2, and at 127.0.0.1 finds nobody. Else the site is let end.
+/// Whether a client is answered at 127.0.0.2.
 fn is_heard_there<N: Net<Listener = TcpListener, Stream = TcpStream>, R: Clock>(
     net: &N,
     rt: &R,
     alloc: Global,
     port: u16,
 ) -> Result<bool, Fail> {
-    let here = SocketAddr::from((IpAddr::V4(Ipv4Addr::LOCALHOST), port));
     let there = SocketAddr::from((IpAddr::V4(Ipv4Addr::new(127, 0, 0, 2)), port));
-    let Some(client) = reach(net, rt, there) else {
-        drop(reach(net, rt, here));
-        return Ok(false);
-    };
-    let answered = is_answered(alloc, &client, b"*1\r\n$4\r\nPING\r\n", b"+PONG\r\n")?;
-    Ok(answered && TcpStream::connect(net, here).is_err())
+    let client = reach(net, rt, there).ok_or("nobody listens")?;
+    is_answered(alloc, &client, b"*1\r\n$4\r\nPING\r\n", b"+PONG\r\n")
 }
 
-/// Serves the site of these settings while a client looks for it at both addresses: what the site writes, where it is heard
-/// as it has to be.
-fn announced_there<R>(
+/// Serves a site whose clients connect at 127.0.0.2: whether one is answered there and serving ends well, and what is written.
+fn heard_there<R>(
     rt: &R,
     alloc: Global,
     settings: &SiteSettings,
     port: u16,
-) -> Result<Vec<u8>, Fail>
+) -> Result<(bool, Vec<u8>), Fail>
 where
     R: Net<Listener = TcpListener, Stream = TcpStream>
         + RandomSource
@@ -220,22 +216,22 @@ where
         || serve_site(rt, &log, alloc, settings, &mut written),
         || is_heard_there(rt, rt, alloc, port),
     );
-    if heard? && ended.is_ok() {
-        return Ok(written);
-    }
-    Err("clients are heard elsewhere".into())
+    Ok((heard? && ended.is_ok(), written))
 }
 
+// The port is taken at 127.0.0.1, so that a site that listens there for its clients, or at all addresses, is not served.
 #[test]
 fn clients_are_heard_at_the_address_of_bind(rt: HostRuntime) -> Result<(), Fail> {
     let alloc = rt.alloc();
-    let places = free_places(&rt, alloc, 1)?;
+    let places = free_places(&rt, alloc, rt.process(), 1)?;
     let [own] = places.as_slice() else {
         return Err("a place".into());
     };
     let (own, port) = (*own, own.clients);
+    let _taken = TcpListener::bind(&rt, ("127.0.0.1", port))?;
     let settings = settings_at(alloc, own, "127.0.0.2")?;
-    let written = announced_there(&rt, alloc, &settings, port)?;
+    let (heard, written) = heard_there(&rt, alloc, &settings, port)?;
+    assert!(rt; heard);
     let line = format!(in alloc; "site 0 port {port} peers {}\n", own.door())?;
     assert_eq!(rt; written.as_slice(), line.as_bytes());
     Ok(())

@@ -6,4 +6,8 @@ mod apart;
 #[cfg(test)]
 mod drill;
 #[cfg(test)]
+mod patience;
+#[cfg(test)]
+mod ports;
+#[cfg(test)]
 mod serve;

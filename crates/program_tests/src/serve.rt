@@ -1,7 +1,10 @@
 //! Sites that are served over loopback.
 
 mod meeting;
+mod working;
 
+use crate::patience::{LOOKS, nap};
+use crate::ports::two_ports;
 use log::sink::Locked;
 use log::{LevelFilter, Logged};
 use std::alloc::Global;
@@ -10,16 +13,10 @@ use std::net::{Net, TcpListener, TcpStream};
 use std::sync::Wait;
 use std::test::Fail;
 use std::thread::Threads;
-use std::time::{Clock, Duration};
+use std::time::Clock;
 use std::{str, thread};
 use zq_serve::{ServeFault, serve};
 use zq_settings::{Settings, settings};
-
-/// A port on which nobody listens.
-fn free_port<R: Net<Listener = TcpListener, Stream = TcpStream>>(rt: &R) -> Result<u16, Fail> {
-    let listener = TcpListener::bind(rt, "127.0.0.1:0")?;
-    Ok(listener.local_addr()?.port())
-}
 
 /// Settings of sites of two heaps on these ports, each of which accepts one connection.
 fn settings_of(alloc: Global, ports: &[u16]) -> Result<Settings, Fail> {
@@ -32,12 +29,10 @@ fn connect<R: Net<Listener = TcpListener, Stream = TcpStream> + Clock>(
     rt: &R,
     port: u16,
 ) -> Result<TcpStream, Fail> {
-    for _try in 0..2000 {
+    for _look in 0..LOOKS {
         match TcpStream::connect(rt, ("127.0.0.1", port)) {
             Ok(stream) => return Ok(stream),
-            Err(_) => {
-                let _ = thread::sleep(rt, Duration::from_millis(5));
-            }
+            Err(_) => nap(rt),
         }
     }
     Err("nobody listens".into())
@@ -81,12 +76,12 @@ fn await_reply<const N: usize, R: Clock>(
     bytes: &[u8],
     want: &[u8; N],
 ) -> Result<(), Fail> {
-    for _try in 0..4000 {
+    for _look in 0..LOOKS {
         let reply: [u8; N] = replied(stream, bytes)?;
         if reply.as_slice() == want.as_slice() {
             return Ok(());
         }
-        let _ = thread::sleep(rt, Duration::from_millis(5));
+        nap(rt);
     }
     Err("the sites do not meet".into())
 }
@@ -152,7 +147,7 @@ where
 #[test]
 fn clients_are_served_by_the_site_of_their_port(rt: HostRuntime) -> Result<(), Fail> {
     let alloc = rt.alloc();
-    let ports = [free_port(&rt)?, free_port(&rt)?];
+    let ports = two_ports(&rt, rt.process())?;
     let served = served_to_two(&rt, alloc, ports, [ADD, PING])?;
     let [first, second] = &served.answers;
     assert_eq!(rt; served.ended, Ok(()));
@@ -194,7 +189,7 @@ where
 
 #[test]
 fn what_one_site_is_told_another_has(rt: HostRuntime) -> Result<(), Fail> {
-    let ports = [free_port(&rt)?, free_port(&rt)?];
+    let ports = two_ports(&rt, rt.process())?;
     let (ended, found) = served_apart(&rt, rt.alloc(), ports)?;
     assert_eq!(rt; ended, Ok(()));
     assert_eq!(rt; found.as_slice(), b"*1\r\n$1\r\na\r\n".as_slice());
@@ -204,7 +199,7 @@ fn what_one_site_is_told_another_has(rt: HostRuntime) -> Result<(), Fail> {
 #[test]
 fn what_is_no_request_is_warned_of(rt: HostRuntime) -> Result<(), Fail> {
     let alloc = rt.alloc();
-    let ports = [free_port(&rt)?, free_port(&rt)?];
+    let ports = two_ports(&rt, rt.process())?;
     let served = served_to_two(&rt, alloc, ports, [PING, b"x"])?;
     let [first, second] = &served.answers;
     assert_eq!(rt; served.ended, Ok(()));

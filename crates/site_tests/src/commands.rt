@@ -3,6 +3,7 @@
 
 ghost use Rattle.zq_model.specs.Sets.{IsHeaps};
 
+mod apart;
 mod deep;
 mod drawn;
 mod many;
@@ -204,11 +205,11 @@ struct Sites {
 }
 
 impl Sites {
-    fn new(alloc: Global, heaps: u8) -> Result<Sites, Fail>
+    fn new(alloc: Global, heaps: u8, rule: Rule) -> Result<Sites, Fail>
         requires { IsHeaps heaps }
     {
-        let a = SiteBooks::new(alloc, heaps, Rule::High, Seeded::new(1))?;
-        let b = SiteBooks::new(alloc, heaps, Rule::High, Seeded::new(2))?;
+        let a = SiteBooks::new(alloc, heaps, rule, Seeded::new(1))?;
+        let b = SiteBooks::new(alloc, heaps, rule, Seeded::new(2))?;
         Ok(Sites { a, b })
     }
 
@@ -305,7 +306,7 @@ fn take_step(
     requires { IsHeaps heaps }
 {
     match step {
-        Clear => *sites = Sites::new(alloc, heaps)?,
+        Clear => *sites = Sites::new(alloc, heaps, Rule::High)?,
         A(line, says) => {
             let bytes = ask(alloc, &mut sites.a, 0, line)?;
             assert!(rt; bytes.as_slice() == says.as_bytes(), "{line}");
@@ -324,7 +325,7 @@ fn take_step(
 fn follow(rt: &impl Abort, alloc: Global, heaps: u8, most: usize) -> Result<(), Fail>
     requires { IsHeaps heaps }
 {
-    let mut sites = Sites::new(alloc, heaps)?;
+    let mut sites = Sites::new(alloc, heaps, Rule::High)?;
     for step in STEPS.iter() {
         index_all(alloc, &mut sites.a, most);
         index_all(alloc, &mut sites.b, most);

@@ -1,6 +1,7 @@
 //! What the clients of sites do.
 
 use super::places::{Place, connect};
+use crate::patience::{LOOKS, nap};
 use log::Log;
 use std::alloc::Global;
 use std::io::{Read, Write};
@@ -10,7 +11,7 @@ use std::sync::{Mutex, Wait};
 use std::test::Fail;
 use std::thread;
 use std::thread::Threads;
-use std::time::{Clock, Duration};
+use std::time::Clock;
 use zq_apart::serve_site;
 use zq_settings::SiteSettings;
 
@@ -68,14 +69,14 @@ pub fn follow<R: Clock>(
 ) -> Result<(), Fail> {
     let (Step::Ask(at, request, want) | Step::Await(at, request, want)) = step;
     let client = clients.get(*at).ok_or("a client")?;
-    for _try in 0..4000 {
+    for _look in 0..LOOKS {
         if is_answered(alloc, client, request, want)? {
             return Ok(());
         }
         if let Step::Ask(..) = step {
             return Err("another reply".into());
         }
-        thread::sleep(rt, Duration::from_millis(5));
+        nap(rt);
     }
     Err("the sites do not meet".into())
 }

@@ -119,18 +119,19 @@ pub fn greet(listener: &TcpListener, bytes: &[u8]) -> Result<TcpStream, Fail> {
 }
 
 /// What the site says first where it is greeted: its greeting, and the length and the kind of a Have. It also says whether
-/// that came within a second.
+/// that came within three seconds.
 pub fn heard_of<R: Clock>(rt: &R, listener: &TcpListener) -> Result<([u8; 18], bool), Fail> {
     let mut stream = greet(listener, b"")?;
     let start = Instant::now(rt)?;
     let mut heard = [0u8; 18];
     stream.read_exact(&mut heard)?;
-    let soon = start.elapsed(rt)? < Duration::from_secs(1);
+    let soon = start.elapsed(rt)? < Duration::from_secs(3);
     Ok((heard, soon))
 }
 
 /// Breaks the link twice, once with a frame that is none and one that is too long, and hears what the site says then. One of
-/// the links that are up brings a Have within a second, where the site would say what it has every five seconds.
+/// the links that are up brings a Have within three seconds: else the site would say what it has after five, and after five
+/// more.
 pub fn break_twice<R: Clock>(rt: &R, alloc: Global, listener: &TcpListener) -> Result<(), Fail> {
     let (_, first_soon) = heard_of(rt, listener)?;
     let stream = greet(listener, b"\x00\x00\x00\x01\x09\xff\xff\xff\xff")?;

@@ -1,10 +1,12 @@
 //! Where the sites of the tests are.
 
+use crate::patience::{LOOKS, nap};
+use crate::ports::free_ports;
 use std::alloc::Global;
 use std::net::{IpAddr, Ipv4Addr, Net, SocketAddr, TcpListener, TcpStream};
+use std::process::Process;
 use std::test::Fail;
-use std::thread;
-use std::time::{Clock, Duration};
+use std::time::Clock;
 use zq_settings::{SiteSettings, site_settings};
 
 const LOOPBACK: IpAddr = IpAddr::V4(Ipv4Addr::LOCALHOST);
@@ -23,28 +25,29 @@ impl Place {
     }
 }
 
-/// A port on which nobody listens.
-pub fn free_port<R: Net<Listener = TcpListener, Stream = TcpStream>>(rt: &R) -> Result<u16, Fail> {
-    let listener = TcpListener::bind(rt, "127.0.0.1:0")?;
-    Ok(listener.local_addr()?.port())
-}
-
-/// Places of this many sites, on ports on which nobody listens.
+/// Places of this many sites, four at most, on ports on which nobody listens.
 pub fn free_places<R: Net<Listener = TcpListener, Stream = TcpStream>>(
     rt: &R,
     alloc: Global,
+    process: Process,
     sites: u8,
 ) -> Result<Vec<Place>, Fail> {
+    let ports = free_ports(rt, process)?;
     let mut places = Vec::new(alloc);
     for site in 0..sites {
-        let (clients, peers) = (free_port(rt)?, free_port(rt)?);
-        places.push(Place {
-            site,
-            clients,
-            peers,
-        })?;
+        places.push(place_of(site, &ports).ok_or("no port is left")?)?;
     }
     Ok(places)
+}
+
+/// The place of a site, which has the next two of the ports.
+fn place_of(site: u8, ports: &[u16]) -> Option<Place> {
+    let at = 2 * usize::from(site);
+    Some(Place {
+        site,
+        clients: *ports.get(at)?,
+        peers: *ports.get(at + 1)?,
+    })
 }
 
 /// The settings of a site that is alone, and whose clients connect at an address of their own.
@@ -109,10 +112,10 @@ pub fn reach<N: Net<Listener = TcpListener, Stream = TcpStream>, R: Clock>(
     rt: &R,
     address: SocketAddr,
 ) -> Option<TcpStream> {
-    for _try in 0..2000 {
+    for _look in 0..LOOKS {
         match TcpStream::connect(net, address) {
             Ok(stream) => return Some(stream),
-            Err(_) => thread::sleep(rt, Duration::from_millis(5)),
+            Err(_) => nap(rt),
         }
     }
     None
