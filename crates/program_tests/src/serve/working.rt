@@ -61,6 +61,35 @@ fn as_many_clients_are_served_at_once_as_there_are_workers(rt: HostRuntime) -> R
     Ok(())
 }
 
+/// Whether a client is answered at 127.0.0.1, while nobody listens at 127.0.0.2. Then lets the site end.
+fn is_heard_here_alone<R: Net<Listener = TcpListener, Stream = TcpStream> + Clock>(
+    rt: &R,
+    port: u16,
+) -> Result<bool, Fail> {
+    let mut client = connect(rt, port)?;
+    let elsewhere = TcpStream::connect(rt, ("127.0.0.2", port)).is_ok();
+    let served = is_served(&mut client)?;
+    drop(connect(rt, port)?);
+    Ok(served && !elsewhere)
+}
+
+#[test]
+fn clients_are_heard_at_one_address_alone(rt: HostRuntime) -> Result<(), Fail> {
+    let alloc = rt.alloc();
+    let [port, ..] = free_ports(&rt, rt.process())?;
+    let settings = settings_of(alloc, port, 2)?;
+    let log = Logged::new(&rt, LevelFilter::Warn, Locked::new(&rt, Vec::new(alloc)));
+    let mut written = Vec::new(alloc);
+    let (ended, heard) = thread::join(
+        &rt,
+        || serve(&log, alloc, &settings, &mut written),
+        || is_heard_here_alone(&rt, port),
+    );
+    assert!(rt; heard?);
+    assert_eq!(rt; ended, Ok(()));
+    Ok(())
+}
+
 /// A runtime whose listener does not wait for clients, so that an accept fails, until something is warned of.
 #[derive(Drop)]
 struct Hasty<'a, R: Wait> {
