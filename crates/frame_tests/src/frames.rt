@@ -8,7 +8,7 @@ use std::process::Abort;
 use std::test::Fail;
 use vectors::VECTORS;
 use zq_delta::OpFault;
-use zq_frames::{FrameFault, read_frame, write_frame};
+use zq_links::{FrameFault, read_frame, write_frame};
 use zq_merge::StateFault;
 use zq_posheap::Seeded;
 

@@ -2,7 +2,7 @@
 
 use std::test::Fail;
 use zq_dots::{Rule, Score, SiteNo, Vector};
-use zq_parts::{
+use zq_fields::{
     HeapNo, PartFault, read_dense, read_heap, read_rule, read_score, read_site, read_sparse,
     read_text, rule_byte, sparse_len, write_score, write_sparse, write_text,
 };

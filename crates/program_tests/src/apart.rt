@@ -17,8 +17,8 @@ use std::test::Fail;
 use std::thread;
 use std::thread::Threads;
 use std::time::Clock;
-use zq_apart::serve_site;
 use zq_settings::SiteSettings;
+use zq_site::serve_site;
 
 const ADD_A: &[u8] = b"*4\r\n$4\r\nZADD\r\n$1\r\nq\r\n$1\r\n3\r\n$1\r\na\r\n";
 

@@ -35,7 +35,7 @@ fn two_of(_site: &Site, passes: Vec<Pass>) -> Option<(Pass, Pass)>
 
 /// A site of this number and so many heaps, with two passes.
 fn opened(alloc: Global, number: u8, heaps: u8) -> Option<(Site, Pass, Pass)>
-    ensures heaps { IfSome result (λ made. length made.0.rooms.items ≡ heaps) }
+    ensures heaps { IfSome result (λ made. length made.0.slots.items ≡ heaps) }
     ensures first { IfSome result (λ made. IsPassOf made.0 made.1) }
     ensures second { IfSome result (λ made. IsPassOf made.0 made.2) }
 {
@@ -49,7 +49,7 @@ fn opened(alloc: Global, number: u8, heaps: u8) -> Option<(Site, Pass, Pass)>
 
 /// Site 0 of two heaps, with so many passes.
 fn opened_for(alloc: Global, passes: usize) -> Result<(Site, Vec<Pass>), Fail>
-    ensures heaps { IfOk result (λ made. length made.0.rooms.items ≡ 2) }
+    ensures heaps { IfOk result (λ made. length made.0.slots.items ≡ 2) }
     ensures all { IfOk result (λ made. AreAllPasses made.0 made.1.items) }
     ensures number { IfOk result (λ made. length made.1.items ≡ passes) }
 {

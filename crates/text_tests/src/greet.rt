@@ -5,7 +5,7 @@ use std::io;
 use std::io::Read;
 use std::test::Fail;
 use zq_dots::{Rule, SiteNo};
-use zq_greet::{
+use zq_wire::{
     NONCE, Opening, Refusal, Secret, Side, Unopened, hear_opening, open_over, write_greeting,
 };
 

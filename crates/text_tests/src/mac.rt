@@ -1,6 +1,6 @@
 //! The test vectors of RFC 4231.
 
-use zq_mac::{is_same_tag, mac};
+use zq_wire::{is_same_tag, mac};
 
 /// A key, the parts of a message, and its tag.
 #[derive(Drop)]

@@ -1,10 +1,10 @@
 //! What waits, and in which order.
 ghost use Rattle.std.specs.Prelude.{◌≡◌, ◌<◌};
-ghost use Rattle.zq_outbox.specs.Topic.{heap_of};
+ghost use Rattle.zq_wire.specs.Topic.{heap_of};
 
 use std::alloc::Global;
 use std::test::Fail;
-use zq_outbox::{Outbox, Topic};
+use zq_wire::{Outbox, Topic};
 
 /// A step: a frame of one byte is put, or the one that waits first is taken.
 #[derive(Clone, Copy)]

@@ -1,7 +1,7 @@
 //! Streams by their bytes.
 use std::alloc::Global;
 use std::test::Fail;
-use zq_stream::{Reader, StreamFault, write_framed};
+use zq_wire::{Reader, StreamFault, write_framed};
 
 // The frames `ab`, none and `xyz`.
 const STREAM: &[u8] = b"\x00\x00\x00\x02ab\x00\x00\x00\x00\x00\x00\x00\x03xyz";

@@ -3,13 +3,13 @@
 use Rattle.std.proofs.Common.{List, ap, false, true, ℕ, ◌<◌, ◌∙◌, ◌≡◌}
 use Rattle.std.specs.Prelude.{if◌then◌else◌}
 use Rattle.zq_commands.specs.Lending.{HasBook, IsHomeAt, IsLending, Lending, lent_after, queues_in}
-use Rattle.zq_history.specs.Books.{Book}
+use Rattle.zq_model.specs.Books.{Book}
 use Rattle.zq_model.proofs.Maps.{in_map}
 use Rattle.zq_model.specs.Sets.{SITES}
-use Rattle.zq_moves.proofs.QueuesAfter.{queues_after}
-use Rattle.zq_moves.proofs.Read.{in_place}
-use Rattle.zq_moves.specs.Lent.{is_home, is_home_of, made_in}
-use Rattle.zq_moves.specs.Moves.{Move, after}
+use Rattle.zq_model.proofs.QueuesAfter.{queues_after}
+use Rattle.zq_model.proofs.Read.{in_place}
+use Rattle.zq_model.specs.Lent.{is_home, is_home_of, made_in}
+use Rattle.zq_model.specs.Moves.{Move, after}
 use Rattle.zq_posheap.proofs.Lists.{there_is}
 
 -- a member whose book is at a place has a book

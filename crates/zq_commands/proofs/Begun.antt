@@ -6,7 +6,7 @@ use Rattle.zq_commands.specs.Beginning.{begun}
 use Rattle.zq_commands.specs.Lending.{IsDated}
 use Rattle.zq_commands.specs.SiteBooks.{AreOfSite, IsBookOf}
 use Rattle.zq_commands.specs.VecBooks.{lending_of, rule_in}
-use Rattle.zq_history.specs.Books.{Book}
+use Rattle.zq_model.specs.Books.{Book}
 use Rattle.zq_model.proofs.Listing.{in_map_from}
 use Rattle.zq_model.specs.Bounded.{IsBounded}
 use Rattle.zq_model.specs.Sets.{IsHeaps}

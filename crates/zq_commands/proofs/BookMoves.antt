@@ -7,17 +7,17 @@ use Rattle.std.specs.List.{list_any}
 use Rattle.std.specs.Prelude.{if◌then◌else◌, slice_get}
 use Rattle.zq_commands.specs.Lending.{IsDated, IsLending, lent_after}
 use Rattle.zq_commands.specs.VecBooks.{heaps_in, lending_of, rule_in}
-use Rattle.zq_history.specs.Books.{Book}
+use Rattle.zq_model.specs.Books.{Book}
 use Rattle.zq_model.proofs.Listing.{in_map_from}
 use Rattle.zq_model.proofs.Membership.{any_in, any_some}
 use Rattle.zq_model.specs.Bounded.{IsBounded}
 use Rattle.zq_model.specs.Heaps.{heap_of}
 use Rattle.zq_model.specs.Sets.{IsIn}
-use Rattle.zq_moves.proofs.Homes.{lent_each, lent_one}
-use Rattle.zq_moves.proofs.Read.{in_place}
-use Rattle.zq_moves.specs.Lent.{AreLent, IsLent, is_home, made, made_in}
-use Rattle.zq_moves.specs.Moves.{Move}
-use Rattle.zq_plans.specs.Run.{is_worn}
+use Rattle.zq_model.proofs.Homes.{lent_each, lent_one}
+use Rattle.zq_model.proofs.Read.{in_place}
+use Rattle.zq_model.specs.Lent.{AreLent, IsLent, is_home, made, made_in}
+use Rattle.zq_model.specs.Moves.{Move}
+use Rattle.zq_semantics.specs.Run.{is_worn}
 
 why_parts : (home worn : Bool) → (if home then worn else false) ≡ true → (home ≡ true) × (worn ≡ true)
 why_parts true worn is = (refl, is)

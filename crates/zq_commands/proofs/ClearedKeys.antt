@@ -8,20 +8,20 @@ use Rattle.zq_commands.proofs.InTurn.{StandsAfter, after_all-append, lent-append
 use Rattle.zq_commands.proofs.Popped.{at_drop, below_drop, empty_drop, rest_drop, why_first}
 use Rattle.zq_commands.proofs.RanPlans.{drop_at}
 use Rattle.zq_commands.specs.Clearing.{Clears, IsLeft}
-use Rattle.zq_commands.specs.Cut.{want_of}
+use Rattle.zq_commands.specs.Stopped.{want_of}
 use Rattle.zq_commands.specs.FirstPairs.{DropsFirst, drop_of}
 use Rattle.zq_commands.specs.Lending.{Lending, lent_after, queues_in}
 use Rattle.zq_commands.specs.Running.{RunsOver, lent_after_all, part}
 use Rattle.zq_commands.specs.Stepping.{Steps}
 use Rattle.zq_commands.specs.declared.cleared.Cleared.{Cleared}
-use Rattle.zq_commands.specs.declared.cut.Cut.{Cut}
-use Rattle.zq_commands.specs.declared.cut.Cut.TheVariants.{NoMemory, Worn}
+use Rattle.zq_commands.specs.declared.stopped.Stopped.{Stopped}
+use Rattle.zq_commands.specs.declared.stopped.Stopped.TheVariants.{NoMemory, Worn}
 use Rattle.zq_commands.specs.declared.made.Made.{Made}
-use Rattle.zq_history.specs.Books.{Book}
-use Rattle.zq_moves.specs.Moves.{Move, Queue, after, after_all}
-use Rattle.zq_plans.specs.Plan.{del_part, drops, in_turn, is_there, moves_in_turn}
-use Rattle.zq_plans.specs.Replies.{bytes_of}
-use Rattle.zq_plans.specs.Run.{ForCopies, IsWhy, IsWhyOf, Memory, Number, Want, cut_error}
+use Rattle.zq_model.specs.Books.{Book}
+use Rattle.zq_model.specs.Moves.{Move, Queue, after, after_all}
+use Rattle.zq_semantics.specs.Plan.{del_part, drops, in_turn, is_there, moves_in_turn}
+use Rattle.zq_semantics.specs.Replies.{bytes_of}
+use Rattle.zq_semantics.specs.Run.{ForCopies, IsWhy, IsWhyOf, Memory, Number, Want, cut_error}
 use Rattle.zq_words.specs.Words.{Word}
 
 -- ---- lists
@@ -99,7 +99,7 @@ module _ (site stamp : ℕ) (key : List ℕ) where
         cleared_with (subst (IsLeft site key s t n) (sym none) all)
 
     -- until a move was refused
-    pub cleared_cut : (cut : Cut) → cleared.cut ≡ Some cut → (cut ≡ Worn → IsWhy site (slice_get (drops key (queues_in t key)) 0) t.books Number) → is_there (queues_in t key) ≡ true →
+    pub cleared_cut : (cut : Stopped) → cleared.cut ≡ Some cut → (cut ≡ Worn → IsWhy site (slice_get (drops key (queues_in t key)) 0) t.books Number) → is_there (queues_in t key) ≡ true →
         Clears site stamp key before s t cleared
     cleared_cut cut some why there =
         cleared_with (subst (IsLeft site key s t n) (sym some)
@@ -107,8 +107,8 @@ module _ (site stamp : ℕ) (key : List ℕ) where
         (why_first site key (queues_in t key) t.books cut why there)))
 
     -- or where no number counts one more
-    pub cleared_last : (cleared.cut ≡ None → queues_in t key ≡ []) → ((cut : Cut) → cleared.cut ≡ Some cut → cut ≡ NoMemory) →
-        ((cut : Cut) → cleared.cut ≡ Some cut → is_there (queues_in t key) ≡ true) → Clears site stamp key before s t cleared
+    pub cleared_last : (cleared.cut ≡ None → queues_in t key ≡ []) → ((cut : Stopped) → cleared.cut ≡ Some cut → cut ≡ NoMemory) →
+        ((cut : Stopped) → cleared.cut ≡ Some cut → is_there (queues_in t key) ≡ true) → Clears site stamp key before s t cleared
     cleared_last none some there = elim cleared.cut as (λ o. cleared.cut ≡ o → Clears site stamp key before s t cleared) [
       | None ↦ λ is. cleared_out is (none is)
       | Some cut ↦ λ is. cleared_cut cut is (λ worn. absurd (apart (sym worn ∙ some cut is))) (there cut is)
@@ -146,7 +146,7 @@ module _ (site stamp : ℕ) (keys : List Word) (i : ℕ) (key : Word) (s t u : L
       ∙ ap (λ ys. moves_in_turn del_part (take i keys) (queues_in s) ++ moves_in_turn del_part ys (queues_in t)) (drop_at keys i key at)
 
   -- where a move of a key was refused
-  pub keys_cut : (cut : Cut) → cleared.cut ≡ Some cut → (bytes : Word) → bytes ≡ bytes_of (cut_error cleared.done (want_of cut)) →
+  pub keys_cut : (cut : Stopped) → cleared.cut ≡ Some cut → (bytes : Word) → bytes ≡ bytes_of (cut_error cleared.done (want_of cut)) →
       RunsOver site stamp ForCopies (in_turn del_part keys (queues_in s)) cut_error s u bytes
   keys_cut cut some bytes says =
       let front = moves_in_turn del_part (take i keys) (queues_in s) in

@@ -6,10 +6,10 @@ use Rattle.std.proofs.lemmas.List.Sums.{count_by-le-length, sum_by-append, sum_b
 use Rattle.std.specs.Prelude.{count_by, slice_get, sum_by, take}
 use Rattle.zq_commands.proofs.InTurn.{take_next}
 use Rattle.zq_commands.specs.Lending.{IsLending, Lending, queues_in}
-use Rattle.zq_history.specs.Books.{Book}
+use Rattle.zq_model.specs.Books.{Book}
 use Rattle.zq_model.specs.Meaning.{Scored}
-use Rattle.zq_moves.proofs.Counted.{counted, measured}
-use Rattle.zq_moves.specs.Lent.{queues_of}
+use Rattle.zq_model.proofs.Counted.{counted, measured}
+use Rattle.zq_model.specs.Lent.{queues_of}
 use Rattle.zq_posheap.proofs.Lists.{there_is}
 
 -- the number of members of a key in a book

@@ -8,8 +8,8 @@ use Rattle.std.specs.Prelude.{IfSome, slice_get}
 use Rattle.zq_commands.specs.Arrays.{copied_parts}
 use Rattle.zq_commands.specs.Lending.{HasBook, IsHomeAt, IsLending, Lending, lent_after, queues_in}
 use Rattle.zq_commands.specs.FirstPairs.{DropsFirst, drop_of, top_in}
-use Rattle.zq_commands.specs.declared.dropping.Copied.{Copied}
-use Rattle.zq_history.specs.Books.{Book}
+use Rattle.zq_commands.specs.declared.first_pair.Copied.{Copied}
+use Rattle.zq_model.specs.Books.{Book}
 use Rattle.zq_model.proofs.Listing.{in_map_from}
 use Rattle.zq_model.proofs.Places.{bytes_same}
 use Rattle.zq_model.proofs.Preferred.{score_reached}
@@ -21,14 +21,14 @@ use Rattle.zq_model.specs.Operation.{Drop, LONGEST}
 use Rattle.zq_model.specs.Rule.{Rule}
 use Rattle.zq_model.specs.Score.{score_of}
 use Rattle.zq_model.specs.Sets.{IsIn}
-use Rattle.zq_moves.proofs.Counted.{measured}
-use Rattle.zq_moves.proofs.Homes.{has_addition, lent_each}
-use Rattle.zq_moves.proofs.Read.{in_place}
-use Rattle.zq_moves.specs.Lent.{is_home_of, queues_of}
-use Rattle.zq_moves.specs.Moves.{Move, Queue, after, after_act}
-use Rattle.zq_plans.specs.Plan.{drops, is_there}
-use Rattle.zq_plans.specs.Replies.{parts_of_pair}
-use Rattle.zq_plans.specs.Run.{IsWhy, Number}
+use Rattle.zq_model.proofs.Counted.{measured}
+use Rattle.zq_model.proofs.Homes.{has_addition, lent_each}
+use Rattle.zq_model.proofs.Read.{in_place}
+use Rattle.zq_model.specs.Lent.{is_home_of, queues_of}
+use Rattle.zq_model.specs.Moves.{Move, Queue, after, after_act}
+use Rattle.zq_semantics.specs.Plan.{drops, is_there}
+use Rattle.zq_semantics.specs.Replies.{parts_of_pair}
+use Rattle.zq_semantics.specs.Run.{IsWhy, Number}
 
 -- a pair of a queue over books within bounds: its member is at home in one of them, and short
 module _ (lent : Lending) (are : IsLending lent) (key : List ℕ) (x : ℤ) (m : List ℕ) (here : IsIn (x, m) (queues_in lent key)) where

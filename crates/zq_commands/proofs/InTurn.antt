@@ -9,11 +9,11 @@ use Rattle.zq_commands.specs.Lending.{Lending, queues_in, told_by}
 use Rattle.zq_commands.specs.Running.{lent_after_all, told_after}
 use Rattle.zq_commands.specs.Stepping.{Steps}
 use Rattle.zq_commands.specs.declared.made.Made.{Made}
-use Rattle.zq_history.specs.Books.{Book}
+use Rattle.zq_model.specs.Books.{Book}
 use Rattle.zq_model.specs.Operation.{Operation}
-use Rattle.zq_moves.specs.Lent.{books_after, made}
-use Rattle.zq_moves.specs.Moves.{Move, Queues, after, after_all}
-use Rattle.zq_plans.specs.Plan.{Part, count_in_turn, moves_in_turn}
+use Rattle.zq_model.specs.Lent.{books_after, made}
+use Rattle.zq_model.specs.Moves.{Move, Queues, after, after_all}
+use Rattle.zq_semantics.specs.Plan.{Part, count_in_turn, moves_in_turn}
 
 pub take_next : {X : Type 0} (xs : List X) (i : ℕ) (x : X) → slice_get xs i ≡ Some x → take (i + 1) xs ≡ take i xs ++ x ∷ []
 take_next [] i x at = cc

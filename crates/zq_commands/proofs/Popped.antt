@@ -5,18 +5,18 @@ use Rattle.std.proofs.lemmas.List.{length-map, length-take, map-append, take-map
 use Rattle.std.specs.Prelude.{Some, decimal, slice_get, take}
 use Rattle.zq_commands.proofs.InTurn.{lent-append, take_next}
 use Rattle.zq_commands.specs.Arrays.{array_bytes}
-use Rattle.zq_commands.specs.Cut.{want_of}
+use Rattle.zq_commands.specs.Stopped.{want_of}
 use Rattle.zq_commands.specs.FirstPairs.{PopsFirst, drop_of}
 use Rattle.zq_commands.specs.Lending.{Lending, lent_after, queues_in}
 use Rattle.zq_commands.specs.Running.{EndsOver, lent_after_all, part, whole}
-use Rattle.zq_commands.specs.declared.cut.Cut.{Cut}
-use Rattle.zq_commands.specs.declared.cut.Cut.TheVariants.{NoMemory, Worn}
+use Rattle.zq_commands.specs.declared.stopped.Stopped.{Stopped}
+use Rattle.zq_commands.specs.declared.stopped.Stopped.TheVariants.{NoMemory, Worn}
 use Rattle.zq_model.specs.Meaning.{Scored}
-use Rattle.zq_moves.specs.Moves.{Queue}
-use Rattle.zq_history.specs.Books.{Book}
-use Rattle.zq_plans.specs.Plan.{drops, is_there, pop}
-use Rattle.zq_plans.specs.Replies.{bytes_of, pairs_reply, parts_of_pair}
-use Rattle.zq_plans.specs.Run.{ForCopies, IsWhy, IsWhyOf, Memory, Number, cut_error, cut_pop}
+use Rattle.zq_model.specs.Moves.{Queue}
+use Rattle.zq_model.specs.Books.{Book}
+use Rattle.zq_semantics.specs.Plan.{drops, is_there, pop}
+use Rattle.zq_semantics.specs.Replies.{bytes_of, pairs_reply, parts_of_pair}
+use Rattle.zq_semantics.specs.Run.{ForCopies, IsWhy, IsWhyOf, Memory, Number, cut_error, cut_pop}
 use Rattle.zq_resp.specs.Reply.{bulk, joined, line}
 use Rattle.zq_words.specs.Words.{Word}
 
@@ -54,7 +54,7 @@ next_taken f (x ∷ xs) zero (suc n) below = refl
 next_taken f (x ∷ xs) (suc i) (suc n) below = next_taken f xs i n (omega (arith, below))
 
 -- why the first of some pairs was not dropped
-pub why_first : (site : ℕ) (key : List ℕ) (q : Queue) (books : List Book) (cut : Cut) → (cut ≡ Worn → IsWhy site (slice_get (drops key q) 0) books Number) → is_there q ≡ true →
+pub why_first : (site : ℕ) (key : List ℕ) (q : Queue) (books : List Book) (cut : Stopped) → (cut ≡ Worn → IsWhy site (slice_get (drops key q) 0) books Number) → is_there q ≡ true →
     IsWhyOf ForCopies site (slice_get (drops key q) 0) books (want_of cut)
 why_first site key q books Worn why there = why refl
 why_first site key (x ∷ q) books NoMemory why there = tt
@@ -119,13 +119,13 @@ module _ (site stamp : ℕ) (key : List ℕ) where
         let past = empty_drop q done (sym here.left ∙ none) in
         ran_taken short (take_all done q past ∙ sym (take_all n q (omega (arith, past, low)))) is
 
-    why_next : (cut : Cut) → done < n → (cut ≡ Worn → IsWhy site (slice_get (drops key (queues_in t key)) 0) t.books Number) → is_there (queues_in t key) ≡ true →
+    why_next : (cut : Stopped) → done < n → (cut ≡ Worn → IsWhy site (slice_get (drops key (queues_in t key)) 0) t.books Number) → is_there (queues_in t key) ≡ true →
         IsWhyOf ForCopies site (slice_get (drops key (take n (queues_in s key))) done) t.books (want_of cut)
     why_next cut below why there =
         subst (λ o. IsWhyOf ForCopies site o t.books (want_of cut)) (ap (λ q. slice_get (drops key q) 0) here.left ∙ next_taken (drop_of key) (queues_in s key) done n below)
         (why_first site key (queues_in t key) t.books cut why there)
 
-    said : (cut : Cut) → (0 < done → bytes ≡ array_bytes parts) → (done ≡ 0 → bytes ≡ bytes_of (cut_error 0 (want_of cut))) →
+    said : (cut : Stopped) → (0 < done → bytes ≡ array_bytes parts) → (done ≡ 0 → bytes ≡ bytes_of (cut_error 0 (want_of cut))) →
         bytes ≡ bytes_of (cut_pop (Some (key, n)) (queues_in s) done (want_of cut))
     said cut some none =
         elim done as (λ k. done ≡ k → bytes ≡ bytes_of (cut_pop (Some (key, n)) (queues_in s) k (want_of cut))) [
@@ -134,7 +134,7 @@ module _ (site stamp : ℕ) (key : List ℕ) where
         ] refl
 
     -- those before the one that was refused
-    pub popped_cut : (cut : Cut) (short : Bool) → done < n → (cut ≡ Worn → IsWhy site (slice_get (drops key (queues_in t key)) 0) t.books Number) → is_there (queues_in t key) ≡ true → (0 < done → bytes ≡ array_bytes parts) →
+    pub popped_cut : (cut : Stopped) (short : Bool) → done < n → (cut ≡ Worn → IsWhy site (slice_get (drops key (queues_in t key)) 0) t.books Number) → is_there (queues_in t key) ≡ true → (0 < done → bytes ≡ array_bytes parts) →
         (done ≡ 0 → bytes ≡ bytes_of (cut_error 0 (want_of cut))) → (want_of cut ≡ Memory → short ≡ true) →
         EndsOver site stamp ForCopies (pop key n (queues_in s)) (cut_pop (Some (key, n)) (queues_in s)) s t bytes short
     popped_cut cut short below why there some none memory =
@@ -144,6 +144,6 @@ module _ (site stamp : ℕ) (key : List ℕ) where
         (here.lent ∙ ap (λ ms. lent_after_all site stamp ms s) (sym moves)) (why_next cut below why there) (said cut some none) memory
 
   -- not even the first one
-  pub popped_none : (s : Lending) (bytes : Word) (cut : Cut) (short : Bool) → (cut ≡ Worn → IsWhy site (slice_get (drops key (queues_in s key)) 0) s.books Number) → is_there (queues_in s key) ≡ true →
+  pub popped_none : (s : Lending) (bytes : Word) (cut : Stopped) (short : Bool) → (cut ≡ Worn → IsWhy site (slice_get (drops key (queues_in s key)) 0) s.books Number) → is_there (queues_in s key) ≡ true →
       bytes ≡ bytes_of (cut_error 0 (want_of cut)) → (want_of cut ≡ Memory → short ≡ true) → EndsOver site stamp ForCopies (pop key 1 (queues_in s)) (cut_pop (Some (key, 1)) (queues_in s)) s s bytes short
   popped_none s bytes cut short why there is memory = popped_cut 1 s s 0 [] (popped_first s) bytes cut short (omega arith) why there (λ some. absurd (omega (arith, some))) (λ _. is) memory

@@ -5,7 +5,7 @@ use Rattle.smallvec.specs.SmallVec.{SmallVec}
 use Rattle.std.specs.Fmt.{signed_decimal}
 use Rattle.std.specs.Prelude.{IsTrue, ℤ}
 use Rattle.zq_commands.specs.Arrays.{are_writable, copied_parts}
-use Rattle.zq_commands.specs.declared.dropping.Copied.{Copied}
+use Rattle.zq_commands.specs.declared.first_pair.Copied.{Copied}
 use Rattle.zq_resp.specs.Reply.{bulk, bytes_from_parts, is_writable, reply_bytes, writable_from_parts}
 use Rattle.zq_resp.specs.declared.reply.Reply.{Bulk, Number, Reply}
 use Rattle.zq_resp.specs.declared.reply.Reply.TheFolds.{fold-roll-Reply}

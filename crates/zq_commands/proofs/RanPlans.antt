@@ -4,19 +4,19 @@ use Rattle.std.proofs.Common.{Bool, None, Option, ap, arith, false, inl, inr, re
 use Rattle.std.proofs.lemmas.Bool.{cond-true}
 use Rattle.std.specs.Prelude.{List, Some, [], codes, drop, length, slice_get, take, ℕ, ◌++◌, ◌+◌, ◌∷◌, ◌≡◌}
 use Rattle.zq_commands.proofs.InTurn.{StandsAfter, moves_split, stands_cut, stands_whole}
-use Rattle.zq_commands.specs.Cut.{want_of}
+use Rattle.zq_commands.specs.Stopped.{want_of}
 use Rattle.zq_commands.specs.Lending.{Lending, lent_after, queues_in}
 use Rattle.zq_commands.specs.Commands.{IsRunOver, is_reading}
 use Rattle.zq_commands.specs.Running.{EndsOver, IsRead, RunsOver, lent_after_all, part, whole}
-use Rattle.zq_commands.specs.declared.cut.Cut.{Cut}
-use Rattle.zq_commands.specs.declared.cut.Cut.TheVariants.{NoMemory, Worn}
+use Rattle.zq_commands.specs.declared.stopped.Stopped.{Stopped}
+use Rattle.zq_commands.specs.declared.stopped.Stopped.TheVariants.{NoMemory, Worn}
 use Rattle.zq_commands.specs.declared.ran.Ran.{Ran}
-use Rattle.zq_moves.specs.Moves.{Move, Queues, after_all}
-use Rattle.zq_history.specs.Books.{Book}
-use Rattle.zq_plans.specs.Plan.{Part, Plan, in_turn, lets, moves_in_turn, one, plan_of, raise, raise_if, raising, reading, sum_of}
-use Rattle.zq_plans.specs.Replies.{Error, NullBulk, Reply, bytes_of, count_reply, number_text}
-use Rattle.zq_plans.specs.Run as run
-use Rattle.zq_plans.specs.Run.{ForMoves, ForReply, IsWhy, IsWhyOf, Memory, Number, Runs, Takes, Want, cut_error, cut_pop, cut_reply, popped_of, takes_of}
+use Rattle.zq_model.specs.Moves.{Move, Queues, after_all}
+use Rattle.zq_model.specs.Books.{Book}
+use Rattle.zq_semantics.specs.Plan.{Part, Plan, in_turn, lets, moves_in_turn, one, plan_of, raise, raise_if, raising, reading, sum_of}
+use Rattle.zq_semantics.specs.Replies.{Error, NullBulk, Reply, bytes_of, count_reply, number_text}
+use Rattle.zq_semantics.specs.Run as run
+use Rattle.zq_semantics.specs.Run.{ForMoves, ForReply, IsWhy, IsWhyOf, Memory, Number, Runs, Takes, Want, cut_error, cut_pop, cut_reply, popped_of, takes_of}
 use Rattle.zq_resp.specs.Reply.{reply_bytes}
 use Rattle.zq_resp.specs.declared.reply.Reply as resp
 use Rattle.zq_words.specs.Command.{Command, Del, Ping, Zadd, ZaddIncr, Zcard, Zcount, Zincrby, Zpopmin, Zpopnear, Zrange, Zrank, Zrem, Zrevrank, Zscore}
@@ -33,7 +33,7 @@ after_front [] rest x = refl
 after_front (y ∷ front) rest x = after_front front rest x
 
 -- why a move that takes memory alone was not made
-why_made : (site : ℕ) (books : List Book) (move : Move) (cut : Cut) → (cut ≡ Worn → IsWhy site (Some move) books Number) → (cut ≡ NoMemory → IsWhy site (Some move) books Number → ⊥) →
+why_made : (site : ℕ) (books : List Book) (move : Move) (cut : Stopped) → (cut ≡ Worn → IsWhy site (Some move) books Number) → (cut ≡ NoMemory → IsWhy site (Some move) books Number → ⊥) →
     IsWhyOf ForMoves site (Some move) books (want_of cut)
 why_made site books move Worn worn memory = worn refl
 why_made site books move NoMemory worn memory = memory refl
@@ -57,7 +57,7 @@ module _ {X : Type 0} (f : Queues → X → Part) (site stamp : ℕ) (xs : List 
       ∙ ap (slice_get (front ++ move ∷ later)) here.made ∙ after_front front later move
 
   -- where the part at i, which was to make this move, was refused
-  pub ran_cut : (cut : Cut) (i : ℕ) (x : X) (move : Move) → StandsAfter f site stamp xs i s t counted done → slice_get xs i ≡ Some x → (f (queues_in t) x).moves ≡ move ∷ [] →
+  pub ran_cut : (cut : Stopped) (i : ℕ) (x : X) (move : Move) → StandsAfter f site stamp xs i s t counted done → slice_get xs i ≡ Some x → (f (queues_in t) x).moves ≡ move ∷ [] →
       (cut ≡ Worn → IsWhy site (Some move) t.books Number) → (cut ≡ NoMemory → IsWhy site (Some move) t.books Number → ⊥) → (bytes : Word) → bytes ≡ bytes_of (cut_error done (want_of cut)) →
       RunsOver site stamp ForMoves (in_turn f xs (queues_in s)) cut_error s t bytes
   ran_cut cut i x move here at is worn memory bytes says =
@@ -66,7 +66,7 @@ module _ {X : Type 0} (f : Queues → X → Part) (site stamp : ℕ) (xs : List 
       (subst (λ o. IsWhyOf ForMoves site o t.books (want_of cut)) (sym (next_move i x move here at is)) (why_made site t.books move cut worn memory)) says (λ _. refl)
 
 -- a plan of one move, which was not made
-pub ran_refused : (site stamp : ℕ) (plan : Plan) (move : Move) (cut : Cut) (old new : Lending) (bytes : Word) → plan.moves ≡ move ∷ [] → new ≡ old →
+pub ran_refused : (site stamp : ℕ) (plan : Plan) (move : Move) (cut : Stopped) (old new : Lending) (bytes : Word) → plan.moves ≡ move ∷ [] → new ≡ old →
     (cut ≡ Worn → IsWhy site (Some move) old.books Number) → (cut ≡ NoMemory → IsWhy site (Some move) old.books Number → ⊥) → bytes ≡ bytes_of (cut_error 0 (want_of cut)) →
     RunsOver site stamp ForMoves plan cut_error old new bytes
 ran_refused site stamp plan move cut old new bytes is same worn memory says =

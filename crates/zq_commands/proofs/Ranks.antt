@@ -3,10 +3,10 @@
 use Rattle.std.proofs.Common.{List, Some, ap, inl, option_map, sym, ℕ, ℤ, ◌∙◌, ◌≡◌}
 use Rattle.std.specs.Prelude.{count_by}
 use Rattle.zq_commands.specs.Running.{IsRead}
-use Rattle.zq_moves.specs.Moves.{Queue, score_in}
-use Rattle.zq_moves.specs.Readings.{is_before, rank_in, turned_rank_in}
-use Rattle.zq_plans.specs.Replies.{bytes_of, count_reply, place_reply}
-use Rattle.zq_plans.specs.Run.{Takes}
+use Rattle.zq_model.specs.Moves.{Queue, score_in}
+use Rattle.zq_model.specs.Readings.{is_before, rank_in, turned_rank_in}
+use Rattle.zq_semantics.specs.Replies.{bytes_of, count_reply, place_reply}
+use Rattle.zq_semantics.specs.Run.{Takes}
 use Rattle.zq_words.specs.Words.{Word}
 
 pub rank_read : (q : Queue) (m : List ℕ) (score : ℤ) (total : ℕ) (bytes : Word) → score_in q m ≡ Some score → total ≡ count_by (λ p. is_before p (score, m)) q →

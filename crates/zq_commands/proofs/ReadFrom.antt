@@ -12,9 +12,9 @@ use Rattle.zq_commands.specs.Sections.{is_entered}
 use Rattle.zq_commands.specs.Starts.{is_from, is_left, is_reached, is_read}
 use Rattle.zq_commands.specs.Weaving.{goes_before}
 use Rattle.zq_model.specs.Meaning.{IsRising, Scored}
-use Rattle.zq_moves.specs.Moves.{Queue}
-use Rattle.zq_plans.specs.Plan.{is_there}
-use Rattle.zq_plans.specs.Ranges.{is_within, turned_if}
+use Rattle.zq_model.specs.Moves.{Queue}
+use Rattle.zq_semantics.specs.Plan.{is_there}
+use Rattle.zq_semantics.specs.Ranges.{is_within, turned_if}
 use Rattle.zq_words.specs.declared.bound.Bound.{Bound}
 
 -- ---- lists

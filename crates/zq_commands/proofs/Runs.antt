@@ -5,7 +5,7 @@ use Rattle.std.specs.Prelude.{filter}
 use Rattle.zq_commands.proofs.Sections.{take_none}
 use Rattle.zq_commands.proofs.Woven.{filter_order, in_turned_if, turned_if_in, turned_order, woven_first}
 use Rattle.zq_commands.specs.Weaving.{woven}
-use Rattle.zq_history.specs.Books.{Book}
+use Rattle.zq_model.specs.Books.{Book}
 use Rattle.zq_model.proofs.Listing.{in_map_from}
 use Rattle.zq_model.proofs.Queued.{queued_score}
 use Rattle.zq_model.proofs.Rising.{rising_keys}
@@ -15,12 +15,12 @@ use Rattle.zq_model.specs.Meaning.{Scored}
 use Rattle.zq_model.specs.Rule.{Rule}
 use Rattle.zq_model.specs.Score.{score_of}
 use Rattle.zq_model.specs.Sets.{IsIn}
-use Rattle.zq_moves.proofs.Counted.{in_merged, in_merged_from, queue_merged}
-use Rattle.zq_moves.proofs.Homes.{has_addition, lent_each}
-use Rattle.zq_moves.proofs.Lists.{in_filter, in_filter_from}
-use Rattle.zq_moves.specs.Lent.{AreLent, queues_of}
-use Rattle.zq_moves.specs.Moves.{Queue}
-use Rattle.zq_plans.specs.Ranges.{turned_if}
+use Rattle.zq_model.proofs.Counted.{in_merged, in_merged_from, queue_merged}
+use Rattle.zq_model.proofs.Homes.{has_addition, lent_each}
+use Rattle.zq_model.proofs.Lists.{in_filter, in_filter_from}
+use Rattle.zq_model.specs.Lent.{AreLent, queues_of}
+use Rattle.zq_model.specs.Moves.{Queue}
+use Rattle.zq_semantics.specs.Ranges.{turned_if}
 
 pub lent_behind : (K n : ℕ) (books : List Book) → AreLent K books → AreLent K (drop n books)
 lent_behind K zero books are = are

@@ -5,7 +5,7 @@ use Rattle.std.proofs.lemmas.Int.{ints}
 use Rattle.std.proofs.lemmas.List.Sums.{sum_by-cons}
 use Rattle.std.specs.Prelude.{count_by, if◌then◌else◌, int_le, int_lt}
 use Rattle.zq_model.specs.Meaning.{Scored}
-use Rattle.zq_plans.specs.Ranges.{is_above_limit, is_below, is_below_limit, is_within}
+use Rattle.zq_semantics.specs.Ranges.{is_above_limit, is_below, is_below_limit, is_within}
 use Rattle.zq_words.specs.declared.bound.Bound.{Bound}
 use Rattle.zq_words.specs.declared.bound.Limit.{Limit}
 use Rattle.zq_words.specs.declared.bound.Limit.TheVariants.{At, Highest, Lowest}

@@ -16,9 +16,9 @@ use Rattle.zq_commands.specs.Weaving.{goes_before}
 use Rattle.zq_model.proofs.Membership.{in_taken}
 use Rattle.zq_model.specs.Meaning.{Scored}
 use Rattle.zq_model.specs.Sets.{IsIn}
-use Rattle.zq_moves.specs.Moves.{Queue}
-use Rattle.zq_moves.specs.Readings.{is_before}
-use Rattle.zq_plans.specs.Ranges.{is_above, is_above_limit, is_below, is_below_limit, is_within, turned_if}
+use Rattle.zq_model.specs.Moves.{Queue}
+use Rattle.zq_model.specs.Readings.{is_before}
+use Rattle.zq_semantics.specs.Ranges.{is_above, is_above_limit, is_below, is_below_limit, is_within, turned_if}
 use Rattle.zq_words.specs.declared.bound.Bound.{Bound}
 use Rattle.zq_words.specs.declared.bound.Limit.{Limit}
 use Rattle.zq_words.specs.declared.bound.Limit.TheVariants.{At, Highest, Lowest}

@@ -9,14 +9,14 @@ use Rattle.zq_commands.specs.Commands.{HasBooks}
 use Rattle.zq_commands.specs.Lending.{HasBook, IsDated, IsLending}
 use Rattle.zq_commands.specs.SiteBooks.{AreOfSite, IsBookOf, IsKept, empty_book}
 use Rattle.zq_commands.specs.VecBooks.{heaps_in, lending_of, rule_in}
-use Rattle.zq_history.specs.Books.{Book}
+use Rattle.zq_model.specs.Books.{Book}
 use Rattle.zq_model.proofs.MeantQueues.{heap_in_range}
 use Rattle.zq_model.specs.Bounded.{IsBounded}
 use Rattle.zq_model.specs.Heaps.{heap_of}
 use Rattle.zq_model.specs.Rule.{Rule}
 use Rattle.zq_model.specs.Sets.{IsHeaps}
-use Rattle.zq_moves.proofs.Read.{in_place, placed_in}
-use Rattle.zq_moves.specs.Lent.{AreLent, IsLent}
+use Rattle.zq_model.proofs.Read.{in_place, placed_in}
+use Rattle.zq_model.specs.Lent.{AreLent, IsLent}
 use Rattle.zq_posheap.proofs.Lists.{slice_get-set_other, slice_get-set_same, there_is}
 use Rattle.zq_words.specs.Command.{Command, Del, Ping, Zadd, ZaddIncr, Zcard, Zcount, Zincrby, Zpopmin, Zpopnear, Zrange, Zrank, Zrem, Zrevrank, Zscore}
 

@@ -6,15 +6,15 @@ use Rattle.std.specs.Prelude.{if◌then◌else◌, slice_get}
 use Rattle.zq_commands.specs.Lending.{IsLending}
 use Rattle.zq_commands.specs.SiteBooks.{AreOfSite}
 use Rattle.zq_commands.specs.VecBooks.{heaps_in, lending_of}
-use Rattle.zq_history.specs.Books.{Book}
+use Rattle.zq_model.specs.Books.{Book}
 use Rattle.zq_model.specs.Bounded.{IsBounded}
-use Rattle.zq_moves.proofs.Homes.{lent_each}
-use Rattle.zq_moves.proofs.Read.{in_place}
-use Rattle.zq_moves.specs.Lent.{books_after, is_home, made, made_in}
-use Rattle.zq_moves.specs.Moves.{Move}
-use Rattle.zq_plans.specs.Plan.{Plan}
-use Rattle.zq_plans.specs.Replies.{Reply}
-use Rattle.zq_plans.specs.Run.{Runs, Takes, Want, part, whole}
+use Rattle.zq_model.proofs.Homes.{lent_each}
+use Rattle.zq_model.proofs.Read.{in_place}
+use Rattle.zq_model.specs.Lent.{books_after, is_home, made, made_in}
+use Rattle.zq_model.specs.Moves.{Move}
+use Rattle.zq_semantics.specs.Plan.{Plan}
+use Rattle.zq_semantics.specs.Replies.{Reply}
+use Rattle.zq_semantics.specs.Run.{Runs, Takes, Want, part, whole}
 use Rattle.zq_words.specs.Words.{Word}
 
 -- the book is of the heap that the one before it was of

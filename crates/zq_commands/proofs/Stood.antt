@@ -4,15 +4,15 @@ use Rattle.std.proofs.Common.{List, None, Some, [], ap, refl, sym, ℕ, ◌∙�
 use Rattle.std.specs.FinMap.{get}
 use Rattle.std.specs.Prelude.{Bool, is_some, not, slice_get, unwrap_or}
 use Rattle.zq_commands.specs.Lending.{IsHomeAt, IsLending, Lending, queues_in}
-use Rattle.zq_history.specs.Books.{Book}
+use Rattle.zq_model.specs.Books.{Book}
 use Rattle.zq_model.proofs.Entries.{is_bare-no_additions}
 use Rattle.zq_model.specs.Image.{Entry, Members, Place, entry_at, is_bare, no_additions}
 use Rattle.zq_model.specs.Rows.{AreEntries}
 use Rattle.zq_model.specs.Rule.{Rule}
 use Rattle.zq_model.specs.Score.{score_of}
-use Rattle.zq_moves.proofs.Homes.{lent_each}
-use Rattle.zq_moves.proofs.Read.{in_place, read_score}
-use Rattle.zq_moves.specs.Moves.{score_in}
+use Rattle.zq_model.proofs.Homes.{lent_each}
+use Rattle.zq_model.proofs.Read.{in_place, read_score}
+use Rattle.zq_model.specs.Moves.{score_in}
 use Rattle.zq_posheap.proofs.Lists.{there_is}
 
 -- an entry has a score where it is not bare

@@ -7,10 +7,10 @@ use Rattle.std.proofs.lemmas.Option.{same_Some, slice_get_within}
 use Rattle.std.specs.Prelude.{slice_get, slice_index}
 use Rattle.zq_commands.specs.VecBooks.{AreRecordedOn, IsRecordedOn}
 use Rattle.zq_commands.specs.RecordedBooks.{recorded_itself}
-use Rattle.zq_history.specs.Books.{Book}
+use Rattle.zq_model.specs.Books.{Book}
 use Rattle.zq_journal.specs.Books.{LAST_STAMP}
 use Rattle.zq_model.specs.Sets.{LAST}
-use Rattle.zq_plans.specs.Run.{is_worn}
+use Rattle.zq_semantics.specs.Run.{is_worn}
 use Rattle.zq_posheap.proofs.Lists.{slice_get-set_other, slice_get-set_same}
 
 -- one of the books was worked on, and the others were left

@@ -6,7 +6,7 @@ use Rattle.std.specs.Prelude.{IfSome, slice_index, slice_index_or}
 use Rattle.zq_commands.specs.Wide.{IsWide}
 use Rattle.zq_entry.proofs.SumLemmas.{counter-within}
 use Rattle.zq_entry.specs.Sums.{MOST_SUM}
-use Rattle.zq_history.specs.Books.{Book}
+use Rattle.zq_model.specs.Books.{Book}
 use Rattle.zq_model.proofs.Preferred.{score_reached}
 use Rattle.zq_model.specs.Entry.{Addition, sum_at}
 use Rattle.zq_model.specs.Image.{entry_at}
@@ -14,8 +14,8 @@ use Rattle.zq_model.specs.Operation.{IsWithin, MOST}
 use Rattle.zq_model.specs.Rule.{Rule}
 use Rattle.zq_model.specs.Score.{score_of, total, value_of}
 use Rattle.zq_model.specs.Sets.{IsIn, SITES}
-use Rattle.zq_moves.proofs.Homes.{lent_each}
-use Rattle.zq_moves.specs.Lent.{AreLent}
+use Rattle.zq_model.proofs.Homes.{lent_each}
+use Rattle.zq_model.specs.Lent.{AreLent}
 
 total_within : (sums : List ℤ) → ((t : ℕ) → t < length sums → IsWithin MOST_SUM (slice_index_or sums t (pos 0))) → IsWithin (length sums * MOST_SUM) (total sums)
 total_within [] each = (omega (arith, ints), omega (arith, ints))

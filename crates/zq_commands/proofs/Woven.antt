@@ -12,10 +12,10 @@ use Rattle.zq_model.proofs.Membership.{in_left, in_right, in_union}
 use Rattle.zq_model.proofs.Rising.{less_from, not_below_itself, scored_exact, scored_total}
 use Rattle.zq_model.specs.Meaning.{IsRising, Scored, scored_cmp}
 use Rattle.zq_model.specs.Sets.{IsIn}
-use Rattle.zq_moves.proofs.Lists.{in_filter_from}
-use Rattle.zq_moves.specs.Moves.{Queue}
-use Rattle.zq_moves.specs.Readings.{is_before}
-use Rattle.zq_plans.specs.Ranges.{turned_if}
+use Rattle.zq_model.proofs.Lists.{in_filter_from}
+use Rattle.zq_model.specs.Moves.{Queue}
+use Rattle.zq_model.specs.Readings.{is_before}
+use Rattle.zq_semantics.specs.Ranges.{turned_if}
 
 -- ---- the order
 

@@ -3,7 +3,7 @@
 use Rattle.std.specs.Fmt.{signed_decimal}
 use Rattle.std.specs.List.{list_all}
 use Rattle.std.specs.Prelude.{Bool, List, [], decimal, length, map, ◌++◌, ◌∷◌}
-use Rattle.zq_commands.specs.declared.dropping.Copied.{Copied}
+use Rattle.zq_commands.specs.declared.first_pair.Copied.{Copied}
 use Rattle.zq_resp.specs.Reply.{is_writable, joined, line}
 use Rattle.zq_resp.specs.declared.reply.Reply.{Reply}
 use Rattle.zq_words.specs.Words.{Word}

@@ -3,8 +3,8 @@
 use Rattle.std.specs.Prelude.{List, ℕ, ◌+◌, ◌<◌, ◌≡◌}
 use Rattle.zq_commands.specs.Lending.{IsDated}
 use Rattle.zq_commands.specs.VecBooks.{lending_of}
-use Rattle.zq_history.specs.Books.{Book}
-pub use Rattle.zq_history.specs.Reach.{begun}
+use Rattle.zq_model.specs.Books.{Book}
+pub use Rattle.zq_model.specs.Reach.{begun}
 use Rattle.zq_model.specs.Sets.{IsIn}
 
 -- the stamp after the greatest of the books'

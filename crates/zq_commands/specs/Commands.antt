@@ -3,8 +3,8 @@
 use Rattle.std.specs.Prelude.{All, Bool, false, true, ℕ}
 use Rattle.zq_commands.specs.Lending.{HasBook, Lending, queues_in}
 use Rattle.zq_commands.specs.Running.{EndsOver}
-use Rattle.zq_plans.specs.Plan.{plan_of}
-use Rattle.zq_plans.specs.Run.{cut_reply, takes_of}
+use Rattle.zq_semantics.specs.Plan.{plan_of}
+use Rattle.zq_semantics.specs.Run.{cut_reply, takes_of}
 use Rattle.zq_words.specs.Command.{Command, Ping, Zadd, ZaddIncr, Zcard, Zcount, Zincrby, Zrange, Zrank, Zrem, Zrevrank, Zscore}
 use Rattle.zq_words.specs.Words.{Word}
 

@@ -3,11 +3,11 @@
 use Rattle.std.specs.Borrow.{Bor}
 use Rattle.std.specs.Prelude.{List, Option, map, slice_get, true, ℕ, ℤ, ◌++◌, ◌∷◌, ◌≡◌}
 use Rattle.zq_commands.specs.Lending.{Lending, lent_after, queues_in}
-use Rattle.zq_commands.specs.declared.tops.Top.{Top}
+use Rattle.zq_commands.specs.declared.first_of_key.Top.{Top}
 use Rattle.zq_model.specs.Meaning.{Scored}
 use Rattle.zq_model.specs.Operation.{Drop}
-use Rattle.zq_moves.specs.Moves.{Move, Queue, after}
-use Rattle.zq_plans.specs.Replies.{parts_of_pair}
+use Rattle.zq_model.specs.Moves.{Move, Queue, after}
+use Rattle.zq_semantics.specs.Replies.{parts_of_pair}
 use Rattle.zq_resp.specs.Reply.{bulk}
 use Rattle.zq_words.specs.Words.{Word}
 

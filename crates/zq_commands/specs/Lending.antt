@@ -1,13 +1,13 @@
 -- The books that are lent to a command, by what rule their scores are read, and how many heaps there are.
 
 use Rattle.std.specs.Prelude.{List, Option, Some, filter, length, map, option_map, slice_get, true, ℕ, ◌++◌, ◌<◌, ◌≡◌, ◌≤◌}
-use Rattle.zq_history.specs.Books.{Book}
+use Rattle.zq_model.specs.Books.{Book}
 use Rattle.zq_model.specs.Operation.{Operation}
 use Rattle.zq_model.specs.Rule.{Rule}
 use Rattle.zq_model.specs.Sets.{IsIn}
-use Rattle.zq_moves.specs.Lent.{AreLent, HasHome, is_home, is_home_of, made, operation_in, queues_of}
-use Rattle.zq_moves.specs.Moves.{Move, Queues}
-use Rattle.zq_plans.specs.Run.{LAST_COUNT}
+use Rattle.zq_model.specs.Lent.{AreLent, HasHome, is_home, is_home_of, made, operation_in, queues_of}
+use Rattle.zq_model.specs.Moves.{Move, Queues}
+use Rattle.zq_semantics.specs.Run.{LAST_COUNT}
 
 pub record Lending : Type 0 where
   pub rule : Rule

@@ -1,5 +1,5 @@
 pub mod Lending
-pub mod Cut
+pub mod Stopped
 pub mod Running
 pub mod Stepping
 pub mod Wide

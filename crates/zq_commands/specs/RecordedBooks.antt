@@ -5,8 +5,8 @@ use Rattle.std.proofs.lemmas.List.{append-nil, append_assoc, map-append}
 use Rattle.std.proofs.lemmas.Option.{same_Some, slice_get_within}
 use Rattle.std.specs.Prelude.{slice_get}
 use Rattle.zq_commands.specs.VecBooks.{AreRecordedOn, IsRecordedOn}
-use Rattle.zq_history.specs.Books.{Book, Recorded, steps_of}
-use Rattle.zq_history.specs.Reach.{IsWorked}
+use Rattle.zq_model.specs.Books.{Book, Recorded, steps_of}
+use Rattle.zq_model.specs.Reach.{IsWorked}
 
 -- a book that is left was worked on with no records
 pub recorded_itself : (b : Book) → IsRecordedOn b b

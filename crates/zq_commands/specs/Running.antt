@@ -2,13 +2,13 @@
 
 use Rattle.std.specs.Prelude.{Bool, List, None, Option, [], length, slice_get, take, true, ℕ, ◌∷◌, ◌≡◌, ◌≤◌, ◌⊎◌}
 use Rattle.zq_commands.specs.Lending.{Lending, told_by}
-use Rattle.zq_history.specs.Books.{Book}
+use Rattle.zq_model.specs.Books.{Book}
 use Rattle.zq_model.specs.Operation.{Operation}
-use Rattle.zq_moves.specs.Lent.{books_after, made}
-use Rattle.zq_moves.specs.Moves.{Move}
-use Rattle.zq_plans.specs.Plan.{Plan}
-use Rattle.zq_plans.specs.Replies.{Reply, bytes_of}
-use Rattle.zq_plans.specs.Run.{IsWhyOf, MayLack, Memory, Takes, Want, cut_error}
+use Rattle.zq_model.specs.Lent.{books_after, made}
+use Rattle.zq_model.specs.Moves.{Move}
+use Rattle.zq_semantics.specs.Plan.{Plan}
+use Rattle.zq_semantics.specs.Replies.{Reply, bytes_of}
+use Rattle.zq_semantics.specs.Run.{IsWhyOf, MayLack, Memory, Takes, Want, cut_error}
 use Rattle.zq_words.specs.Words.{Word}
 
 -- what is told after moves over books, one after the other

@@ -2,7 +2,7 @@
 
 use Rattle.std.specs.Prelude.{Bool, if◌then◌else◌}
 use Rattle.zq_model.specs.Meaning.{Scored}
-use Rattle.zq_plans.specs.Ranges.{is_above, is_below}
+use Rattle.zq_semantics.specs.Ranges.{is_above, is_below}
 use Rattle.zq_words.specs.declared.bound.Bound.{Bound}
 
 -- a pair is past the bound that is met first, which is the greatest where they are turned round

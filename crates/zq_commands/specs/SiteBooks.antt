@@ -4,8 +4,8 @@ use Rattle.std.specs.Coded.{Coded, coded_list}
 use Rattle.std.specs.Prelude.{IfOk, IsErrOf, List, OnOk, Result, Some, [], length, slice_get, ℕ, ◌++◌, ◌∷◌, ◌↔◌, ◌≡◌, ◌≢◌}
 use Rattle.zq_commands.specs.VecBooks.{rule_in}
 use Rattle.zq_dots.specs.Placed.{Placed}
-use Rattle.zq_history.specs.Books.{Book, Merged, Step, merged}
-use Rattle.zq_history.specs.Reach.{IsWorked}
+use Rattle.zq_model.specs.Books.{Book, Merged, Step, merged}
+use Rattle.zq_model.specs.Reach.{IsWorked}
 use Rattle.zq_journal.specs.Books.{LAST_STAMP, book_taken, opened, state_of, steps_taken}
 use Rattle.zq_journal.specs.Codes.{book_code}
 use Rattle.zq_journal.specs.declared.faults.MergeFault.{MergeFault}

@@ -4,11 +4,11 @@ use Rattle.std.specs.Prelude.{Bool, None, Option, Some, count_by, not, option_ma
 use Rattle.zq_commands.specs.FirstPairs.{lent_pair}
 use Rattle.zq_commands.specs.Sections.{is_entered}
 use Rattle.zq_commands.specs.Weaving.{goes_before}
-use Rattle.zq_commands.specs.declared.section.Section.{Section}
-use Rattle.zq_commands.specs.declared.starts.Start.{Start}
+use Rattle.zq_commands.specs.declared.range_section.Section.{Section}
+use Rattle.zq_commands.specs.declared.range_start.Start.{Start}
 use Rattle.zq_model.specs.Meaning.{Scored}
-use Rattle.zq_moves.specs.Moves.{Queue}
-use Rattle.zq_plans.specs.Ranges.{is_within}
+use Rattle.zq_model.specs.Moves.{Queue}
+use Rattle.zq_semantics.specs.Ranges.{is_within}
 use Rattle.zq_words.specs.declared.bound.Bound.{Bound}
 
 -- the pair does not go before the one that reading starts at, where there is one

@@ -2,8 +2,8 @@
 
 use Rattle.std.specs.Prelude.{List, None, Some, [], length, slice_get, ℕ, ◌++◌, ◌∷◌, ◌≡◌, ◌≤◌}
 use Rattle.zq_commands.specs.Lending.{Lending}
-use Rattle.zq_history.specs.Books.{Book, Record, Step, steps_of}
-use Rattle.zq_history.specs.Reach.{IsWorked}
+use Rattle.zq_model.specs.Books.{Book, Record, Step, steps_of}
+use Rattle.zq_model.specs.Reach.{IsWorked}
 use Rattle.zq_model.specs.Rule.{Greatest, Rule}
 
 -- the rule of the first book, and any where there is none

@@ -2,8 +2,8 @@
 
 use Rattle.std.specs.Prelude.{Bool, None, Option, Some, [], false, if◌then◌else◌, suc, true, zero, ℕ, ◌∷◌}
 use Rattle.zq_model.specs.Meaning.{Scored}
-use Rattle.zq_moves.specs.Moves.{Queue}
-use Rattle.zq_moves.specs.Readings.{is_before}
+use Rattle.zq_model.specs.Moves.{Queue}
+use Rattle.zq_model.specs.Readings.{is_before}
 
 -- a pair goes before another, where they are turned round after it
 abbrev pub goes_before : Bool → Scored → Scored → Bool

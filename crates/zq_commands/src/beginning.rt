@@ -4,7 +4,7 @@ ghost use Rattle.std.specs.Prelude.{IfSome, None, Some, map, slice_get, ◌≡�
 ghost use Rattle.zq_commands.specs.Beginning.{HasStamp, IsNextStamp, begun};
 ghost use Rattle.zq_commands.specs.Lending.{IsDated};
 ghost use Rattle.zq_commands.specs.VecBooks.{lending_of};
-ghost use Rattle.zq_history.specs.Books.{Book as Books};
+ghost use Rattle.zq_model.specs.Books.{Book as Books};
 ghost use Rattle.zq_journal.specs.Books.{LAST_STAMP};
 
 use crate::site_books::SiteBooks;

@@ -5,17 +5,17 @@ ghost use Rattle.std.specs.Prelude.{IfOk, IsErrOf, List, OnErr, OnOk, Some, coun
 ghost use Rattle.zq_commands.specs.Lending.{HasBook, IsDated, IsLending, Lending, lent_after};
 ghost use Rattle.zq_commands.specs.FirstPairs.{lent_pair};
 ghost use Rattle.zq_dots.specs.Act.{act_of};
-ghost use Rattle.zq_history.specs.Books.{Book};
+ghost use Rattle.zq_model.specs.Books.{Book};
 ghost use Rattle.zq_model.specs.Image.{entry_at};
 ghost use Rattle.zq_model.specs.Operation.{LONGEST};
 ghost use Rattle.zq_model.specs.Score.{score_of};
-ghost use Rattle.zq_moves.specs.Lent.{is_home_of, queues_of};
-ghost use Rattle.zq_moves.specs.Moves.{Move};
-ghost use Rattle.zq_moves.specs.Readings.{is_before};
-ghost use Rattle.zq_plans.specs.Ranges.{is_within, turned_if};
-ghost use Rattle.zq_plans.specs.Run.{IsWhy, Number};
+ghost use Rattle.zq_model.specs.Lent.{is_home_of, queues_of};
+ghost use Rattle.zq_model.specs.Moves.{Move};
+ghost use Rattle.zq_model.specs.Readings.{is_before};
+ghost use Rattle.zq_semantics.specs.Ranges.{is_within, turned_if};
+ghost use Rattle.zq_semantics.specs.Run.{IsWhy, Number};
 
-use crate::cut::Cut;
+use crate::stopped::Stopped;
 use std::alloc::{AllocError, Global};
 use zq_dots::{Act, SiteNo};
 use zq_words::Bound;
@@ -116,7 +116,7 @@ pub trait Books {
         key: &[u8],
         member: &[u8],
         act: Act,
-    ) -> Result<bool, Cut>
+    ) -> Result<bool, Stopped>
         requires inside { place < length (lent self.old).books }
         requires home { (book : Book) → slice_get (lent self.old).books place ≡ Some book → is_home_of key.now member.now book ≡ true }
         requires lent { IsLending (lent self.old) }
@@ -126,8 +126,8 @@ pub trait Books {
         ensures made { OnOk result (lent self.new ≡ lent_after site stamp (record { key = key.now; member = member.now; act = act_of act }) (lent self.old)) }
         ensures stood { IfOk result (λ stood. (book : Book) → slice_get (lent self.old).books place ≡ Some book → stood ≡ is_some (get book.state.members (key.now, member.now))) }
         ensures refused { OnErr result (lent self.new ≡ lent self.old) }
-        ensures worn { IsErrOf result Cut.Worn → IsWhy site (Some (record { key = key.now; member = member.now; act = act_of act })) (lent self.old).books Number }
-        ensures memory { IsErrOf result Cut.NoMemory → IsWhy site (Some (record { key = key.now; member = member.now; act = act_of act })) (lent self.old).books Number → ⊥ }
+        ensures worn { IsErrOf result Stopped.Worn → IsWhy site (Some (record { key = key.now; member = member.now; act = act_of act })) (lent self.old).books Number }
+        ensures memory { IsErrOf result Stopped.NoMemory → IsWhy site (Some (record { key = key.now; member = member.now; act = act_of act })) (lent self.old).books Number → ⊥ }
         ensures lent { IsLending (lent self.new) }
         ensures dated { IsDated stamp (lent self.new) }
         ensures keeps { keeps self.old self.new };

@@ -1,6 +1,6 @@
 //! What clearing a key came to.
 
-use crate::cut::Cut;
+use crate::stopped::Stopped;
 
 /// What clearing a key came to.
 #[derive(Clone, Copy, Debug)]
@@ -8,5 +8,5 @@ pub struct Cleared {
     /// How many moves were made in all, those before included.
     pub done: u64,
     /// Why one was not made.
-    pub cut: Option<Cut>,
+    pub cut: Option<Stopped>,
 }

@@ -4,11 +4,11 @@ ghost use Rattle.std.specs.Prelude.{IfOk, IsErrOf, List, OnErr, OnOk, Some, is_s
 ghost use Rattle.zq_commands.specs.Lending.{HasBook, IsDated, IsHomeAt, IsLending, lent_after, queues_in};
 ghost use Rattle.zq_dots.specs.Act.{act_of};
 ghost use Rattle.zq_model.specs.Operation.{LONGEST};
-ghost use Rattle.zq_moves.specs.Moves.{after, score_in};
-ghost use Rattle.zq_plans.specs.Run.{IsWhy, Number};
+ghost use Rattle.zq_model.specs.Moves.{after, score_in};
+ghost use Rattle.zq_semantics.specs.Run.{IsWhy, Number};
 
 use crate::books::Books;
-use crate::cut::Cut;
+use crate::stopped::Stopped;
 use std::alloc::Global;
 use zq_dots::{Act, SiteNo};
 
@@ -23,7 +23,7 @@ pub fn make_at<B: Books>(
     key: &[u8],
     member: &[u8],
     act: Act,
-) -> Result<bool, Cut>
+) -> Result<bool, Stopped>
     requires lent { IsLending (B.lent books.old) }
     requires dated { IsDated stamp (B.lent books.old) }
     requires home { IsHomeAt key.now member.now place (B.lent books.old) }
@@ -33,8 +33,8 @@ pub fn make_at<B: Books>(
     ensures queues { OnOk result (queues_in (B.lent books.new) ≡ after (record { key = key.now; member = member.now; act = act_of act }) (queues_in (B.lent books.old))) }
     ensures stood { IfOk result (λ stood. stood ≡ is_some (score_in (queues_in (B.lent books.old) key.now) member.now)) }
     ensures refused { OnErr result (B.lent books.new ≡ B.lent books.old) }
-    ensures worn { IsErrOf result Cut.Worn → IsWhy site (Some (record { key = key.now; member = member.now; act = act_of act })) (B.lent books.old).books Number }
-    ensures memory { IsErrOf result Cut.NoMemory → IsWhy site (Some (record { key = key.now; member = member.now; act = act_of act })) (B.lent books.old).books Number → ⊥ }
+    ensures worn { IsErrOf result Stopped.Worn → IsWhy site (Some (record { key = key.now; member = member.now; act = act_of act })) (B.lent books.old).books Number }
+    ensures memory { IsErrOf result Stopped.NoMemory → IsWhy site (Some (record { key = key.now; member = member.now; act = act_of act })) (B.lent books.old).books Number → ⊥ }
     ensures lent { IsLending (B.lent books.new) }
     ensures dated { IsDated stamp (B.lent books.new) }
     ensures keeps { B.keeps books.old books.new }

@@ -4,7 +4,7 @@ ghost use Rattle.std.specs.Prelude.{IfOk, IsTrue, is_some, length, map, option_m
 ghost use Rattle.zq_commands.specs.FirstPairs.{lent_pair};
 ghost use Rattle.zq_commands.specs.Weaving.{goes_before, is_next, woven};
 
-use crate::tops::order;
+use crate::first_of_key::order;
 use std::alloc::{AllocError, Global};
 
 /// The first so many pairs of both lists together, of which each is in order, or turned round.

@@ -6,12 +6,12 @@ ghost use Rattle.zq_commands.specs.VecBooks.{IsRecordedOn};
 ghost use Rattle.zq_dots.specs.Act.{act_of};
 ghost use Rattle.zq_model.specs.Bounded.{IsBounded};
 ghost use Rattle.zq_model.specs.Operation.{LONGEST};
-ghost use Rattle.zq_moves.specs.Lent.{is_home_of, made_in};
-ghost use Rattle.zq_plans.specs.Ranges.{is_below_limit, is_within};
-ghost use Rattle.zq_plans.specs.Run.{LAST_COUNT, is_worn};
+ghost use Rattle.zq_model.specs.Lent.{is_home_of, made_in};
+ghost use Rattle.zq_semantics.specs.Ranges.{is_below_limit, is_within};
+ghost use Rattle.zq_semantics.specs.Run.{LAST_COUNT, is_worn};
 ghost use Rattle.zq_shard.specs.Shard.{queue_at};
 
-use crate::cut::Cut;
+use crate::stopped::Stopped;
 use std::alloc::Global;
 use zq_dots::{Act, SiteNo};
 use zq_journal::Book;
@@ -47,7 +47,7 @@ pub fn make_in(
     key: &[u8],
     member: &[u8],
     act: Act,
-) -> Result<bool, Cut>
+) -> Result<bool, Stopped>
     requires home { is_home_of key.now member.now book.old ≡ true }
     requires stamp { book.old.stamp ≤ stamp }
     requires bounded { stamp ≤ LAST_COUNT }
@@ -57,7 +57,7 @@ pub fn make_in(
     ensures stood { IfOk result (λ stood. stood ≡ is_some (get book.old.state.members (key.now, member.now))) }
     ensures bounded { OnOk result (IsBounded book.new.heaps book.new.heap book.new.state) }
     ensures recorded { IsRecordedOn book.old book.new }
-    ensures worn { IsErrOf result Cut.Worn ↔ (is_worn site book.old ≡ true) }
+    ensures worn { IsErrOf result Stopped.Worn ↔ (is_worn site book.old ≡ true) }
     ensures refused { OnErr result (book.new ≡ book.old) }
 {
     match book.make_here(alloc, site, stamp, key, member, act) {
@@ -65,8 +65,8 @@ pub fn make_in(
             let _vector = book.shard().vector();
             Ok(stood)
         }
-        Err(MakeFault::Worn) => Err(Cut::Worn),
-        Err(MakeFault::NoMemory) => Err(Cut::NoMemory),
+        Err(MakeFault::Worn) => Err(Stopped::Worn),
+        Err(MakeFault::NoMemory) => Err(Stopped::NoMemory),
         Err(MakeFault::WrongHeap) => unreachable!(),
     }
 }

@@ -4,13 +4,13 @@ ghost use Rattle.std.specs.Prelude.{IfOk, IsTrue, OnErr, OnOk, [], drop, flat_ma
 ghost use Rattle.zq_commands.specs.Arrays.{are_writable};
 ghost use Rattle.zq_commands.specs.FirstPairs.{lent_pair};
 ghost use Rattle.zq_commands.specs.Running.{IsRead};
-ghost use Rattle.zq_plans.specs.Plan.{is_there};
-ghost use Rattle.zq_plans.specs.Replies as plan;
-ghost use Rattle.zq_plans.specs.Run.{ForReply};
+ghost use Rattle.zq_semantics.specs.Plan.{is_there};
+ghost use Rattle.zq_semantics.specs.Replies as plan;
+ghost use Rattle.zq_semantics.specs.Run.{ForReply};
 ghost use Rattle.zq_resp.specs.Reply.{bulk, is_writable, reply_bytes};
 
-use crate::cut::Cut;
 use crate::replies::{array_reply, cut_reply};
+use crate::stopped::Stopped;
 use std::alloc::{AllocError, Global};
 use zq_resp::{Reply, Text};
 
@@ -22,7 +22,7 @@ pub fn pairs_reply(alloc: Global, pairs: &[(i128, &[u8])], from: usize, with_sco
 {
     match copy_parts(alloc, pairs, from, with_scores) {
         Ok(parts) => array_reply(parts),
-        Err(AllocError) => cut_reply(Cut::NoMemory, 0),
+        Err(AllocError) => cut_reply(Stopped::NoMemory, 0),
     }
 }
 

@@ -1,8 +1,8 @@
 //! What running a command gives.
 
 ghost use Rattle.std.specs.Prelude.{Bool, true, ℕ, ◌≡◌};
-ghost use Rattle.zq_plans.specs.Replies.{bytes_of};
-ghost use Rattle.zq_plans.specs.Run.{Memory, cut_error};
+ghost use Rattle.zq_semantics.specs.Replies.{bytes_of};
+ghost use Rattle.zq_semantics.specs.Run.{Memory, cut_error};
 ghost use Rattle.zq_resp.specs.Reply.{reply_bytes};
 ghost use Rattle.zq_resp.specs.declared.reply.Reply.{Reply as Replies};
 

@@ -4,17 +4,17 @@ ghost use Rattle.std.specs.Prelude.{IsTrue, count_by, false, length, ◌≡◌, 
 ghost use Rattle.zq_commands.specs.Lending.{HasBook, IsLending, queues_in};
 ghost use Rattle.zq_commands.specs.Running.{IsRead};
 ghost use Rattle.zq_model.specs.Operation.{LONGEST};
-ghost use Rattle.zq_moves.specs.Moves.{score_in};
-ghost use Rattle.zq_moves.specs.Readings.{rank_in, turned_rank_in};
-ghost use Rattle.zq_plans.specs.Ranges.{is_within};
-ghost use Rattle.zq_plans.specs.Replies as plan;
-ghost use Rattle.zq_plans.specs.Run.{ForReply};
+ghost use Rattle.zq_model.specs.Moves.{score_in};
+ghost use Rattle.zq_model.specs.Readings.{rank_in, turned_rank_in};
+ghost use Rattle.zq_semantics.specs.Ranges.{is_within};
+ghost use Rattle.zq_semantics.specs.Replies as plan;
+ghost use Rattle.zq_semantics.specs.Run.{ForReply};
 ghost use Rattle.zq_resp.specs.Reply.{is_writable, reply_bytes};
 
 use crate::books::Books;
-use crate::cut::Cut;
 use crate::replies::{count_reply, cut_reply, score_reply};
 use crate::scores::score_of;
+use crate::stopped::Stopped;
 use crate::totals::{total_after, total_before, total_members, total_within};
 use std::alloc::Global;
 use zq_resp::Reply;
@@ -40,7 +40,7 @@ pub fn read_count<B: Books>(books: &B, key: &[u8]) -> Reply
 {
     match total_members(books, key) {
         Some(total) => count_reply(total),
-        None => cut_reply(Cut::NoMemory, 0),
+        None => cut_reply(Stopped::NoMemory, 0),
     }
 }
 
@@ -53,7 +53,7 @@ pub fn read_within<B: Books>(books: &B, key: &[u8], min: &Bound, max: &Bound) ->
 {
     match total_within(books, key, min, max) {
         Some(total) => count_reply(total),
-        None => cut_reply(Cut::NoMemory, 0),
+        None => cut_reply(Stopped::NoMemory, 0),
     }
 }
 
@@ -71,7 +71,7 @@ pub fn read_rank<B: Books>(books: &B, key: &[u8], member: &[u8]) -> Reply
     };
     match total_before(books, key, &score, member) {
         Some(total) => count_reply(total),
-        None => cut_reply(Cut::NoMemory, 0),
+        None => cut_reply(Stopped::NoMemory, 0),
     }
 }
 
@@ -89,6 +89,6 @@ pub fn read_turned_rank<B: Books>(books: &B, key: &[u8], member: &[u8]) -> Reply
     };
     match total_after(books, key, &score, member) {
         Some(total) => count_reply(total),
-        None => cut_reply(Cut::NoMemory, 0),
+        None => cut_reply(Stopped::NoMemory, 0),
     }
 }

@@ -2,13 +2,13 @@
 
 ghost use Rattle.std.specs.Prelude.{IfOk, IsTrue, None, OnErr, Some, map, option_map, ◌<◌, ◌^◌, ◌≡◌};
 ghost use Rattle.zq_commands.specs.Arrays.{are_writable, array_bytes};
-ghost use Rattle.zq_commands.specs.Cut.{want_of};
+ghost use Rattle.zq_commands.specs.Stopped.{want_of};
 ghost use Rattle.zq_commands.specs.Running.{IsRead};
-ghost use Rattle.zq_plans.specs.Replies as plan;
-ghost use Rattle.zq_plans.specs.Run.{ForReply, Memory, cut_text, is_long};
+ghost use Rattle.zq_semantics.specs.Replies as plan;
+ghost use Rattle.zq_semantics.specs.Run.{ForReply, Memory, cut_text, is_long};
 ghost use Rattle.zq_resp.specs.Reply.{is_writable, reply_bytes};
 
-use crate::cut::Cut;
+use crate::stopped::Stopped;
 use std::alloc::{AllocError, Global};
 use zq_resp::{Reply, Text};
 
@@ -52,7 +52,7 @@ fn text_reply(text: Result<Text, AllocError>) -> Reply
 {
     match text {
         Ok(text) => Reply::Bulk(text),
-        Err(AllocError) => cut_reply(Cut::NoMemory, 0),
+        Err(AllocError) => cut_reply(Stopped::NoMemory, 0),
     }
 }
 
@@ -66,13 +66,13 @@ pub fn array_reply(parts: Vec<Reply>) -> Reply
 }
 
 /// The error of a command of which the first `done` moves stand.
-pub fn cut_reply(cut: Cut, done: u64) -> Reply
+pub fn cut_reply(cut: Stopped, done: u64) -> Reply
     ensures bytes { reply_bytes result ≡ plan.bytes_of (plan.Error (cut_text (want_of cut)) (Some done)) }
     ensures writable { IsTrue (is_writable result) }
 {
     let text = match cut {
-        Cut::Worn => "ERR worn after",
-        Cut::NoMemory => "OOM after",
+        Stopped::Worn => "ERR worn after",
+        Stopped::NoMemory => "OOM after",
     };
     Reply::Error {
         text,

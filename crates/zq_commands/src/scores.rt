@@ -4,7 +4,7 @@ ghost use Rattle.std.specs.Prelude.{IfSome, length, ◌≡◌, ◌≤◌};
 ghost use Rattle.zq_commands.specs.Lending.{HasBook, IsHomeAt, IsLending, queues_in};
 ghost use Rattle.zq_commands.specs.Wide.{IsWide};
 ghost use Rattle.zq_model.specs.Operation.{LONGEST};
-ghost use Rattle.zq_moves.specs.Moves.{score_in};
+ghost use Rattle.zq_model.specs.Moves.{score_in};
 
 use crate::books::Books;
 

@@ -6,11 +6,11 @@ ghost use Rattle.zq_commands.specs.Lending.{IsDated, IsLending};
 ghost use Rattle.zq_commands.specs.SiteBooks.{AreOfSite, IsKept, IsMerged, IsTaken, empty_book};
 ghost use Rattle.zq_commands.specs.VecBooks.{AreRecordedOn, lending_of, rule_in};
 ghost use Rattle.zq_dots.specs.Rule.{rule_of};
-ghost use Rattle.zq_history.specs.Books.{Book as Books};
+ghost use Rattle.zq_model.specs.Books.{Book as Books};
 ghost use Rattle.zq_journal.specs.Books.{LAST_STAMP};
 ghost use Rattle.zq_model.specs.Bounded.{IsBounded};
 ghost use Rattle.zq_model.specs.Sets.{IsHeaps, IsIn};
-ghost use Rattle.zq_plans.specs.Run.{IsRun};
+ghost use Rattle.zq_semantics.specs.Run.{IsRun};
 ghost use Rattle.zq_resp.specs.Reply.{is_writable, reply_bytes};
 ghost use Rattle.zq_words.specs.Command.{Command as Commands};
 
@@ -33,7 +33,7 @@ pub struct SiteBooks {
 impl Model for SiteBooks {
     ghost use Rattle.std.specs.Prelude.{List};
     ghost use Rattle.zq_commands.specs.SiteBooks.{AreOfSite, books_code};
-    ghost use Rattle.zq_history.specs.Books.{Book};
+    ghost use Rattle.zq_model.specs.Books.{Book};
 
     ghost Value = { List Book };
 

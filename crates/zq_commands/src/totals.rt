@@ -4,13 +4,13 @@ ghost use Rattle.std.specs.Prelude.{IfSome, None, count_by, length, option_map, 
 ghost use Rattle.zq_commands.specs.FirstPairs.{lent_pair};
 ghost use Rattle.zq_commands.specs.Lending.{IsLending, queues_in};
 ghost use Rattle.zq_commands.specs.Starts.{is_left};
-ghost use Rattle.zq_moves.specs.Readings.{is_before};
-ghost use Rattle.zq_plans.specs.Ranges.{is_within};
-ghost use Rattle.zq_plans.specs.Run.{UNCOUNTED};
+ghost use Rattle.zq_model.specs.Readings.{is_before};
+ghost use Rattle.zq_semantics.specs.Ranges.{is_within};
+ghost use Rattle.zq_semantics.specs.Run.{UNCOUNTED};
 
-use crate::ahead::count_left;
 use crate::books::Books;
-use crate::section::Section;
+use crate::places::count_left;
+use crate::range_section::Section;
 use zq_words::Bound;
 
 /// The number of members of a key, and `None` where an `i64` does not hold it.

@@ -3,14 +3,14 @@
 ghost use Rattle.std.specs.Prelude.{List, Some, length, map, slice_get, ◌<◌, ◌≡◌};
 ghost use Rattle.zq_commands.specs.Lending.{IsLending};
 ghost use Rattle.zq_commands.specs.VecBooks.{AreRecordedOn, lending_of, rule_in};
-ghost use Rattle.zq_history.specs.Books.{Book as Books};
+ghost use Rattle.zq_model.specs.Books.{Book as Books};
 ghost use Rattle.zq_journal.specs.Books.{state_of};
 ghost use Rattle.zq_model.specs.Sets.{IsIn};
 
 use crate::books::Books;
-use crate::cut::Cut;
 use crate::indexing::MOST_SCANNED;
 use crate::one_book::{count_between, make_in};
+use crate::stopped::Stopped;
 use std::alloc::{AllocError, Global};
 use zq_dots::{Act, SiteNo, heap_of};
 use zq_journal::Book;
@@ -90,7 +90,7 @@ impl Books for Vec<Book> {
         key: &[u8],
         member: &[u8],
         act: Act,
-    ) -> Result<bool, Cut> {
+    ) -> Result<bool, Stopped> {
         make_in(&mut self[place], alloc, site, stamp, key, member, act)
     }
 

@@ -18,11 +18,11 @@ use Rattle.zq_dots.specs.Placed.{IsRanged, Placed}
 use Rattle.zq_fields.specs.Fields.{signed, text}
 use Rattle.zq_model.specs.Operation.{Act, Bump, Drop, IsAct, Put}
 use Rattle.zq_model.specs.Sets.{IsCounters, IsHeaps, LAST}
-use Rattle.zq_parts.proofs.Again.{byte_in_again, heap_read, score_read, text_read}
-use Rattle.zq_parts.proofs.Counters.{dense_again}
-use Rattle.zq_parts.proofs.Entries.{sparse_again}
-use Rattle.zq_parts.specs.Reading.{byte_in, score_at, text_at}
-use Rattle.zq_parts.specs.Vectors.{IsWithinLimits}
+use Rattle.zq_fields.proofs.PartsAgain.{byte_in_again, heap_read, score_read, text_read}
+use Rattle.zq_fields.proofs.Counters.{dense_again}
+use Rattle.zq_fields.proofs.Entries.{sparse_again}
+use Rattle.zq_fields.specs.Reading.{byte_in, score_at, text_at}
+use Rattle.zq_fields.specs.Vectors.{IsWithinLimits}
 
 head_again : (v : Version) (whole : ℕ) (head : Head) (rest : List ℕ) → IsHeaps head.heap.heaps → head.heap.heap < head.heap.heaps → head.site < sites v → head_at v whole (head.heap.heaps ∷ head.heap.heap ∷ head.site ∷ rest) ≡ Ok (head, rest)
 unfolding head_at

@@ -7,7 +7,7 @@ use Rattle.zq_delta.specs.declared.version.Version.{Version}
 use Rattle.zq_delta.specs.declared.version.Version.TheVariants.{One, Two}
 use Rattle.zq_dots.specs.Placed.{Placed}
 use Rattle.zq_model.specs.Operation.{Act, Bump, Drop, Put}
-use Rattle.zq_parts.specs.Reading.{Read, byte_in, dense_at, heap_at, score_at, sparse_at, text_at, ◌>>=◌}
+use Rattle.zq_fields.specs.Reading.{Read, byte_in, dense_at, heap_at, score_at, sparse_at, text_at, ◌>>=◌}
 
 -- the heap, and the site
 unfoldable pub head_at : Version → ℕ → List ℕ → Read Head

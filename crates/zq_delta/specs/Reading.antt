@@ -9,8 +9,8 @@ use Rattle.zq_delta.specs.declared.fault.OpFault.TheVariants as op
 use Rattle.zq_delta.specs.declared.version.Version as version
 use Rattle.zq_dots.specs.Placed.{Placed}
 use Rattle.zq_fields.specs.Fields.{byte_field}
-use Rattle.zq_parts.specs.declared.fault.PartFault.{PartFault}
-use Rattle.zq_parts.specs.declared.fault.PartFault.TheVariants.{Field, Length, Score, Short}
+use Rattle.zq_fields.specs.declared.fault.PartFault.{PartFault}
+use Rattle.zq_fields.specs.declared.fault.PartFault.TheVariants.{Field, Length, Score, Short}
 
 infixl 10 ◌>>=◌
 abbrev pub ◌>>=◌ : {X Y : Type 0} → Result X OpFault → (X → Result Y OpFault) → Result Y OpFault

@@ -8,7 +8,7 @@ use Rattle.zq_delta.specs.Version.{version_byte}
 use Rattle.zq_dots.specs.Placed.{Placed}
 use Rattle.zq_fields.specs.Fields.{signed, text}
 use Rattle.zq_model.specs.Operation.{Act, Bump, Drop, Put}
-use Rattle.zq_parts.specs.Spelling.{dense, sparse}
+use Rattle.zq_fields.specs.Spelling.{dense, sparse}
 
 abbrev pub vector : Version → List ℕ → List ℕ
 vector One counters = dense counters

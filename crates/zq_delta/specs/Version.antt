@@ -5,7 +5,7 @@ use Rattle.zq_delta.specs.declared.version.Version.{Version}
 use Rattle.zq_delta.specs.declared.version.Version.TheVariants.{One, Two}
 use Rattle.zq_dots.specs.Placed.{Placed}
 use Rattle.zq_model.specs.Sets.{SITES}
-use Rattle.zq_parts.specs.Vectors.{DENSE_SITES, IsDense}
+use Rattle.zq_fields.specs.Vectors.{DENSE_SITES, IsDense}
 
 abbrev pub version_byte : Version → ℕ
 version_byte One = 1

@@ -7,12 +7,11 @@ ghost use Rattle.zq_delta.specs.Spelling as spell;
 ghost use Rattle.zq_dots.specs.Act.{act_of};
 ghost use Rattle.zq_fields.specs.Fields.{signed};
 ghost use Rattle.zq_model.specs.Operation.{IsAct};
-ghost use Rattle.zq_parts.specs.Reading.{Gives};
+ghost use Rattle.zq_fields.specs.Reading.{Gives};
 
 use std::alloc::AllocError;
 use zq_dots::{Act, Score};
-use zq_fields::write_byte;
-use zq_parts::{PartFault, read_byte_in, read_score, write_score};
+use zq_fields::{PartFault, read_byte_in, read_score, write_byte, write_score};
 
 const PUT: u8 = 0;
 

@@ -1,7 +1,7 @@
 //! Why bytes are not read as an operation.
 
 use std::alloc::AllocError;
-use zq_parts::PartFault;
+use zq_fields::PartFault;
 
 /// Why bytes are not read as an operation: the first field from the left that is missing or wrong.
 #[derive(Clone, Copy, Debug, PartialEq, Eq)]

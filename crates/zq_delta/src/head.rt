@@ -4,11 +4,11 @@ ghost use Rattle.std.specs.Prelude.{◌≡◌, ◌<◌, ◌∷◌, IfOk};
 ghost use Rattle.zq_delta.specs.Fields.{head_at};
 ghost use Rattle.zq_delta.specs.Version.{sites};
 ghost use Rattle.zq_model.specs.Sets as sets;
-ghost use Rattle.zq_parts.specs.Reading.{Gives};
+ghost use Rattle.zq_fields.specs.Reading.{Gives};
 
 use crate::version::Version;
 use zq_dots::SiteNo;
-use zq_parts::{HeapNo, PartFault, read_heap, read_site};
+use zq_fields::{HeapNo, PartFault, read_heap, read_site};
 
 #[derive(Clone, Copy, Debug)]
 pub(crate) struct Head {

@@ -6,7 +6,7 @@ ghost use Rattle.zq_delta.specs.Spelling.{fields};
 ghost use Rattle.zq_delta.specs.Version.{HasSpelling};
 ghost use Rattle.zq_dots.specs.Act.{act_of};
 ghost use Rattle.zq_dots.specs.Placed.{IsRanged};
-ghost use Rattle.zq_parts.specs.Reading.{Gives};
+ghost use Rattle.zq_fields.specs.Reading.{Gives};
 
 use crate::act::read_act;
 use crate::head::{Head, read_head};
@@ -14,7 +14,7 @@ use crate::vector::read_vector;
 use crate::version::Version;
 use std::alloc::{AllocError, Global};
 use zq_dots::{Act, Dot, Op, Vector};
-use zq_parts::{PartFault, read_text};
+use zq_fields::{PartFault, read_text};
 
 #[derive(Clone, Copy, Debug)]
 pub(crate) struct Parts<'a> {

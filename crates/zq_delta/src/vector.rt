@@ -5,12 +5,12 @@ ghost use Rattle.zq_delta.specs.Fields.{vector_at};
 ghost use Rattle.zq_delta.specs.Spelling as spell;
 ghost use Rattle.zq_delta.specs.Version.{HasVector};
 ghost use Rattle.zq_model.specs.Sets as sets;
-ghost use Rattle.zq_parts.specs.Reading.{Gives};
-ghost use Rattle.zq_parts.specs.Vectors as vectors;
+ghost use Rattle.zq_fields.specs.Reading.{Gives};
+ghost use Rattle.zq_fields.specs.Vectors as vectors;
 
 use crate::version::Version;
 use zq_dots::{SiteNo, Vector};
-use zq_parts::{PartFault, read_dense, read_sparse};
+use zq_fields::{PartFault, read_dense, read_sparse};
 
 pub(crate) fn read_vector(
     version: Version,

@@ -8,8 +8,7 @@ ghost use Rattle.zq_model.specs.Sets as sets;
 
 use crate::fault::OpFault;
 use zq_dots::SITES;
-use zq_fields::read_byte;
-use zq_parts::DENSE_SITES;
+use zq_fields::{DENSE_SITES, read_byte};
 
 /// A version of the frame, which its first byte names.
 #[derive(Clone, Copy, Debug, PartialEq, Eq)]
@@ -32,7 +31,7 @@ impl Version {
     }
 
     /// The number of sites that it knows.
-    #[tactic(auto, unfolding(zq_model::specs::Sets::SITES, zq_parts::specs::Vectors::DENSE_SITES))]
+    #[tactic(auto, unfolding(zq_model::specs::Sets::SITES, zq_fields::specs::Vectors::DENSE_SITES))]
     pub(crate) fn sites(self) -> u8
         ensures exact { result ≡ version.sites self }
         ensures most { result ≤ sets.SITES }

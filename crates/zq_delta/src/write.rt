@@ -8,8 +8,7 @@ use crate::act::write_act;
 use crate::version::Version;
 use std::alloc::{AllocError, Global};
 use zq_dots::Op;
-use zq_fields::write_bytes;
-use zq_parts::{sparse_len, write_sparse, write_text};
+use zq_fields::{sparse_len, write_bytes, write_sparse, write_text};
 
 // The most bytes of an operation beside its vector, its key and its member: version, heaps, heap and site, the act with
 // its score, and the two lengths.

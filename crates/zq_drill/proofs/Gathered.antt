@@ -8,8 +8,8 @@ use Rattle.zq_drill.specs.Gathered.{AllHaveAll, Knows, KnowsAt}
 use Rattle.zq_drill.specs.Limits.{heap_count}
 use Rattle.zq_drill.specs.Meetings.{AreHandedOver, AreMeetings, IsMeeting, round}
 use Rattle.zq_drill.specs.Posts.{Place, place_at}
-use Rattle.zq_history.proofs.Covered.{reached_covers_too}
-use Rattle.zq_history.specs.Books.{Book}
+use Rattle.zq_model.proofs.Covered.{reached_covers_too}
+use Rattle.zq_model.specs.Books.{Book}
 use Rattle.zq_journal.specs.Books.{state_of}
 use Rattle.zq_model.proofs.Taken.{covers_at, covers_from}
 use Rattle.zq_model.specs.Sets.{IsIn, covers}
@@ -19,8 +19,8 @@ use Rattle.zq_node.specs.Calls.{Call, Copied, IsCalled, Merged}
 use Rattle.zq_shard.specs.Shard.{HeapImage}
 use Rattle.zq_spread.specs.Answers.{IsCopied}
 use Rattle.zq_spread.specs.Calls.{HasSeenBook}
-use Rattle.zq_spread.specs.Kept.{Follows}
-use Rattle.zq_spread.specs.declared.kept.Kept.{Kept}
+use Rattle.zq_spread.specs.LockedHeaps.{Follows}
+use Rattle.zq_spread.specs.declared.locked_heap.LockedHeap.{LockedHeap}
 use Rattle.zq_spread.specs.declared.pass.Pass.{Pass}
 use Rattle.zq_spread.specs.declared.site.Site.{Site}
 
@@ -58,7 +58,7 @@ merged_knows site before after heap image vector some is place has knows =
     let old = knows_on site before after (Merged image) heap some is knows in
     let new : HasSeenBook after heap (Covers image) = subst (λ h. HasSeenBook after h (Covers image)) place (merged_covers site before after image is) in
     let same : new.0 ≡ old.0 = some_same new.0 old.0 (sym new.1 ∙ old.1) in
-    (new.0, new.1, (ap (λ (k : Kept). k.book.heap) same ∙ old.2.0, covers_through new.0.book.state.vector image.image.vector vector new.2 has))
+    (new.0, new.1, (ap (λ (k : LockedHeap). k.book.heap) same ∙ old.2.0, covers_through new.0.book.state.vector image.image.vector vector new.2 has))
 
 -- ---- hand-overs of heaps
 

@@ -48,7 +48,7 @@ pub fn attend<R: Wait>(
         others: others(alloc, number, SITES)?,
         hasher: Seeded::new(0),
     };
-    let mut node = Node::new(alloc, &station.site, number, HEAPS, Rule::High, pass);
+    let mut node = Node::new(alloc, &station.site, pass);
     link.attend(rt, alloc, &mut node, &mut carrier, &mut Silent);
     Ok(())
 }

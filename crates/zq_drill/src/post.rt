@@ -1,7 +1,7 @@
 //! A place at a site, its type.
 
 ghost use Rattle.std.specs.Arc.{arc_value};
-ghost use Rattle.zq_server.specs.PassFacts.{pass_fact};
+ghost use Rattle.zq_session.specs.PassFacts.{pass_fact};
 ghost use Rattle.zq_spread.specs.Passes.{IsPassOf};
 
 use crate::station::Station;

@@ -1,1 +1,4 @@
 pub mod Fields
+pub mod Reading
+pub mod Spelling
+pub mod Vectors

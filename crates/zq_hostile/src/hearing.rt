@@ -8,7 +8,7 @@ ghost use Rattle.zq_spread.specs.Passes.{IsPassOf};
 use std::alloc::Global;
 use std::sync::Wait;
 use zq_dots::{Op, Rule, SiteNo};
-use zq_frames::Frame;
+use zq_links::Frame;
 use zq_merge::write_state;
 use zq_node::{Node, NodeFault};
 use zq_spread::{Pass, Site};
@@ -105,6 +105,6 @@ pub fn hear<R: Wait>(rt: &R, alloc: Global, is_turned: bool) -> Option<Ended> {
     let number = SiteNo::new(0)?;
     let frame = frame(alloc, is_turned)?;
     let (site, pass, mut looks) = opened(alloc, number)?;
-    let mut node = Node::new(alloc, &site, number, 2, Rule::High, pass);
+    let mut node = Node::new(alloc, &site, pass);
     told(rt, alloc, &site, &mut node, &mut looks, &frame)
 }

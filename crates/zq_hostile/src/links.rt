@@ -6,8 +6,7 @@ use crate::hearing::{heard, opened};
 use std::alloc::Global;
 use std::sync::Wait;
 use zq_dots::{Op, Rule, SiteNo};
-use zq_frames::{Frame, read_frame, write_frame};
-use zq_links::Faulty;
+use zq_links::{Faulty, Frame, read_frame, write_frame};
 use zq_merge::write_state;
 use zq_node::Node;
 use zq_posheap::Seeded;
@@ -91,7 +90,7 @@ fn linked<R: Wait>(rt: &R, alloc: Global, word: u32, copies: usize) -> Option<En
     let number = SiteNo::new(0)?;
     let ops = hundred(alloc)?;
     let (site, pass, mut looks) = opened(alloc, number)?;
-    let mut node = Node::new(alloc, &site, number, 2, Rule::High, pass);
+    let mut node = Node::new(alloc, &site, pass);
     let carried = carry(rt, alloc, &mut node, &ops, word, copies)?;
     let heap = site.state(rt, alloc, &mut looks, 0).ok()?;
     let owed = if copies == 0 {

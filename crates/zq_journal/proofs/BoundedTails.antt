@@ -8,11 +8,11 @@ use Rattle.std.proofs.lemmas.List.Elements.{All-head, All-tail}
 use Rattle.std.specs.List.{All}
 use Rattle.std.specs.Prelude.{slice_index, slice_set, true}
 use Rattle.zq_dots.specs.Placed.{Placed}
-use Rattle.zq_history.specs.Limits.{TailLimits}
-use Rattle.zq_history.proofs.Kept.{undone_cut}
-use Rattle.zq_history.proofs.NewRecords.{change_is_new}
-use Rattle.zq_history.specs.Books.{are_steps_over, is_change_over, steps_of}
-use Rattle.zq_history.specs.Undoing.{after_leaves, operation_on, undone}
+use Rattle.zq_model.specs.Limits.{TailLimits}
+use Rattle.zq_model.proofs.KeptBooks.{undone_cut}
+use Rattle.zq_model.proofs.NewRecords.{change_is_new}
+use Rattle.zq_model.specs.Books.{are_steps_over, is_change_over, steps_of}
+use Rattle.zq_model.specs.Undoing.{after_leaves, operation_on, undone}
 use Rattle.zq_journal.proofs.Entered.{state_after}
 use Rattle.zq_journal.proofs.Missing.{operation_is}
 use Rattle.zq_journal.specs.Books.{book_over}

@@ -3,10 +3,10 @@
 use Rattle.std.proofs.Common.{Option, List, ap, drop, map, refl, subst, sym, take, ℕ, ◌∙◌, ◌≡◌}
 use Rattle.std.proofs.lemmas.List.{drop-map, take-map}
 use Rattle.std.proofs.lemmas.List.Elements.{All-drop}
-use Rattle.zq_history.specs.Limits.{TailLimits}
-use Rattle.zq_history.proofs.Kept.{after_replay, kept_cut, undone_cut}
-use Rattle.zq_history.specs.Books.{IsBook, advanced, replayed}
-use Rattle.zq_history.specs.Undoing.{AreKept, Leaf, after_leaves, undone}
+use Rattle.zq_model.specs.Limits.{TailLimits}
+use Rattle.zq_model.proofs.KeptBooks.{after_replay, kept_cut, undone_cut}
+use Rattle.zq_model.specs.Books.{IsBook, advanced, replayed}
+use Rattle.zq_model.specs.Undoing.{AreKept, Leaf, after_leaves, undone}
 use Rattle.zq_journal.proofs.BoundedTails.{bounded_after}
 use Rattle.zq_journal.proofs.Entered.{state_after}
 use Rattle.zq_journal.specs.Books.{book_over}

@@ -7,10 +7,10 @@ use Rattle.std.proofs.lemmas.List.Elements.{All-push}
 use Rattle.std.specs.FinMap.{get}
 use Rattle.std.specs.Prelude.{IfSome}
 use Rattle.zq_dots.specs.Placed.{Placed}
-use Rattle.zq_history.specs.Limits.{TailLimits}
-use Rattle.zq_history.proofs.Kept.{after_replay, kept_longer, undone_recorded}
-use Rattle.zq_history.specs.Books.{IsBook, merged, recorded}
-use Rattle.zq_history.specs.Undoing.{AreKept, Leaf, after_leaves, operation_on, undone}
+use Rattle.zq_model.specs.Limits.{TailLimits}
+use Rattle.zq_model.proofs.KeptBooks.{after_replay, kept_longer, undone_recorded}
+use Rattle.zq_model.specs.Books.{IsBook, merged, recorded}
+use Rattle.zq_model.specs.Undoing.{AreKept, Leaf, after_leaves, operation_on, undone}
 use Rattle.zq_journal.proofs.Missing.{operation_is}
 use Rattle.zq_journal.specs.Books.{LAST_STAMP, book_over}
 use Rattle.zq_journal.specs.Records.{IsRecord, IsRecordable, Record, leaf_of, leaves_of, placed_in}

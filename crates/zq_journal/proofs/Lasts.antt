@@ -5,8 +5,8 @@ use Rattle.std.proofs.lemmas.List.{set-get_or, take_all, take_more}
 use Rattle.std.proofs.lemmas.Option.{get_or_from_slice_get, slice_get_read, slice_get_within}
 use Rattle.std.specs.Borrow.{Bor}
 use Rattle.std.specs.Prelude.{IfSome, IsSome, Option, is_some, slice_get, ◌↔◌}
-use Rattle.zq_history.specs.Limits.{TailLimits}
-use Rattle.zq_history.specs.Books.{IsBook, operations_of, replayed}
+use Rattle.zq_model.specs.Limits.{TailLimits}
+use Rattle.zq_model.specs.Books.{IsBook, operations_of, replayed}
 use Rattle.zq_journal.proofs.Replays.{length_written, new_next, operation_at}
 use Rattle.zq_journal.proofs.Wholes.{at_over, length_over, more_over, taken_over, vector_after, vector_more}
 use Rattle.zq_journal.specs.Books.{book_over}

@@ -3,8 +3,8 @@
 use Rattle.std.proofs.Common.{List, length, refl, subst, sym, ℕ, ◌∙◌, ◌≡◌}
 use Rattle.std.specs.Prelude.{true}
 use Rattle.zq_dots.specs.Placed.{IsRanged, Placed}
-use Rattle.zq_history.proofs.NewRecords.{change_from}
-use Rattle.zq_history.specs.Books.{Made, Took, is_change_over}
+use Rattle.zq_model.proofs.NewRecords.{change_from}
+use Rattle.zq_model.specs.Books.{Made, Took, is_change_over}
 use Rattle.zq_model.proofs.Places.{bytes_same}
 use Rattle.zq_model.proofs.Taken.{taken_new}
 use Rattle.zq_model.specs.Heaps.{heap_of}

@@ -5,7 +5,7 @@ use Rattle.std.specs.List.{All}
 use Rattle.std.specs.Prelude.{cond, not}
 use Rattle.std.proofs.lemmas.List.Elements.{All-head, All-tail}
 use Rattle.zq_dots.specs.Placed.{Placed}
-use Rattle.zq_history.specs.Books.{operation_of, operations_of}
+use Rattle.zq_model.specs.Books.{operation_of, operations_of}
 use Rattle.zq_journal.specs.Records.{Change, IsRecord, Made, Record, Took, change_of, missing_of, placed_at, placed_in, written_in}
 use Rattle.zq_model.specs.Operation.{Operation, has}
 use Rattle.zq_model.specs.Tail.{lacking}

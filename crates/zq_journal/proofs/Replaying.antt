@@ -3,7 +3,7 @@
 use Rattle.std.proofs.Common.{List, ap, arith, drop, get_or, length, subst, sym, take, ℕ, ◌+◌, ◌<◌, ◌∙◌, ◌≡◌}
 use Rattle.std.specs.List.{All}
 use Rattle.std.specs.Prelude.{true}
-use Rattle.zq_history.specs.Books.{are_steps_over, replayed, steps_of}
+use Rattle.zq_model.specs.Books.{are_steps_over, replayed, steps_of}
 use Rattle.zq_journal.proofs.Replays.{new_next, replayed_next}
 use Rattle.zq_journal.proofs.Wholes.{length_over, rest_over}
 use Rattle.zq_journal.specs.Records.{IsRecord, IsRecordable, Record, full_of, placed_in, records_in, vector_past, whole, written_in}

@@ -5,11 +5,11 @@ use Rattle.std.proofs.lemmas.Bool.{and_parts}
 use Rattle.std.proofs.lemmas.List.{length-map, map-append, take-append-drop, take_more}
 use Rattle.std.proofs.lemmas.Option.{none-some, same_Some}
 use Rattle.std.specs.Prelude.{slice_get, true}
-use Rattle.zq_history.proofs.NewRecords.{change_is_new}
-use Rattle.zq_history.proofs.Steps.{are_steps_over-rest, steps_image-append}
-use Rattle.zq_history.specs.Books as book
-use Rattle.zq_history.specs.Books.{are_steps_over, is_change_over, operations_of, replayed, steps_of}
-use Rattle.zq_history.specs.Undoing.{Leaf, operation_on}
+use Rattle.zq_model.proofs.NewRecords.{change_is_new}
+use Rattle.zq_model.proofs.BookSteps.{are_steps_over-rest, steps_image-append}
+use Rattle.zq_model.specs.Books as book
+use Rattle.zq_model.specs.Books.{are_steps_over, is_change_over, operations_of, replayed, steps_of}
+use Rattle.zq_model.specs.Undoing.{Leaf, operation_on}
 use Rattle.zq_journal.proofs.Missing.{operation_is}
 use Rattle.zq_journal.specs.Records.{Record, leaf_of, leaves_of, placed_in, undone_at, written_in}
 use Rattle.zq_model.specs.Image.{Image, image_after, place_of}

@@ -4,8 +4,8 @@ use Rattle.std.proofs.Common.{List, [], ap, arith, drop, drop-cons, get_or, leng
 use Rattle.std.proofs.lemmas.Bool.Decides.{nat_tests}
 use Rattle.std.proofs.lemmas.List.Sums.{sum_by-append}
 use Rattle.std.specs.Prelude.{if◌then◌else◌, nat_le}
-use Rattle.zq_history.specs.Books as book
-use Rattle.zq_history.specs.Reach.{bytes_in, bytes_of, cut_to_bytes}
+use Rattle.zq_model.specs.Books as book
+use Rattle.zq_model.specs.Reach.{bytes_in, bytes_of, cut_to_bytes}
 use Rattle.zq_journal.specs.Records.{bytes_kept, bytes_kept_in, change_of, cut_kept, placed_in, records_over, vector_past, whole, written_in}
 use Rattle.zq_journal.specs.declared.records.Change as code_change
 use Rattle.zq_journal.specs.declared.records.Change.TheVariants as kept

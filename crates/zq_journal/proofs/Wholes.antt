@@ -1,7 +1,7 @@
 -- The records with their whole operations, one by one.
 
 use Rattle.std.proofs.Common.{List, [], ap, arith, drop, drop-cons, get_or, length, refl, slice_set, suc, sym, take, zero, ℕ, ◌+◌, ◌++◌, ◌<◌, ◌∙◌, ◌∷◌, ◌≡◌}
-use Rattle.zq_history.specs.Books.{operation_of, replayed}
+use Rattle.zq_model.specs.Books.{operation_of, replayed}
 use Rattle.zq_journal.proofs.Missing.{operation_is}
 use Rattle.zq_journal.specs.Records.{Record, change_of, full_of, records_over, vector_over, vector_past, whole, written_in}
 use Rattle.zq_journal.specs.declared.records.Record as code

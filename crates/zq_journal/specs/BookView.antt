@@ -1,7 +1,7 @@
 -- The fields of a book, as a book.
 
 use Rattle.std.specs.Prelude.{List}
-use Rattle.zq_history.specs.Books.{Book}
+use Rattle.zq_model.specs.Books.{Book}
 use Rattle.zq_journal.specs.Books.{book_over}
 use Rattle.zq_journal.specs.Limits.{limits_of}
 use Rattle.zq_journal.specs.Records.{Record, leaves_of, records_in}

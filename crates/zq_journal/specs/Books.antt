@@ -1,9 +1,9 @@
 -- Books that a call begins with, and what a book shows.
 
 use Rattle.std.specs.Prelude.{List, None, Option, [], map, ℕ, ◌++◌, ◌∷◌, ◌≡◌}
-use Rattle.zq_history.specs.Books.{Book, Change, Recorded, Step, Took, operations_of, recorded}
-use Rattle.zq_history.specs.Limits.{TailLimits, standard}
-use Rattle.zq_history.specs.Undoing.{Leaf, undone}
+use Rattle.zq_model.specs.Books.{Book, Change, Recorded, Step, Took, operations_of, recorded}
+use Rattle.zq_model.specs.Limits.{TailLimits, standard}
+use Rattle.zq_model.specs.Undoing.{Leaf, undone}
 use Rattle.zq_model.specs.Image.{image_of}
 use Rattle.zq_model.specs.Operation.{Operation}
 use Rattle.zq_model.specs.Sets.{Early, IsClosed, IsWorld, Known, New, Taken, taken_of, vector_of}

@@ -3,8 +3,8 @@
 use Rattle.std.specs.Coded.{Coded, code_by, coded_list, coded_option, coded×, coded⊎, coded_ℕ}
 use Rattle.std.specs.Prelude.{List, Option, refl, ℕ, ◌≡◌, ◌⊎◌}
 use Rattle.std.proofs.Common.{inl, inr}
-use Rattle.zq_history.specs.Books.{Book, Change, Made, Record, Took}
-use Rattle.zq_history.specs.Limits.{TailLimits}
+use Rattle.zq_model.specs.Books.{Book, Change, Made, Record, Took}
+use Rattle.zq_model.specs.Limits.{TailLimits}
 use Rattle.zq_model.specs.Codes.{image_code, operation_code}
 use Rattle.zq_model.specs.Image.{Image}
 use Rattle.zq_model.specs.Operation.{Operation}

@@ -3,8 +3,8 @@
 use Rattle.std.specs.Prelude.{IfSome, List, Option, [], false, filter, if◌then◌else◌, length, map, nat_le, not, slice_set, suc, ℕ, ◌+◌, ◌∷◌, ◌≡◌}
 use Rattle.zq_dots.specs.Act.{act_of}
 use Rattle.zq_dots.specs.Placed.{IsRanged, Placed}
-use Rattle.zq_history.specs.Books as book
-use Rattle.zq_history.specs.Undoing.{Leaf, undone}
+use Rattle.zq_model.specs.Books as book
+use Rattle.zq_model.specs.Undoing.{Leaf, undone}
 use Rattle.zq_journal.specs.declared.records.Change as change
 use Rattle.zq_journal.specs.declared.records.Change.TheVariants as kept
 use Rattle.zq_journal.specs.declared.records.Record as kept_record

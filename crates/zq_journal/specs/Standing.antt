@@ -2,9 +2,9 @@
 
 use Rattle.std.specs.List.{All}
 use Rattle.std.specs.Prelude.{List, Option, ℕ, ◌≤◌}
-use Rattle.zq_history.specs.Books.{IsBook}
-use Rattle.zq_history.specs.Limits.{TailLimits}
-use Rattle.zq_history.specs.Undoing.{AreKept}
+use Rattle.zq_model.specs.Books.{IsBook}
+use Rattle.zq_model.specs.Limits.{TailLimits}
+use Rattle.zq_model.specs.Undoing.{AreKept}
 use Rattle.zq_journal.specs.Books.{LAST_STAMP, book_over}
 use Rattle.zq_journal.specs.Records.{IsRecord, Record, leaves_of}
 use Rattle.zq_model.specs.Bounded.{IsBounded}

@@ -1,7 +1,7 @@
 //! How a book is checked against its records.
 ghost use Rattle.std.specs.List.{All};
 ghost use Rattle.std.specs.Prelude.{◌≡◌, IfOk, IsTrue, OnOk, drop, true, ℕ};
-ghost use Rattle.zq_history.specs.Books.{are_steps_over, replayed, steps_of};
+ghost use Rattle.zq_model.specs.Books.{are_steps_over, replayed, steps_of};
 ghost use Rattle.zq_journal.specs.Records.{IsRecord, records_in, undone_at, written_in};
 ghost use Rattle.zq_model.specs.Bounded.{IsBounded};
 ghost use Rattle.zq_shard.specs.Shard.{with_vector};

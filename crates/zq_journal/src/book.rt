@@ -1,7 +1,7 @@
 //! A book, its type and what it shows.
 ghost use Rattle.std.specs.Prelude.{◌≡◌, ◌<◌, ◌≤◌, IfOk, IfSome, IsErr, List, Some, [], is_none, length, slice_get, ◌-◌, ◌==◌};
-ghost use Rattle.zq_history.specs.Books.{IsBook, operations_of, touched};
-ghost use Rattle.zq_history.specs.Reach.{IsReachedBy};
+ghost use Rattle.zq_model.specs.Books.{IsBook, operations_of, touched};
+ghost use Rattle.zq_model.specs.Reach.{IsReachedBy};
 ghost use Rattle.zq_journal.specs.Books.{IsBased, LAST_STAMP, opened, state_of};
 ghost use Rattle.zq_journal.specs.Limits.{limits_of};
 ghost use Rattle.zq_journal.specs.Records.{placed_at};
@@ -15,7 +15,7 @@ use std::alloc::{AllocError, Global};
 use std::collections::VecDeque;
 use std::marker::Model;
 use zq_dots::{Op, Vector};
-use zq_history::{keeping, reaching, telling};
+use zq_model::{keeping, reaching, telling};
 use zq_shard::Shard;
 
 /// The last stamp, and the last count.
@@ -40,7 +40,7 @@ pub struct Book {
 }
 
 impl Model for Book {
-    ghost use Rattle.zq_history.specs.Books.{Book};
+    ghost use Rattle.zq_model.specs.Books.{Book};
     ghost use Rattle.zq_journal.specs.Codes.{book_code};
 
     ghost Value = { Book };

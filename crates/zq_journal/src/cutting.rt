@@ -1,7 +1,7 @@
 //! How a book's base moves on: by a merge to the state, by a cut over the oldest records.
 ghost use Rattle.std.specs.Prelude.{◌≡◌, ◌≢◌, ◌≤◌, ◌↔◌, ◌++◌, ◌∷◌, [], IsErrOf, IsOk, List, OnErr, OnOk, length, take, ℕ};
-ghost use Rattle.zq_history.specs.Books.{Book as Books, Merged, Step, advanced, merged};
-ghost use Rattle.zq_history.specs.Reach.{IsReachedBy, IsWorked, cut_of};
+ghost use Rattle.zq_model.specs.Books.{Book as Books, Merged, Step, advanced, merged};
+ghost use Rattle.zq_model.specs.Reach.{IsReachedBy, IsWorked, cut_of};
 ghost use Rattle.zq_journal.specs.Books.{LAST_STAMP, state_of};
 ghost use Rattle.zq_journal.specs.Records.{vector_over};
 ghost use Rattle.zq_shard.specs.Shard.{IsSameHeap};
@@ -12,7 +12,7 @@ use crate::records::Record;
 use std::alloc::Global;
 use std::collections::VecDeque;
 use zq_dots::Vector;
-use zq_history::{keeping, reaching, undoing, working};
+use zq_model::{keeping, reaching, undoing, working};
 use zq_shard::Shard;
 
 impl Book {

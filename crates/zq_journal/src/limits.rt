@@ -1,6 +1,6 @@
 //! How long the tail of a book may become.
 ghost use Rattle.std.specs.Prelude.{◌≡◌};
-ghost use Rattle.zq_history.specs.Limits.{standard};
+ghost use Rattle.zq_model.specs.Limits.{standard};
 ghost use Rattle.zq_journal.specs.Limits.{limits_of};
 
 /// How long the tail of a book may become before a call cuts it.

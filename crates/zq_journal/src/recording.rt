@@ -3,8 +3,8 @@ ghost use Rattle.std.specs.Prelude.{◌≡◌, ◌≢◌, ◌≤◌, ◌<◌, �
 ghost use Rattle.std.specs.FinMap.{get};
 ghost use Rattle.zq_dots.specs.Act.{act_of};
 ghost use Rattle.zq_dots.specs.Placed.{IsRanged, LONGEST};
-ghost use Rattle.zq_history.specs.Books.{Book as Books, Made, Step, is_change_over, recorded};
-ghost use Rattle.zq_history.specs.Reach.{IsWorked};
+ghost use Rattle.zq_model.specs.Books.{Book as Books, Made, Step, is_change_over, recorded};
+ghost use Rattle.zq_model.specs.Reach.{IsWorked};
 ghost use Rattle.zq_journal.specs.Books.{LAST_STAMP, book_taken, state_of, step_of, steps_taken};
 ghost use Rattle.zq_journal.specs.Records.{IsRecordable, change_of, placed_in, whole};
 ghost use Rattle.zq_model.specs.Heaps as place;
@@ -21,7 +21,7 @@ use crate::own::Own;
 use crate::records::{Change, Record};
 use std::alloc::{AllocError, Global};
 use zq_dots::{Act, Dot, Op, SiteNo, heap_of};
-use zq_history::{keeping, undoing, working};
+use zq_model::{keeping, undoing, working};
 use zq_shard::{MakeFault, Taken};
 
 impl Book {

@@ -1,7 +1,7 @@
 //! What a book tells a peer.
 ghost use Rattle.std.specs.List.{All};
 ghost use Rattle.std.specs.Prelude.{◌≡◌, IfOk, List, map, not};
-ghost use Rattle.zq_history.specs.Books.{operations_of};
+ghost use Rattle.zq_model.specs.Books.{operations_of};
 ghost use Rattle.zq_journal.specs.Answers.{IfOps, is_too_old};
 ghost use Rattle.zq_journal.specs.Books.{IsPeer, base_of};
 ghost use Rattle.zq_journal.specs.Records.{IsRecord, missing_of, placed_at, records_over};
@@ -16,7 +16,7 @@ use crate::records::Record;
 use std::alloc::{AllocError, Global};
 use std::collections::VecDeque;
 use zq_dots::{Op, Vector};
-use zq_history::telling;
+use zq_model::telling;
 
 /// What a peer lacks of a book.
 #[derive(Debug, Drop)]

@@ -1,13 +1,13 @@
 //! How a call cuts a book's tail.
 ghost use Rattle.std.specs.Prelude.{◌≡◌, [], length};
-ghost use Rattle.zq_history.specs.Books.{advanced};
-ghost use Rattle.zq_history.specs.Reach.{IsReachedBy, cut_by_bytes, cut_by_length, cut_of};
+ghost use Rattle.zq_model.specs.Books.{advanced};
+ghost use Rattle.zq_model.specs.Reach.{IsReachedBy, cut_by_bytes, cut_by_length, cut_of};
 ghost use Rattle.zq_journal.specs.Records.{cut_kept};
 
 use crate::book::Book;
 use crate::records::Record;
 use std::collections::VecDeque;
-use zq_history::{cutting, reaching};
+use zq_model::{cutting, reaching};
 
 impl Book {
     /// Cuts the tail where it is longer than its limits say: to its newest records, so many, and to so many bytes; but only records

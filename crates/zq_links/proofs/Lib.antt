@@ -1,2 +1,8 @@
 pub mod Newest
 pub mod Runs
+mod Answered
+pub mod Again
+mod Repeated
+mod Taken
+mod Same
+mod Topics

@@ -2,3 +2,11 @@ pub mod Limits
 pub mod Frames
 pub mod Faults
 pub mod Runs
+pub mod Frame
+pub mod Kind
+pub mod Spelling
+pub mod Ops
+pub mod Have
+pub mod Reading
+pub mod Answer
+pub mod About

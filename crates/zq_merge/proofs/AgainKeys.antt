@@ -28,10 +28,10 @@ use Rattle.zq_merge.specs.declared.version.Version.TheVariants.{One, Three, Two}
 use Rattle.zq_model.specs.Rows.{OfSite}
 use Rattle.zq_model.specs.Sets.{IsCounters, IsIn, SITES}
 use Rattle.zq_model.specs.Sparse.{AreBySite}
-use Rattle.zq_parts.proofs.Again.{byte_in_again, number_in_again, score_read}
-use Rattle.zq_parts.proofs.Counters.{dense_sites_is}
-use Rattle.zq_parts.specs.Reading.{byte_in, number_in, score_at}
-use Rattle.zq_parts.specs.Vectors.{DENSE_SITES}
+use Rattle.zq_fields.proofs.PartsAgain.{byte_in_again, number_in_again, score_read}
+use Rattle.zq_fields.proofs.Counters.{dense_sites_is}
+use Rattle.zq_fields.specs.Reading.{byte_in, number_in, score_at}
+use Rattle.zq_fields.specs.Vectors.{DENSE_SITES}
 
 -- ---- one addition
 

@@ -24,11 +24,11 @@ use Rattle.zq_model.specs.Heaps.{heap_of}
 use Rattle.zq_model.specs.Operation.{IsWithin, LONGEST, MOST}
 use Rattle.zq_model.specs.Rule.{Rule}
 use Rattle.zq_model.specs.Sets.{IsCounters, LAST, SITES}
-use Rattle.zq_parts.proofs.Again.{byte_in_again, rule_read, text_read}
-use Rattle.zq_parts.proofs.Counters.{dense_again, limits}
-use Rattle.zq_parts.proofs.Entries.{sparse_again}
-use Rattle.zq_parts.specs.Reading.{text_at}
-use Rattle.zq_parts.specs.declared.heap_no.HeapNo.{HeapNo}
+use Rattle.zq_fields.proofs.PartsAgain.{byte_in_again, rule_read, text_read}
+use Rattle.zq_fields.proofs.Counters.{dense_again, limits}
+use Rattle.zq_fields.proofs.Entries.{sparse_again}
+use Rattle.zq_fields.specs.Reading.{text_at}
+use Rattle.zq_fields.specs.declared.heap_no.HeapNo.{HeapNo}
 
 pub site_again : (whole past low s : ℕ) (rest : List ℕ) → low ≤ s → s < past → site_at whole past low (s ∷ rest) ≡ Ok (s, rest)
 unfolding site_at

@@ -29,9 +29,9 @@ use Rattle.zq_model.specs.Image.{Image, join}
 use Rattle.zq_model.specs.Rows.{OfSite, Row, image_of_rows, rows_of}
 use Rattle.zq_model.specs.Rule.{Rule}
 use Rattle.zq_model.specs.Sets.{IsCounters, IsHeaps, IsIn, SITES}
-use Rattle.zq_parts.proofs.Again.{heap_read}
-use Rattle.zq_parts.specs.Reading.{heap_at}
-use Rattle.zq_parts.specs.declared.heap_no.HeapNo.{HeapNo}
+use Rattle.zq_fields.proofs.PartsAgain.{heap_read}
+use Rattle.zq_fields.specs.Reading.{heap_at}
+use Rattle.zq_fields.specs.declared.heap_no.HeapNo.{HeapNo}
 use Rattle.zq_shard.specs.Shard.{HeapImage, IsHeapImage}
 
 -- ---- what stands before the keys

@@ -25,10 +25,10 @@ use Rattle.zq_model.proofs.Sites.{by_site_from}
 use Rattle.zq_model.specs.Operation.{IsWithin, MOST}
 use Rattle.zq_model.specs.Sets.{IsCounters, SITES, by_site}
 use Rattle.zq_model.specs.Sparse.{AreBySite, found}
-use Rattle.zq_parts.proofs.Again.{byte_in_again}
-use Rattle.zq_parts.proofs.Counters.{dense_sites_is}
-use Rattle.zq_parts.specs.Reading.{byte_in}
-use Rattle.zq_parts.specs.Vectors.{DENSE_SITES, IsDense}
+use Rattle.zq_fields.proofs.PartsAgain.{byte_in_again}
+use Rattle.zq_fields.proofs.Counters.{dense_sites_is}
+use Rattle.zq_fields.specs.Reading.{byte_in}
+use Rattle.zq_fields.specs.Vectors.{DENSE_SITES, IsDense}
 
 -- ---- sums that are not 0, with their sites
 

@@ -26,8 +26,8 @@ use Rattle.zq_model.proofs.Bounds.{within_zero}
 use Rattle.zq_model.specs.Operation.{IsWithin, MOST}
 use Rattle.zq_model.specs.Sets.{SITES, by_site}
 use Rattle.zq_model.specs.Sparse.{AreBySite, found}
-use Rattle.zq_parts.proofs.Counters.{dense_sites_is}
-use Rattle.zq_parts.specs.Vectors.{DENSE_SITES}
+use Rattle.zq_fields.proofs.Counters.{dense_sites_is}
+use Rattle.zq_fields.specs.Vectors.{DENSE_SITES}
 
 -- ---- sums that are kept
 

@@ -15,10 +15,10 @@ use Rattle.zq_model.specs.Operation.{MOST}
 use Rattle.zq_model.specs.Rows.{OfSite}
 use Rattle.zq_model.specs.Rule.{Greatest, Rule}
 use Rattle.zq_model.specs.Sets.{SITES, by_site}
-use Rattle.zq_parts.specs.Reading as part
-use Rattle.zq_parts.specs.Reading.{byte_in, dense_at, heap_at, number_in, score_at, sparse_at}
-use Rattle.zq_parts.specs.Vectors.{DENSE_SITES}
-use Rattle.zq_parts.specs.declared.heap_no.HeapNo.{HeapNo}
+use Rattle.zq_fields.specs.Reading as part
+use Rattle.zq_fields.specs.Reading.{byte_in, dense_at, heap_at, number_in, score_at, sparse_at}
+use Rattle.zq_fields.specs.Vectors.{DENSE_SITES}
+use Rattle.zq_fields.specs.declared.heap_no.HeapNo.{HeapNo}
 
 -- the last number of eight bytes
 abbrev pub LAST_NUMBER : ℕ

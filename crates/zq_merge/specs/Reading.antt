@@ -8,9 +8,9 @@ use Rattle.std.specs.Prelude.{Bool, Err, List, None, Ok, Option, Result, Some, [
 use Rattle.zq_fields.specs.Fields.{number_field, signed_field}
 use Rattle.zq_merge.specs.declared.fault.StateFault.{StateFault}
 use Rattle.zq_merge.specs.declared.fault.StateFault.TheVariants as state
-use Rattle.zq_parts.specs.Reading.{byte_in, text_at}
-use Rattle.zq_parts.specs.declared.fault.PartFault.{PartFault}
-use Rattle.zq_parts.specs.declared.fault.PartFault.TheVariants.{Field, Length, Score, Short}
+use Rattle.zq_fields.specs.Reading.{byte_in, text_at}
+use Rattle.zq_fields.specs.declared.fault.PartFault.{PartFault}
+use Rattle.zq_fields.specs.declared.fault.PartFault.TheVariants.{Field, Length, Score, Short}
 
 -- what is read at the front of the bytes, or the fault
 abbrev pub Read : Type 0 → Type 0

@@ -11,8 +11,8 @@ use Rattle.zq_merge.specs.declared.fault.StateFault.TheVariants.{NoMemory}
 use Rattle.zq_merge.specs.declared.version.Version.{Version}
 use Rattle.zq_merge.specs.declared.version.Version.TheVariants.{One, Three, Two}
 use Rattle.zq_model.specs.Sets.{SITES}
-use Rattle.zq_parts.specs.Reading.{byte_in, number_in, score_at}
-use Rattle.zq_parts.specs.Vectors.{DENSE_SITES}
+use Rattle.zq_fields.specs.Reading.{byte_in, number_in, score_at}
+use Rattle.zq_fields.specs.Vectors.{DENSE_SITES}
 
 -- a fault of the bytes, and not want of memory
 abbrev pub IsOfBytes : StateFault → Type 0

@@ -10,8 +10,8 @@ use Rattle.zq_merge.specs.declared.version.Version.{Version}
 use Rattle.zq_merge.specs.declared.version.Version.TheVariants.{One, Three, Two}
 use Rattle.zq_model.specs.Rows.{OfSite}
 use Rattle.zq_model.specs.Rule.{Rule}
-use Rattle.zq_parts.specs.Spelling.{dense, rule_byte, sparse}
-use Rattle.zq_parts.specs.Vectors.{DENSE_SITES}
+use Rattle.zq_fields.specs.Spelling.{dense, rule_byte, sparse}
+use Rattle.zq_fields.specs.Vectors.{DENSE_SITES}
 
 -- the rule, which the third version alone has
 abbrev pub rule_bytes : Version → Rule → List ℕ

@@ -20,7 +20,7 @@ use crate::version::Version;
 use std::alloc::{AllocError, Global};
 use zq_dots::{Dot, Vector};
 use zq_entry::{Addition, Entry};
-use zq_parts::{read_byte_in, read_score};
+use zq_fields::{read_byte_in, read_score};
 
 /// Takes an addition of a site from `low` on: its site, its counter, which the vector knows, its score and its sums.
 #[tactic(auto, unfolding(crate::specs::Fields::addition_at, crate::specs::Spelling::addition_bytes))]

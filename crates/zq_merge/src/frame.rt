@@ -14,7 +14,7 @@ use crate::fault::StateFault;
 use crate::part::of_part;
 use crate::version::Version;
 use zq_dots::{Rule, Vector};
-use zq_parts::{HeapNo, read_dense, read_heap, read_rule, read_sparse};
+use zq_fields::{HeapNo, read_dense, read_heap, read_rule, read_sparse};
 
 /// Which heap a state is of, by which rule its scores are, and which operations it has taken.
 #[derive(Clone, Copy, Debug)]

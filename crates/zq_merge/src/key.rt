@@ -21,7 +21,7 @@ use crate::part::of_part;
 use crate::text::read_rising_text;
 use crate::version::Version;
 use std::alloc::Global;
-use zq_parts::read_number_in;
+use zq_fields::read_number_in;
 use zq_shard::Shard;
 
 /// Takes the number of keys, and as many.

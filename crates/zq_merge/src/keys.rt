@@ -9,8 +9,7 @@ ghost use Rattle.zq_shard.specs.Listed.{lent_row};
 
 use crate::write::write_member;
 use std::alloc::AllocError;
-use zq_fields::write_u64;
-use zq_parts::write_text;
+use zq_fields::{write_text, write_u64};
 use zq_shard::RowRef;
 
 /// Appends the number of keys, and each with its members. The rows are by key and then by member.

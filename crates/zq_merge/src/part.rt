@@ -9,8 +9,7 @@ ghost use Rattle.zq_model.specs.Sets as sets;
 
 use crate::fault::StateFault;
 use zq_dots::SiteNo;
-use zq_fields::read_u64;
-use zq_parts::{PartFault, read_site};
+use zq_fields::{PartFault, read_site, read_u64};
 
 /// What was read, with the state's fault for the part's.
 pub(crate) fn of_part<X>(part: Result<X, PartFault>) -> Result<X, StateFault>

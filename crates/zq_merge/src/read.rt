@@ -16,7 +16,7 @@ use std::alloc::Global;
 use zq_posheap::Seeded;
 use zq_shard::Shard;
 
-/// The state that the bytes are, in version 1, 2 or 3, as a shard whose members lie by this hasher.
+/// The state that the bytes are, in version 1, 2 or 3, as a shard whose members use this hasher.
 ///
 /// A fault is that of the first field, from the left, that is missing or wrong. Members go into the shard as they are
 /// read, and no memory is asked for what a number only declares: `NoMemory` comes where there was none for what stands

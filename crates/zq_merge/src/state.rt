@@ -8,8 +8,7 @@ ghost use Rattle.zq_merge.specs.declared.version.Version.TheVariants as version;
 use crate::keys::write_keys;
 use crate::version::Version;
 use std::alloc::{AllocError, Global};
-use zq_fields::write_bytes;
-use zq_parts::{rule_byte, write_sparse};
+use zq_fields::{rule_byte, write_bytes, write_sparse};
 use zq_shard::Shard;
 
 /// The bytes of a state, in version 3. It fails only where memory is refused.

@@ -18,7 +18,7 @@ use crate::sum::{most, read_site_sum, read_sum};
 use crate::version::Version;
 use std::alloc::{AllocError, Global};
 use zq_dots::{SITES, SiteNo, Vector};
-use zq_parts::{DENSE_SITES, read_byte_in};
+use zq_fields::{DENSE_SITES, read_byte_in};
 
 /// Takes the sums of an addition: those that are not 0, by rising site.
 pub(crate) fn read_sums(

@@ -12,7 +12,7 @@ ghost use Rattle.zq_model.specs.Sets as sets;
 
 use crate::fault::StateFault;
 use zq_dots::heap_of;
-use zq_parts::{HeapNo, read_text};
+use zq_fields::{HeapNo, read_text};
 
 /// Takes a key or a member that is above the one before it.
 #[tactic(auto, unfolding(crate::specs::Reading::rising_text_at))]

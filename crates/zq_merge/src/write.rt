@@ -15,8 +15,7 @@ ghost use Rattle.zq_model.specs.Sets as sets;
 use std::alloc::AllocError;
 use zq_dots::SiteNo;
 use zq_entry::{AdditionRef, Entry};
-use zq_fields::{write_byte, write_i128, write_u64};
-use zq_parts::{write_score, write_text};
+use zq_fields::{write_byte, write_i128, write_score, write_text, write_u64};
 
 /// Appends a member with its entry.
 #[tactic(auto, unfolding(crate::specs::Spelling::member_bytes))]

@@ -43,3 +43,24 @@ pub mod TailSets
 pub mod Taken
 pub mod Totals
 pub mod Worlds
+pub mod Dates
+pub mod BookSteps
+pub mod Tested
+pub mod NewRecords
+mod BookTails
+pub mod CutTails
+pub mod KeptBooks
+pub mod Reached
+pub mod Works
+pub mod Covered
+pub mod Lists
+pub mod Told
+mod BookTotals
+mod Acts
+pub mod Homes
+pub mod QueuesAfter
+pub mod MadeAll
+pub mod Counted
+pub mod Read
+mod Named
+mod Heads

@@ -15,3 +15,11 @@ pub mod Bounded
 pub mod Codes
 pub mod Examples
 pub mod Cases
+pub mod Limits
+pub mod Books
+pub mod Reach
+pub mod Undoing
+pub mod Moves
+pub mod Lent
+pub mod Readings
+pub mod Merging

@@ -5,11 +5,11 @@ use Rattle.std.proofs.lemmas.Bool.{cases_Bool, cases_eq, cond-false}
 use Rattle.std.specs.Prelude.{Err, IfSome, IsErrOf, List, Ok, OnErr, Result, Some, [], false, length, map, max, true, ℕ, ◌+◌, ◌++◌, ◌<◌, ◌≡◌, ◌≢◌, ◌∷◌, ◌⊎◌, ◌↔◌}
 use Rattle.zq_dots.specs.Placed.{Placed}
 use Rattle.std.proofs.lemmas.Bool.{and_parts}
-use Rattle.zq_history.proofs.Covered.{has_recorded, reached_covers_too, reached_knows}
-use Rattle.zq_history.proofs.Reached.{reached_through, worked_reaches}
-use Rattle.zq_history.specs.Books as made_step
-use Rattle.zq_history.specs.Books.{Book, Step, are_steps_over, steps_image}
-use Rattle.zq_history.specs.Reach.{IsWorked, Reached}
+use Rattle.zq_model.proofs.Covered.{has_recorded, reached_covers_too, reached_knows}
+use Rattle.zq_model.proofs.Reached.{reached_through, worked_reaches}
+use Rattle.zq_model.specs.Books as made_step
+use Rattle.zq_model.specs.Books.{Book, Step, are_steps_over, steps_image}
+use Rattle.zq_model.specs.Reach.{IsWorked, Reached}
 use Rattle.zq_journal.specs.Books.{steps_when}
 use Rattle.zq_journal.specs.declared.since.Since.{Since}
 use Rattle.zq_journal.specs.declared.faults.TakeFault.{TakeFault}
@@ -30,12 +30,12 @@ use Rattle.zq_shard.specs.declared.taken.Taken.TheVariants.{Early, Known, New}
 use Rattle.zq_shard.specs.Shard.{HeapImage}
 use Rattle.zq_spread.specs.Answers.{IsAsked, IsCopied, IsShown, IsSince, IsTaken}
 use Rattle.zq_spread.specs.Calls.{AreWorkedIn, HasSeenBook, IsCall, IsOfSite, IsWorkedIn, greatest_stamp, heaps_of}
-use Rattle.zq_spread.specs.Kept.{Follows}
+use Rattle.zq_spread.specs.LockedHeaps.{Follows}
 use Rattle.zq_spread.specs.Passes.{seen_at, steps_at}
 use Rattle.zq_spread.specs.Worn.{IsWornIn}
 use Rattle.zq_spread.specs.declared.faults.ReadFault.{ReadFault}
 use Rattle.zq_spread.specs.declared.faults.ReadFault.TheVariants as unread
-use Rattle.zq_spread.specs.declared.kept.Kept.{Kept}
+use Rattle.zq_spread.specs.declared.locked_heap.LockedHeap.{LockedHeap}
 use Rattle.zq_spread.specs.declared.pass.Pass.{Pass}
 use Rattle.zq_spread.specs.declared.site.Site.{Site}
 
@@ -43,14 +43,14 @@ use Rattle.zq_spread.specs.declared.site.Site.{Site}
 
 -- what it found, left and did there
 pub record IsAlone (Does : List Book → List (List Step) → Type 0) (before after : Pass) (h : ℕ) : Type 0 where
-  pub found : Kept
-  pub left : Kept
+  pub found : LockedHeap
+  pub left : LockedHeap
   pub steps : List Step
   pub worked : IsWorkedIn before after h found left steps
   pub later : found.book.stamp < after.stamp
   pub done : Does (found.book ∷ []) (steps ∷ [])
 
-alone_in : (Does : List Book → List (List Step) → Type 0) (before after : Pass) (h : ℕ) (found left : List Kept) (steps : List (List Step)) → AreWorkedIn before after (h ∷ []) found left steps →
+alone_in : (Does : List Book → List (List Step) → Type 0) (before after : Pass) (h : ℕ) (found left : List LockedHeap) (steps : List (List Step)) → AreWorkedIn before after (h ∷ []) found left steps →
     after.stamp ≡ max before.stamp (greatest_stamp found) + 1 → Does (map (λ x. x.book) found) steps → IsAlone Does before after h
 alone_in Does before after h [] left steps worked next done = absurd worked
 alone_in Does before after h (x ∷ found) [] steps worked next done = absurd worked
@@ -83,7 +83,7 @@ no_step_by Does before after h is none = λ k. elim (cases_eq k h) [
 
 -- ---- what was reached stays so
 
-reached_alone : (Does : List Book → List (List Step) → Type 0) (before after : Pass) (h : ℕ) (one : IsAlone Does before after h) (x : Kept) → seen_at before h ≡ Some x → Reached one.left.book x.book
+reached_alone : (Does : List Book → List (List Step) → Type 0) (before after : Pass) (h : ℕ) (one : IsAlone Does before after h) (x : LockedHeap) → seen_at before h ≡ Some x → Reached one.left.book x.book
 reached_alone Does before after h one x is =
     let follow : Follows one.found x = subst (λ s. IfSome s (Follows one.found)) is one.worked.follows in
     let first = follow.0 in

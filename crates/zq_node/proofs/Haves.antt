@@ -2,7 +2,7 @@
 
 use Rattle.std.proofs.Common.{ap, arith, refl, subst, sym, ◌∙◌}
 use Rattle.std.specs.Prelude.{List, [], length, ℕ, ◌+◌, ◌++◌, ◌∷◌, ◌≡◌}
-use Rattle.zq_frames.specs.Frame.{Frame, OfHave}
+use Rattle.zq_links.specs.Frame.{Frame, OfHave}
 use Rattle.zq_node.proofs.Called.{called_on}
 use Rattle.zq_node.specs.Calls.{AreCalled, Call, IsCalled, Saw}
 use Rattle.zq_node.specs.Hearing.{have_at, haves_from, shown_from}

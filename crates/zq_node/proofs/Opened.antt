@@ -3,7 +3,7 @@
 use Rattle.std.proofs.Common.{[], List, All, ap, arith, refl, ℕ, ◌++◌, ◌∙◌, ◌∷◌, ◌≡◌, ◌≤◌}
 use Rattle.std.proofs.lemmas.List.Elements.{All-cons, All-head, All-nil, All-tail}
 use Rattle.zq_dots.specs.declared.rule.Rule.TheVariants.{High}
-use Rattle.zq_history.specs.Books.{Book}
+use Rattle.zq_model.specs.Books.{Book}
 use Rattle.zq_model.specs.Rule.{Greatest}
 use Rattle.zq_shard.proofs.SameRules.{same_rule}
 use Rattle.zq_spread.specs.Makers.{AreEmptyBooks, IsMade}

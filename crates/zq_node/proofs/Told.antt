@@ -4,12 +4,12 @@ use Rattle.std.proofs.Common.{ap, arith, get_or, inl, inr, refl, subst, sym, ◌
 use Rattle.std.proofs.Math.Nat.{le-max_right}
 use Rattle.std.specs.Prelude.{Err, IfErr, IsErrAnd, IsErrOf, List, MatchBool, None, Ok, Result, Some, [], false, true, ℕ, ◌≡◌, ◌≢◌, ◌∷◌, ◌⊎◌, ◌↔◌}
 use Rattle.zq_dots.specs.Rule.{rule_of}
-use Rattle.zq_frames.specs.Frame.{Frame}
-use Rattle.zq_frames.specs.declared.frame.Frame as code
-use Rattle.zq_frames.specs.declared.frame.Frame.TheVariants as heard
-use Rattle.zq_frames.specs.declared.frame.Have as said
-use Rattle.zq_history.proofs.Covered.{reached_covers_too}
-use Rattle.zq_history.specs.Books.{Book, Step, steps_image}
+use Rattle.zq_links.specs.Frame.{Frame}
+use Rattle.zq_links.specs.declared.frame.Frame as code
+use Rattle.zq_links.specs.declared.frame.Frame.TheVariants as heard
+use Rattle.zq_links.specs.declared.frame.Have as said
+use Rattle.zq_model.proofs.Covered.{reached_covers_too}
+use Rattle.zq_model.specs.Books.{Book, Step, steps_image}
 use Rattle.zq_journal.specs.declared.faults.MergeFault.{MergeFault}
 use Rattle.zq_journal.specs.declared.faults.MergeFault.TheVariants as unjoined
 use Rattle.zq_model.proofs.JoinKeeps.{join_vector_at}

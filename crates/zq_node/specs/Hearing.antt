@@ -3,9 +3,9 @@
 use Rattle.std.specs.Prelude.{IfSome, List, MatchBool, None, Option, Some, [], if◌then◌else◌, length, map, option_to_list, slice_get, take, true, ℕ, ◌+◌, ◌++◌, ◌<◌, ◌∷◌, ◌≡◌, ◌≢◌, ◌≤◌, ◌⊎◌}
 use Rattle.zq_dots.specs.Placed.{Placed}
 use Rattle.zq_dots.specs.Rule.{rule_of}
-use Rattle.zq_frames.specs.Frame.{Frame, Have, OfHave, OfOps, OfState, frame_of, have_of}
-use Rattle.zq_frames.specs.declared.frame.Frame as code
-use Rattle.zq_frames.specs.declared.frame.Frame.TheVariants as heard
+use Rattle.zq_links.specs.Frame.{Frame, Have, OfHave, OfOps, OfState, frame_of, have_of}
+use Rattle.zq_links.specs.declared.frame.Frame as code
+use Rattle.zq_links.specs.declared.frame.Frame.TheVariants as heard
 use Rattle.zq_journal.specs.declared.since.Since.{Since}
 use Rattle.zq_journal.specs.declared.since.Since.TheVariants.{Ops, TooOld}
 use Rattle.zq_model.specs.Rule.{Rule}

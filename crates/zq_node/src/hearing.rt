@@ -1,7 +1,7 @@
 //! How a node hears frames, and says what its site has.
 ghost use Rattle.std.specs.Prelude.{◌≡◌, ◌⊎◌, All, IfErr, IfOk, OnErr, OnOk, map};
-ghost use Rattle.zq_frames.specs.Frame.{IsWritable, frame_of, have_of};
-ghost use Rattle.zq_frames.specs.declared.frame.Frame.TheVariants as heard;
+ghost use Rattle.zq_links.specs.Frame.{IsWritable, frame_of, have_of};
+ghost use Rattle.zq_links.specs.declared.frame.Frame.TheVariants as heard;
 ghost use Rattle.zq_node.specs.Calls.{MadeNoStep};
 ghost use Rattle.zq_node.specs.Faults.{IsOwnFault};
 ghost use Rattle.zq_node.specs.Hearing.{AreHaves, HasHeard, HasSiteRule, HasStopped, IsFaultOf, IsForSite, IsHaveHeard, IsOfOneHeap, IsStateHeard, IsStateStopped, sent_of};
@@ -12,7 +12,7 @@ use crate::node::Node;
 use std::alloc::Global;
 use std::sync::Wait;
 use zq_dots::SiteNo;
-use zq_frames::{Frame, Have};
+use zq_links::{Frame, Have};
 use zq_shard::Shard;
 
 impl Node<'_> {

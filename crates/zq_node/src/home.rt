@@ -1,6 +1,6 @@
 //! Where a node is at home.
 ghost use Rattle.std.specs.Prelude.{◌≡◌, ◌<◌, IfErr, IfSome, OnOk, option_map};
-ghost use Rattle.zq_frames.specs.Frame.{IsWritable, OfHave, frame_of};
+ghost use Rattle.zq_links.specs.Frame.{IsWritable, OfHave, frame_of};
 ghost use Rattle.zq_dots.specs.Rule.{rule_of};
 ghost use Rattle.zq_node.specs.Hearing.{IsHeapOf, IsNotFor, have_at, own_have};
 ghost use Rattle.zq_node.specs.Node.{IsHome};
@@ -8,7 +8,7 @@ ghost use Rattle.zq_spread.specs.Calls.{heaps_of};
 
 use crate::faults::NodeFault;
 use zq_dots::{Rule, SiteNo, Vector};
-use zq_frames::{Frame, Have};
+use zq_links::{Frame, Have};
 use zq_spread::Site;
 
 /// A site, with its number, the number of its heaps and its rule.

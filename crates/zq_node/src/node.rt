@@ -1,14 +1,11 @@
 //! A node, its type.
 ghost use Rattle.std.specs.Prelude.{◌≡◌, ◌≤◌, [], length};
-ghost use Rattle.zq_model.specs.Sets.{IsHeaps};
 ghost use Rattle.zq_node.specs.Node.{IsNode, parked_of, pass_of, site_of};
-ghost use Rattle.zq_spread.specs.Calls.{heaps_of};
 ghost use Rattle.zq_spread.specs.Passes.{IsPassOf};
 
 use crate::home::Home;
 use crate::parked::Parked;
 use std::alloc::Global;
-use zq_dots::{Rule, SiteNo};
 use zq_spread::{Pass, Site};
 
 /// What hears the frames that come to a site. It works with a pass of its own, and keeps operations that came early until
@@ -21,26 +18,18 @@ pub struct Node<'a> {
 }
 
 impl<'a> Node<'a> {
-    /// The node of this site, of which these are the number, the number of heaps and the rule. It has parked nothing, and
-    /// the pass, which is one of the site's, is as it was. It takes no memory.
-    pub fn new(
-        alloc: Global,
-        site: &'a Site,
-        number: SiteNo,
-        heaps: u8,
-        rule: Rule,
-        pass: Pass,
-    ) -> Node<'a>
-        requires number { number ≡ site.now.number }
-        requires heaps { heaps ≡ heaps_of site.now }
-        requires bounds { IsHeaps heaps }
-        requires rule { rule ≡ site.now.rule }
-        requires pass { IsPassOf site.now pass }
+    /// The node of this site. It has parked nothing, and the pass, which is one of the site's, is as it was. It takes no
+    /// memory.
+    pub fn new(alloc: Global, site: &'a Site, pass: Pass) -> Node<'a>
+        requires { IsPassOf site.now pass }
         ensures node { IsNode result }
         ensures site { site_of result ≡ site.now }
         ensures pass { pass_of result ≡ pass }
         ensures parked { parked_of result ≡ [] }
     {
+        let number = site.number();
+        let heaps = site.heaps();
+        let rule = site.rule();
         let _number = number.value();
         let home = Home {
             site,

@@ -21,8 +21,8 @@ type Place = (u8, u8, u64);
 /// place of its own.
 ///
 /// A site's operations come in the order of their counters, so of those that are parked only the first one of each site
-/// can be ready. They lie by heap, site and counter, so that it is found at once, and a site of which none was parked
-/// since the last one left is passed over: what the others cost does not grow with them.
+/// can be ready. They are kept by heap, site and counter, so that it is found at once, and a site of which none was
+/// parked since the last one left is passed over: what the others cost does not grow with them.
 #[derive(Drop)]
 pub struct Parked {
     ops: BTreeMap<Place, Op>,

@@ -1,6 +1,6 @@
 //! What a peer is told.
 ghost use Rattle.std.specs.Prelude.{◌≡◌, ◌<◌, ◌++◌, All, IfErr, IfOk, IfSome, OnErr, option_map, option_to_list};
-ghost use Rattle.zq_frames.specs.Frame.{IsWritable, frame_of, have_of};
+ghost use Rattle.zq_links.specs.Frame.{IsWritable, frame_of, have_of};
 ghost use Rattle.zq_node.specs.Calls.{MadeNoStep};
 ghost use Rattle.zq_node.specs.Faults.{IsOwnFault};
 ghost use Rattle.zq_node.specs.Hearing.{IsHaveHeard, IsToldOf, IsTold, sent_of, sent_to};
@@ -12,8 +12,8 @@ use crate::node::Node;
 use std::alloc::{AllocError, Global};
 use std::sync::Wait;
 use zq_dots::{SiteNo, Vector};
-use zq_frames::{Frame, Have};
 use zq_journal::Since;
+use zq_links::{Frame, Have};
 
 /// The most operations of an answer: four bytes count them.
 const MOST_TOLD: usize = 4_294_967_295;

@@ -143,9 +143,9 @@ fn check_pair<R: Wait + Abort>(rt: &R, alloc: Global, pair: Pair) -> Result<(), 
         SiteNo::new(1).ok_or("a site")?,
     ];
     let (first, pass) = opened(alloc, numbers[0])?;
-    let mut zero = Node::new(alloc, &first, numbers[0], 2, Rule::High, pass);
+    let mut zero = Node::new(alloc, &first, pass);
     let (second, pass) = opened(alloc, numbers[1])?;
-    let mut one = Node::new(alloc, &second, numbers[1], 2, Rule::High, pass);
+    let mut one = Node::new(alloc, &second, pass);
     match pair {
         Pair::Meeting => check_meeting(rt, alloc, &mut zero, &mut one),
         Pair::Behind => check_behind(rt, alloc, &mut zero, &mut one),

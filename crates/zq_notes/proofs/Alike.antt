@@ -11,10 +11,10 @@ use Rattle.zq_notes.proofs.OfSites.{gathered-append, made_from-append, notes_apa
 use Rattle.zq_notes.specs.Gathered.{gathered, gathered_by}
 use Rattle.zq_notes.specs.Sites.{Event, has_at, made_in_all, made_of, notes_at}
 use Rattle.zq_notes.specs.Uncut.{steps_in, steps_of}
-use Rattle.zq_runs.specs.Events as runs
-use Rattle.zq_runs.specs.Events.{Run, set_at, set_in, state_after}
-use Rattle.zq_runs.specs.Runs.{after_event}
-use Rattle.zq_runs.specs.State.{Sets, State}
+use Rattle.zq_semantics.specs.Events as runs
+use Rattle.zq_semantics.specs.Events.{Run, set_at, set_in, state_after}
+use Rattle.zq_semantics.specs.Runs.{after_event}
+use Rattle.zq_semantics.specs.State.{Sets, State}
 
 -- ---- sets
 

@@ -4,8 +4,8 @@ use Rattle.std.proofs.Common.{ap, eq-eqb, inl, inr, subst, sym, true≢false, �
 use Rattle.std.proofs.lemmas.Bool.{cases_Bool, eqb-true}
 use Rattle.std.specs.Prelude.{List, [], map, refl, ℕ, ◌==◌, ◌∷◌, ◌≡◌}
 use Rattle.zq_dots.specs.Rule.{rule_of}
-use Rattle.zq_history.specs.Books.{Book, Step}
-use Rattle.zq_history.specs.Reach.{worked as done_by}
+use Rattle.zq_model.specs.Books.{Book, Step}
+use Rattle.zq_model.specs.Reach.{worked as done_by}
 use Rattle.zq_model.specs.Sets.{IsIn}
 use Rattle.zq_notes.specs.Calls.{AreCallsFrom, Call, IsCallOver, books_in, notes_of}
 use Rattle.zq_notes.specs.Does.{Does}
@@ -13,7 +13,7 @@ use Rattle.zq_notes.specs.Notes.{Books, Note}
 use Rattle.zq_notes.specs.Thread.{AreOwn, AreOwnIn, IsNoteOver, IsOneThread, left_by, left_in}
 use Rattle.zq_spread.specs.Calls.{AreWorkedIn, HasSeenBook, heaps_of}
 use Rattle.zq_spread.specs.Passes.{seen_at}
-use Rattle.zq_spread.specs.declared.kept.Kept.{Kept}
+use Rattle.zq_spread.specs.declared.locked_heap.LockedHeap.{LockedHeap}
 use Rattle.zq_spread.specs.declared.pass.Pass.{Pass}
 use Rattle.zq_spread.specs.declared.site.Site.{Site}
 
@@ -24,7 +24,7 @@ pub same_tail : (x y : Book) (xs ys : List Book) → x ∷ xs ≡ y ∷ ys → x
 same_tail x y xs ys e = cc
 
 -- the steps of a call can come over what it found, and are of its stamp
-own_of : (before after : Pass) (books : Books) (heaps : List ℕ) (found left : List Kept) (steps : List (List Step)) → AreWorkedIn before after heaps found left steps →
+own_of : (before after : Pass) (books : Books) (heaps : List ℕ) (found left : List LockedHeap) (steps : List (List Step)) → AreWorkedIn before after heaps found left steps →
     books_in found ≡ map books heaps → AreOwnIn after.stamp books heaps steps
 own_of before after books [] [] [] [] worked is = tt
 own_of before after books [] [] [] (ss ∷ steps) worked is = absurd worked
@@ -61,7 +61,7 @@ thread_of site opening (c ∷ calls) over = (
 )
 
 -- what a call leaves in a heap is what the pass has then seen there
-seen_of : (before after : Pass) (books : Books) (heaps : List ℕ) (found left : List Kept) (steps : List (List Step)) (h : ℕ) → AreWorkedIn before after heaps found left steps → books_in found ≡ map books heaps →
+seen_of : (before after : Pass) (books : Books) (heaps : List ℕ) (found left : List LockedHeap) (steps : List (List Step)) (h : ℕ) → AreWorkedIn before after heaps found left steps → books_in found ≡ map books heaps →
     IsIn h heaps → HasSeenBook after h (λ b. b ≡ left_in after.stamp heaps steps h (books h))
 seen_of before after books [] found left steps h worked is here = absurd here
 seen_of before after books (k ∷ heaps) [] left steps h worked is here = absurd worked

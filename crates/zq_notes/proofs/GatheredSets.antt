@@ -3,10 +3,10 @@
 use Rattle.std.proofs.Common.{ap, arith, eq-eqb, inl, inr, subst, sym, true≢false, ◌∙◌}
 use Rattle.std.proofs.lemmas.Bool.{and_parts, cases_Bool, eqb-true}
 use Rattle.std.specs.Prelude.{List, [], refl, slice_index, true, ℕ, ◌++◌, ◌&&◌, ◌==◌, ◌∷◌, ◌≡◌}
-use Rattle.zq_history.proofs.NewRecords.{change_is_new}
-use Rattle.zq_history.proofs.Works.{worked_is}
-use Rattle.zq_history.specs.Books.{Book, Merged, Recorded, Step, are_steps_over, is_change_over, operation_of, steps_image}
-use Rattle.zq_history.specs.Reach.{after_step, after_steps, begun, worked}
+use Rattle.zq_model.proofs.NewRecords.{change_is_new}
+use Rattle.zq_model.proofs.Works.{worked_is}
+use Rattle.zq_model.specs.Books.{Book, Merged, Recorded, Step, are_steps_over, is_change_over, operation_of, steps_image}
+use Rattle.zq_model.specs.Reach.{after_step, after_steps, begun, worked}
 use Rattle.zq_model.proofs.Dots.{counter_positive, dots_below, has_from, has_parts, last_above}
 use Rattle.zq_model.proofs.JoinImages.{join-union}
 use Rattle.zq_model.proofs.Membership.{in_left, in_right, in_union}
@@ -18,7 +18,7 @@ use Rattle.zq_model.specs.Image.{Image, image_after, image_of, join}
 use Rattle.zq_model.specs.Operation.{Operation, has}
 use Rattle.zq_model.specs.Rule.{Rule}
 use Rattle.zq_model.specs.Sets.{HasDot, IsClosed, IsIn, IsNew, IsWorld, last, vector_of}
-use Rattle.zq_moves.proofs.Lists.{in_filter, in_filter_from}
+use Rattle.zq_model.proofs.Lists.{in_filter, in_filter_from}
 use Rattle.zq_notes.proofs.OneThread.{left_alone, own_same}
 use Rattle.zq_notes.proofs.Tails.{tail_begun, tail_merged, tail_recorded, tail_wider}
 use Rattle.zq_notes.specs.Gathered.{AreImagesOf, AreOf, AreOfIn, HasImageOf, HasTailOf, IsOf, covered_by, gathered_by, gathered_in}

@@ -22,7 +22,7 @@ use Rattle.zq_notes.specs.Gathered.{AreImagesOf, AreOfWorld, HasTailOf, gathered
 use Rattle.zq_notes.specs.Notes.{Books, Note}
 use Rattle.zq_notes.specs.Readings.{IsReadOff}
 use Rattle.zq_notes.specs.Thread.{IsNoteOver, IsOneThread, left_by, left_by_all}
-use Rattle.zq_runs.specs.Reading.{answer_of, answer_over, heaps_in, queues_over}
+use Rattle.zq_semantics.specs.Reading.{answer_of, answer_over, heaps_in, queues_over}
 use Rattle.zq_spread.specs.Calls.{heaps_of}
 use Rattle.zq_spread.specs.declared.site.Site.{Site}
 use Rattle.zq_words.specs.Command.{command_of}

@@ -2,7 +2,7 @@
 
 use Rattle.std.proofs.Common.{ap, arith, inl, inr, subst, sym, ◌∙◌}
 use Rattle.std.specs.Prelude.{Bool, List, None, Option, [], codes, false, if◌then◌else◌, is_some, take, true, ℕ, ℤ, ◌++◌, ◌<◌, ◌∷◌, ◌≡◌}
-use Rattle.zq_history.specs.Books.{Book}
+use Rattle.zq_model.specs.Books.{Book}
 use Rattle.zq_model.proofs.Listing.{in_map_from}
 use Rattle.zq_model.proofs.MeantQueues.{heap_in_range, queue_is}
 use Rattle.zq_model.proofs.Membership.{in_range_with_len, in_taken}
@@ -11,14 +11,14 @@ use Rattle.zq_model.specs.Meaning.{Scored}
 use Rattle.zq_model.specs.Operation.{Act, Drop, Operation, Put}
 use Rattle.zq_model.specs.Rule.{Rule}
 use Rattle.zq_model.specs.Sets.{IsIn, IsWorld}
-use Rattle.zq_moves.specs.Moves.{Move, Queues, score_in}
+use Rattle.zq_model.specs.Moves.{Move, Queues, score_in}
 use Rattle.zq_notes.proofs.SaidCommands.{is_near}
 use Rattle.zq_notes.specs.Does.{AreHeapsFor}
 use Rattle.zq_notes.specs.Readings.{IsRunOver, cut_off, in_full}
-use Rattle.zq_plans.proofs.Narrow.{same_heap}
-use Rattle.zq_plans.specs.Plan.{Part, Plan, counts, drops, lets, nothing, one, plan_of, raise, raising, reading, sum_of}
-use Rattle.zq_plans.specs.Replies.{Error, NullBulk, Reply, number_text}
-use Rattle.zq_runs.specs.Reading.{heaps_in, queues_over}
+use Rattle.zq_semantics.proofs.Narrow.{same_heap}
+use Rattle.zq_semantics.specs.Plan.{Part, Plan, counts, drops, lets, nothing, one, plan_of, raise, raising, reading, sum_of}
+use Rattle.zq_semantics.specs.Replies.{Error, NullBulk, Reply, number_text}
+use Rattle.zq_semantics.specs.Reading.{heaps_in, queues_over}
 use Rattle.zq_words.specs.Command.{Command, Del, Ping, Zadd, ZaddIncr, Zcard, Zcount, Zincrby, Zpopmin, Zpopnear, Zrange, Zrank, Zrem, Zrevrank, Zscore}
 use Rattle.zq_words.specs.Heaps.{heaps_of}
 use Rattle.zq_words.specs.Words.{Word, is_in_range}

@@ -4,8 +4,8 @@ use Rattle.std.proofs.Common.{ap, arith, inl, inr, sym, ◌∙◌}
 use Rattle.std.proofs.lemmas.Bool.{and_parts, cases_Bool, eq-eqb, eqb-true, true≢false}
 use Rattle.std.specs.List.{list_all}
 use Rattle.std.specs.Prelude.{List, [], map, refl, true, ℕ, ◌<◌, ◌==◌, ◌∷◌, ◌≡◌, ◌≤◌}
-use Rattle.zq_history.specs.Books.{Book, Merged, Recorded, Step, stamp_of}
-use Rattle.zq_history.specs.Reach.{after_step, after_steps, begun}
+use Rattle.zq_model.specs.Books.{Book, Merged, Recorded, Step, stamp_of}
+use Rattle.zq_model.specs.Reach.{after_step, after_steps, begun}
 use Rattle.zq_model.proofs.Membership.{in_or_not}
 use Rattle.zq_model.specs.Sets.{IsIn}
 use Rattle.zq_notes.proofs.FromCalls.{over_call, same_head, same_tail}
@@ -15,7 +15,7 @@ use Rattle.zq_notes.specs.Notes.{Books}
 use Rattle.zq_notes.specs.Order.{AllAfter, AreOrdered}
 use Rattle.zq_notes.specs.Thread.{AreOwnIn, left_by, left_in}
 use Rattle.zq_spread.specs.Calls.{greatest_stamp}
-use Rattle.zq_spread.specs.declared.kept.Kept.{Kept}
+use Rattle.zq_spread.specs.declared.locked_heap.LockedHeap.{LockedHeap}
 use Rattle.zq_spread.specs.declared.site.Site.{Site}
 
 -- ---- stamps of books
@@ -40,7 +40,7 @@ left_stamp stamp books (k ∷ heaps) (ss ∷ steps) h own here =
     ]
 
 -- and a lower one before it
-greatest_above : (books : Books) (heaps : List ℕ) (found : List Kept) (h : ℕ) → books_in found ≡ map books heaps → IsIn h heaps → (books h).stamp ≤ greatest_stamp found
+greatest_above : (books : Books) (heaps : List ℕ) (found : List LockedHeap) (h : ℕ) → books_in found ≡ map books heaps → IsIn h heaps → (books h).stamp ≤ greatest_stamp found
 greatest_above books [] found h is here = absurd here
 greatest_above books (k ∷ heaps) [] h is here = absurd (cc)
 greatest_above books (k ∷ heaps) (x ∷ found) h is (inl same) =

@@ -4,7 +4,7 @@ use Rattle.std.proofs.Common.{Ok, ap, arith, inl, subst, sym, ◌∙◌}
 use Rattle.std.proofs.lemmas.Bool.{eq-eqb}
 use Rattle.std.specs.Prelude.{List, [], map, refl, slice_index, true, ℕ, ◌&&◌, ◌++◌, ◌==◌, ◌∷◌, ◌≡◌, ◌≤◌}
 use Rattle.zq_dots.specs.Placed.{Placed}
-use Rattle.zq_history.specs.Books.{Book, Merged, Step}
+use Rattle.zq_model.specs.Books.{Book, Merged, Step}
 use Rattle.zq_journal.specs.Books.{steps_when}
 use Rattle.zq_model.proofs.Dots.{counter_positive, dots_below, has_parts, last_above}
 use Rattle.zq_model.proofs.Membership.{in_left}
@@ -16,14 +16,14 @@ use Rattle.zq_model.specs.Operation.{Operation, has}
 use Rattle.zq_model.specs.Queue.{queue_of}
 use Rattle.zq_model.specs.Rule.{Rule}
 use Rattle.zq_model.specs.Sets.{AreSame, Early, HasDot, IsClosed, IsIn, IsWorld, Known, New, Taken, last, taken_of, vector_of}
-use Rattle.zq_moves.proofs.Lists.{in_filter}
+use Rattle.zq_model.proofs.Lists.{in_filter}
 use Rattle.zq_notes.proofs.OfSites.{all_answers, all_world, does_as, gathered-append, gathered_on, images_by, in_later, notes_at-append, notes_here, off_as, stands_at, thread_at}
 use Rattle.zq_notes.proofs.ReadOff.{AreScoresMeant}
 use Rattle.zq_notes.specs.Gathered.{AreImagesOf, covered_by, gathered, gathered_by, gathered_in}
 use Rattle.zq_notes.specs.Linked.{HoldSame, IsLinked}
 use Rattle.zq_notes.specs.Notes.{Books, Handed, Joined, ToMerge, ToTake}
 use Rattle.zq_notes.specs.Sites.{AreEventsOf, Event, books_at, has_at, made_of, notes_at}
-use Rattle.zq_runs.specs.Reading.{heaps_in}
+use Rattle.zq_semantics.specs.Reading.{heaps_in}
 use Rattle.zq_shard.specs.Shard.{HeapImage}
 use Rattle.zq_shard.specs.Taken.{answer_of}
 use Rattle.zq_shard.specs.declared.taken.Taken as code

@@ -2,13 +2,13 @@
 
 use Rattle.std.proofs.Common.{Err, Ok, inl, inr, refl, subst, sym}
 use Rattle.std.specs.Prelude.{List, [], false, if◌then◌else◌, map, slice_index, slice_set, true, ℕ, ◌+◌, ◌==◌, ◌∷◌, ◌≡◌, ◌⊎◌}
-use Rattle.zq_history.specs.Books.{Made, Step}
+use Rattle.zq_model.specs.Books.{Made, Step}
 use Rattle.zq_journal.specs.Books.{step_of, steps_when}
 use Rattle.zq_model.specs.Heaps.{heap_of}
 use Rattle.zq_model.specs.Operation.{Operation, operation_over}
 use Rattle.zq_model.specs.Rule.{Rule}
 use Rattle.zq_model.specs.Sets.{Early, Known, New, Taken, taken_of, vector_of}
-use Rattle.zq_moves.specs.Moves.{Move}
+use Rattle.zq_model.specs.Moves.{Move}
 use Rattle.zq_notes.proofs.MadeWorlds.{AllMade, AllMadeIn}
 use Rattle.zq_notes.specs.Notes.{Answer, Asked, Copied, Handed, Joined, Replied, Shown, ToCopy, ToMerge, ToRun, ToShow, ToTake, ToTell, Told}
 use Rattle.zq_notes.specs.Readings.{IsAnswerOf, moved_in}

@@ -4,8 +4,8 @@ use Rattle.std.proofs.Common.{ap, arith, get_or-set_other, get_or-set_same, inl,
 use Rattle.std.proofs.lemmas.Bool.{and_parts, cases_eq}
 use Rattle.std.specs.Cmp.Lexicographic.{same_text}
 use Rattle.std.specs.Prelude.{List, [], refl, slice_index, slice_set, true, ℕ, ◌+◌, ◌++◌, ◌<◌, ◌∷◌, ◌≡◌, ◌≤◌, ◌⊎◌}
-use Rattle.zq_history.proofs.NewRecords.{change_is}
-use Rattle.zq_history.specs.Books.{Book, Change, Made, Merged, Recorded, Step, Took, are_steps_over, is_change_over, operation_of}
+use Rattle.zq_model.proofs.NewRecords.{change_is}
+use Rattle.zq_model.specs.Books.{Book, Change, Made, Merged, Recorded, Step, Took, are_steps_over, is_change_over, operation_of}
 use Rattle.zq_model.proofs.Membership.{in_left, in_right}
 use Rattle.zq_model.proofs.NewOperation.{last_elsewhere, last_here, world_after}
 use Rattle.zq_model.proofs.Worlds.{last_within}

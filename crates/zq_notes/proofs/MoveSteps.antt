@@ -3,12 +3,12 @@
 use Rattle.std.proofs.Common.{ap, arith, eq-eqb, inl, inr, refl, subst, sym, ◌∙◌}
 use Rattle.std.proofs.lemmas.Bool.{eqb-true}
 use Rattle.std.specs.Prelude.{List, [], false, if◌then◌else◌, length, map, slice_index, slice_set, true, ℕ, ◌+◌, ◌==◌, ◌∷◌, ◌≡◌, ◌≤◌, ◌⊎◌}
-use Rattle.zq_history.specs.Books.{Change, Made, Merged, Recorded, Step, Took, operation_of}
+use Rattle.zq_model.specs.Books.{Change, Made, Merged, Recorded, Step, Took, operation_of}
 use Rattle.zq_journal.specs.Books.{step_of}
 use Rattle.zq_model.proofs.Membership.{in_or_not}
 use Rattle.zq_model.specs.Operation.{Operation}
 use Rattle.zq_model.specs.Sets.{IsIn}
-use Rattle.zq_moves.specs.Moves.{Move}
+use Rattle.zq_model.specs.Moves.{Move}
 use Rattle.zq_notes.proofs.GatheredSets.{AreOnce}
 use Rattle.zq_notes.proofs.MadeWorlds.{AllMade, AllMadeIn, IsMadeBy, IsMadeIn, IsMadeInAll}
 use Rattle.zq_notes.proofs.RunMoves.{bumped, bumped_apart, bumped_here, operation_at, operations}
@@ -16,7 +16,7 @@ use Rattle.zq_notes.specs.Gathered.{gathered_by, gathered_in}
 use Rattle.zq_notes.specs.Readings.{moved_in}
 use Rattle.zq_notes.specs.Sites.{made_by}
 use Rattle.zq_notes.specs.Uncut.{steps_in}
-use Rattle.zq_runs.specs.State.{home_of}
+use Rattle.zq_semantics.specs.State.{home_of}
 
 module _ (K s stamp : ℕ) where
   -- the steps of moves in the heap h

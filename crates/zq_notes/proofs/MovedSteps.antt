@@ -4,12 +4,12 @@ use Rattle.std.proofs.Common.{ap, inl, inr, subst, sym, ◌∙◌}
 use Rattle.std.proofs.lemmas.Bool.{cases_Bool}
 use Rattle.std.proofs.lemmas.List.{append-nil, append_assoc, append_cancel_left}
 use Rattle.std.specs.Prelude.{List, [], false, if◌then◌else◌, map, refl, slice_index, slice_set, true, ℕ, ◌+◌, ◌++◌, ◌==◌, ◌∷◌, ◌≡◌}
-use Rattle.zq_history.specs.Books.{Book, Made, Record, Step, steps_of}
+use Rattle.zq_model.specs.Books.{Book, Made, Record, Step, steps_of}
 use Rattle.zq_journal.specs.Books.{step_of}
 use Rattle.zq_model.specs.Heaps.{heap_of}
 use Rattle.zq_model.specs.Operation.{operation_over}
-use Rattle.zq_moves.specs.Lent.{books_after, is_home, made, made_in}
-use Rattle.zq_moves.specs.Moves.{Move}
+use Rattle.zq_model.specs.Lent.{books_after, is_home, made, made_in}
+use Rattle.zq_model.specs.Moves.{Move}
 use Rattle.zq_notes.specs.Readings.{moved_in}
 use Rattle.zq_spread.specs.Commanded.{AreAppended}
 

@@ -5,8 +5,8 @@ use Rattle.std.proofs.lemmas.Option.{same_Some}
 use Rattle.std.specs.Prelude.{Err, IfOk, List, Ok, Result, [], map, refl, ℕ, ◌∷◌, ◌≡◌, ◌⊎◌}
 use Rattle.zq_dots.specs.Placed.{Placed}
 use Rattle.zq_dots.specs.Rule.{rule_of}
-use Rattle.zq_history.specs.Books.{Book, Step}
-use Rattle.zq_history.specs.Reach.{begun, worked as done_by}
+use Rattle.zq_model.specs.Books.{Book, Step}
+use Rattle.zq_model.specs.Reach.{begun, worked as done_by}
 use Rattle.zq_journal.specs.declared.faults.MergeFault.{MergeFault}
 use Rattle.zq_journal.specs.declared.faults.TakeFault.{TakeFault}
 use Rattle.zq_journal.specs.declared.since.Since.{Since}
@@ -22,7 +22,7 @@ use Rattle.zq_spread.specs.Dispatch.{DoesCommand, DoesNear, IsCalled, IsCalledIn
 use Rattle.zq_spread.specs.Drawn.{drawn}
 use Rattle.zq_spread.specs.declared.faults.ReadFault.{ReadFault}
 use Rattle.zq_spread.specs.declared.faults.ReadFault.TheVariants as unread
-use Rattle.zq_spread.specs.declared.kept.Kept.{Kept}
+use Rattle.zq_spread.specs.declared.locked_heap.LockedHeap.{LockedHeap}
 use Rattle.zq_spread.specs.declared.pass.Pass.{Pass}
 use Rattle.zq_spread.specs.declared.site.Site.{Site}
 use Rattle.zq_words.specs.Command.{Command}
@@ -77,8 +77,8 @@ module _ (site : Site) (p : ℕ) (before after : Pass) where
   -- ---- what a peer lacks
 
   -- the book that a call which makes no step leaves is the one with which it began
-  told_in : (vector : List ℕ) (heap : ℕ) (since : Since) (found left : List Kept) (steps : List (List Step)) → AreWorkedIn before after (heap ∷ []) found left steps →
-      IsAsked (Ok since) (map (λ (x : Kept). x.book) found) steps → HasSeenBook after heap (IsSince vector since) → IsTold after.stamp vector (Ok since) (map (λ (x : Kept). x.book) found) steps
+  told_in : (vector : List ℕ) (heap : ℕ) (since : Since) (found left : List LockedHeap) (steps : List (List Step)) → AreWorkedIn before after (heap ∷ []) found left steps →
+      IsAsked (Ok since) (map (λ (x : LockedHeap). x.book) found) steps → HasSeenBook after heap (IsSince vector since) → IsTold after.stamp vector (Ok since) (map (λ (x : LockedHeap). x.book) found) steps
   told_in vector heap since [] left steps worked asked saw = absurd worked
   told_in vector heap since (x ∷ found) [] steps worked asked saw = absurd worked
   told_in vector heap since (x ∷ found) (y ∷ left) [] worked asked saw = absurd worked
@@ -88,12 +88,12 @@ module _ (site : Site) (p : ℕ) (before after : Pass) where
       let none : ss ≡ [] = asked.1 in
       let same : y ≡ saw.0 = same_Some y saw.0 (sym worked.0.seen ∙ saw.1) in
       let begins : y.book ≡ begun after.stamp x.book = worked.0.worked.is ∙ ap (λ s. done_by after.stamp s x.book) none in
-      (subst (IsSince vector since) (ap (λ (k : Kept). k.book) (sym same) ∙ begins) saw.2, none)
+      (subst (IsSince vector since) (ap (λ (k : LockedHeap). k.book) (sym same) ∙ begins) saw.2, none)
 
   told_of : (vector : List ℕ) (heap : ℕ) (result : Result Since ReadFault) → (call : IsCall (IsAsked result) before after (heap ∷ [])) → IfOk result (λ since. HasSeenBook after heap (IsSince vector since)) →
-      IsTold after.stamp vector result (map (λ (x : Kept). x.book) call.found) call.steps
+      IsTold after.stamp vector result (map (λ (x : LockedHeap). x.book) call.found) call.steps
   told_of vector heap (Ok since) call saw = told_in vector heap since call.found call.left call.steps call.worked call.done saw
-  told_of vector heap (Err fault) call saw = unsaid (map (λ (x : Kept). x.book) call.found) call.steps call.done
+  told_of vector heap (Err fault) call saw = unsaid (map (λ (x : LockedHeap). x.book) call.found) call.steps call.done
     where
       unsaid_of : (fault : ReadFault) (b : Book) → read_of (λ (since : Since) (book : Book). Unit {0}) (Err fault) b → read_of (λ (since : Since) (book : Book). IsSince vector since (begun after.stamp book)) (Err fault) b
       unsaid_of unread.Worn b is = absurd is

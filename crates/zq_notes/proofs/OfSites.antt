@@ -4,7 +4,7 @@ use Rattle.std.proofs.Common.{ap, arith, inl, inr, subst, suc, sym, zero, ◌∙
 use Rattle.std.proofs.lemmas.Bool.{cases_eq, eq-eqb, ne_eqb}
 use Rattle.std.proofs.lemmas.List.{append-nil, append_assoc, length-append, map-append}
 use Rattle.std.specs.Prelude.{List, [], if◌then◌else◌, false, length, map, refl, true, ℕ, ◌+◌, ◌++◌, ◌==◌, ◌∷◌, ◌≡◌, ◌≤◌, ◌⊎◌}
-use Rattle.zq_history.specs.Books.{Change, Made, Merged, Recorded, Step, Took, operation_of}
+use Rattle.zq_model.specs.Books.{Change, Made, Merged, Recorded, Step, Took, operation_of}
 use Rattle.zq_model.proofs.Dots.{last_above, last_below}
 use Rattle.zq_model.proofs.Worlds.{last_within, vector_is, world_part}
 use Rattle.zq_model.specs.Image.{Image}

@@ -5,8 +5,8 @@ use Rattle.std.proofs.lemmas.Bool.{and_from, cases_lt, or_from}
 use Rattle.std.proofs.lemmas.List.{append_assoc, length-append}
 use Rattle.std.specs.Prelude.{Err, List, None, Ok, Some, [], false, if◌then◌else◌, length, map, pos, slice_get, take, true, ℕ, ◌+◌, ◌++◌, ◌<◌, ◌∷◌, ◌≡◌, ◌≤◌}
 use Rattle.zq_dots.specs.Placed.{Placed}
-use Rattle.zq_history.specs.Books as book
-use Rattle.zq_history.specs.Books.{Book, Step, Took}
+use Rattle.zq_model.specs.Books as book
+use Rattle.zq_model.specs.Books.{Book, Step, Took}
 use Rattle.zq_journal.specs.Books.{step_of, steps_when}
 use Rattle.zq_model.proofs.Membership.{in_left, in_right, in_union}
 use Rattle.zq_model.proofs.OfHeaps.{in_heap_too, of_heap}
@@ -18,8 +18,8 @@ use Rattle.zq_model.specs.Queue.{queue_of}
 use Rattle.zq_model.specs.Rule.{Rule}
 use Rattle.zq_model.specs.Sets as sets
 use Rattle.zq_model.specs.Sets.{AreSame, IsClosed, IsHeaps, IsIn, IsWorld, in_heap, taken_of, vector_of}
-use Rattle.zq_moves.specs.Lent.{queues_of}
-use Rattle.zq_moves.specs.Moves.{Move, Queues}
+use Rattle.zq_model.specs.Lent.{queues_of}
+use Rattle.zq_model.specs.Moves.{Move, Queues}
 use Rattle.zq_notes.proofs.Alike.{IsAlike, IsNext, after_none, after_one, closed_same, place_of, same_by, steps_of-append, take_front}
 use Rattle.zq_notes.proofs.GatheredSets.{AreOnce, covered_is, covered_parts, covers_it}
 use Rattle.zq_notes.proofs.HeldOnce.{once_of}
@@ -37,15 +37,15 @@ use Rattle.zq_notes.specs.Played.{IsAskedAs, IsNone, IsPlayed, IsPlayedAs, itsel
 use Rattle.zq_notes.specs.Readings.{IsAnswerOf, IsRunOver, moved_in}
 use Rattle.zq_notes.specs.Sites.{AreBroughtIn, AreEventsOf, Event, IsBrought, books_at, has_at, made_in_all, made_of, notes_at}
 use Rattle.zq_notes.specs.Uncut.{AreRunnable, IsInFull, IsRunnable, IsThere, IsUncut, steps_in, steps_of}
-use Rattle.zq_plans.specs.Plan.{Plan, is_there, plan_of}
-use Rattle.zq_plans.specs.Run.{LAST_COUNT}
+use Rattle.zq_semantics.specs.Plan.{Plan, is_there, plan_of}
+use Rattle.zq_semantics.specs.Run.{LAST_COUNT}
 use Rattle.zq_resp.specs.Request.{IsRequest}
-use Rattle.zq_runs.specs.Doing.{Done, done, drawn, is_ping, queues_for}
-use Rattle.zq_runs.specs.Events as runs
-use Rattle.zq_runs.specs.Events.{Do, Merge, Run, Take, after_take, after_taken, answer_taken, answer_to, answer_to_take, is_blocked, is_possible, judged, set_at, state_after}
-use Rattle.zq_runs.specs.Reading.{heaps_in, queues_over}
-use Rattle.zq_runs.specs.Runs.{IsEvent, after_event}
-use Rattle.zq_runs.specs.State.{State, after_moves, counted, is_full, is_worn, next_stamp, standing}
+use Rattle.zq_semantics.specs.Doing.{Done, done, drawn, is_ping, queues_for}
+use Rattle.zq_semantics.specs.Events as runs
+use Rattle.zq_semantics.specs.Events.{Do, Merge, Run, Take, after_take, after_taken, answer_taken, answer_to, answer_to_take, is_blocked, is_possible, judged, set_at, state_after}
+use Rattle.zq_semantics.specs.Reading.{heaps_in, queues_over}
+use Rattle.zq_semantics.specs.Runs.{IsEvent, after_event}
+use Rattle.zq_semantics.specs.State.{State, after_moves, counted, is_full, is_worn, next_stamp, standing}
 use Rattle.zq_shard.specs.Shard.{HeapImage}
 use Rattle.zq_shard.specs.Taken.{answer_of}
 use Rattle.zq_shard.specs.declared.taken.Taken as code

@@ -12,9 +12,9 @@ use Rattle.zq_notes.proofs.ReadOff.{AreScoresMeant}
 use Rattle.zq_notes.specs.Played.{ArePlayed, IsPlay, events_in}
 use Rattle.zq_notes.specs.Sites.{AreEventsOf, Event, has_at, made_of}
 use Rattle.zq_notes.specs.Uncut.{AreRunnable}
-use Rattle.zq_runs.specs.Events as runs
-use Rattle.zq_runs.specs.Events.{Run, is_possible}
-use Rattle.zq_runs.specs.Runs.{AreEvents, after_event, missing_from, run, run_on, start}
+use Rattle.zq_semantics.specs.Events as runs
+use Rattle.zq_semantics.specs.Events.{Run, is_possible}
+use Rattle.zq_semantics.specs.Runs.{AreEvents, after_event, missing_from, run, run_on, start}
 use Rattle.zq_spread.specs.declared.site.Site.{Site}
 
 -- the rest of the calls, in a run that stands as the sites do before them

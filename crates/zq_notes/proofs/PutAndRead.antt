@@ -3,7 +3,7 @@
 use Rattle.std.proofs.Common.{ap, arith, inl, sym, ◌∙◌}
 use Rattle.std.specs.Fmt.{digits}
 use Rattle.std.specs.Prelude.{List, None, Option, Some, [], codes, if◌then◌else◌, length, map, pos, refl, slice_index, ℕ, ℤ, ◌+◌, ◌++◌, ◌∷◌, ◌≡◌}
-use Rattle.zq_history.specs.Books.{Made, Step}
+use Rattle.zq_model.specs.Books.{Made, Step}
 use Rattle.zq_model.proofs.SetTests.{HasScore-from_test, IsWorld-from_test}
 use Rattle.zq_model.specs.Examples.{HEAPS, key_q, member_x, near, on_x}
 use Rattle.zq_model.specs.Heaps.{fnv1a64, heap_of}
@@ -11,8 +11,8 @@ use Rattle.zq_model.specs.Meaning.{IsScore}
 use Rattle.zq_model.specs.Operation.{Operation, Put}
 use Rattle.zq_model.specs.Rule.{Greatest}
 use Rattle.zq_model.specs.Sets.{IsWorld, LAST, SITES}
-use Rattle.zq_moves.specs.Lent.{books_after, queues_of}
-use Rattle.zq_moves.specs.Moves.{Move, score_in}
+use Rattle.zq_model.specs.Lent.{books_after, queues_of}
+use Rattle.zq_model.specs.Moves.{Move, score_in}
 use Rattle.zq_notes.proofs.Histories.{gathers, opens}
 use Rattle.zq_notes.proofs.MovedSteps.{moves_are}
 use Rattle.zq_notes.proofs.ReadOff.{AreScoresMeant, listed, ran_over}
@@ -22,10 +22,10 @@ use Rattle.zq_notes.specs.Notes.{Books}
 use Rattle.zq_notes.specs.Readings.{IsRunOver, cut_off, in_full, moved_in}
 use Rattle.zq_notes.specs.Sites.{empty_books}
 use Rattle.zq_notes.specs.Thread.{IsNoteOver, IsOneThread, left_by}
-use Rattle.zq_plans.specs.Examples.{no_flags}
-use Rattle.zq_plans.specs.Plan.{Part, Plan, counts, lets, nothing, one, plan_of, reading}
-use Rattle.zq_plans.specs.Replies.{bytes_of, count_reply, score_reply}
-use Rattle.zq_plans.specs.Run.{whole}
+use Rattle.zq_semantics.specs.Examples.{no_flags}
+use Rattle.zq_semantics.specs.Plan.{Part, Plan, counts, lets, nothing, one, plan_of, reading}
+use Rattle.zq_semantics.specs.Replies.{bytes_of, count_reply, score_reply}
+use Rattle.zq_semantics.specs.Run.{whole}
 use Rattle.zq_words.specs.Command.{Command, Zadd, Zscore}
 
 abbrev opening : Books

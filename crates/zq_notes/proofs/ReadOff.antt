@@ -4,8 +4,8 @@ use Rattle.std.proofs.Common.{None, Option, Some, [], ap, arith, inl, inr, subst
 use Rattle.std.proofs.lemmas.Option.{slice_get_within}
 use Rattle.std.specs.Prelude.{Bool, Err, List, Ok, Result, false, length, map, not, refl, slice_get, slice_index, take, true, ℕ, ℤ, ◌<◌, ◌∷◌, ◌↔◌, ◌≡◌, ◌≤◌}
 use Rattle.zq_dots.specs.Placed.{Placed}
-use Rattle.zq_history.specs.Books.{Book, Step, operations_of}
-use Rattle.zq_history.specs.Reach.{begun}
+use Rattle.zq_model.specs.Books.{Book, Step, operations_of}
+use Rattle.zq_model.specs.Reach.{begun}
 use Rattle.zq_journal.specs.Answers.{IfOps}
 use Rattle.zq_journal.specs.Books.{steps_when}
 use Rattle.zq_journal.specs.Records.{placed_at}
@@ -30,10 +30,10 @@ use Rattle.zq_model.specs.Queue.{queue_of}
 use Rattle.zq_model.specs.Rule.{Rule}
 use Rattle.zq_model.specs.Sets.{IsIn, IsWorld, covers, in_heap, taken_of, vector_of}
 use Rattle.zq_model.specs.Tail.{lacking}
-use Rattle.zq_moves.proofs.Lists.{in_filter, in_filter_from}
-use Rattle.zq_moves.specs.Lent as lent
-use Rattle.zq_moves.specs.Lent.{books_after, queues_of}
-use Rattle.zq_moves.specs.Moves.{Move, Queues, score_in}
+use Rattle.zq_model.proofs.Lists.{in_filter, in_filter_from}
+use Rattle.zq_model.specs.Lent as lent
+use Rattle.zq_model.specs.Lent.{books_after, queues_of}
+use Rattle.zq_model.specs.Moves.{Move, Queues, score_in}
 use Rattle.zq_notes.specs.Does.{AreHeapsFor, Does, IsTold}
 use Rattle.zq_notes.proofs.Tails.{in_tail_set, tail_begun}
 use Rattle.zq_notes.specs.Gathered.{AreImagesOf, HasTailOf}
@@ -41,13 +41,13 @@ use Rattle.zq_notes.specs.Notes.{Answer, Asked, Books, Copied, Handed, Joined, R
 use Rattle.zq_notes.proofs.HomeMoves.{at_home}
 use Rattle.zq_notes.proofs.MovedSteps.{moves_are}
 use Rattle.zq_notes.specs.Readings.{AreLacked, IsAnswerOf, IsCutAt, IsOrShort, IsRunOf, IsRunOff, IsRunOver, cut_off, in_full, is_list, moved_in, over_all, over_drawn}
-use Rattle.zq_runs.proofs.FewMembers.{few_members}
-use Rattle.zq_plans.proofs.Lifted.{cut_same, not_popping, takes_same}
-use Rattle.zq_plans.proofs.Narrow.{plans_same}
-use Rattle.zq_plans.specs.Plan.{Plan, plan_of}
-use Rattle.zq_plans.specs.Replies.{bytes_of}
-use Rattle.zq_plans.specs.Run.{ForCopies, ForMoves, ForReply, IsReadShort, IsRun, IsWhy, IsWhyOf, MayLack, Memory, Number, Takes, Want, cut_error, cut_pop, part, popped_of, takes_of, whole}
-use Rattle.zq_runs.specs.Reading.{heaps_in, is_reading, queues_over}
+use Rattle.zq_semantics.proofs.FewMembers.{few_members}
+use Rattle.zq_semantics.proofs.Lifted.{cut_same, not_popping, takes_same}
+use Rattle.zq_semantics.proofs.Narrow.{plans_same}
+use Rattle.zq_semantics.specs.Plan.{Plan, plan_of}
+use Rattle.zq_semantics.specs.Replies.{bytes_of}
+use Rattle.zq_semantics.specs.Run.{ForCopies, ForMoves, ForReply, IsReadShort, IsRun, IsWhy, IsWhyOf, MayLack, Memory, Number, Takes, Want, cut_error, cut_pop, part, popped_of, takes_of, whole}
+use Rattle.zq_semantics.specs.Reading.{heaps_in, is_reading, queues_over}
 use Rattle.zq_shard.specs.Shard.{HeapImage}
 use Rattle.zq_shard.specs.declared.taken.Taken.{Taken}
 use Rattle.zq_spread.specs.Answers.{IsCopied, IsMerged, IsShown, IsSince, IsTaken}

@@ -12,13 +12,13 @@ use Rattle.zq_model.specs.Image.{Image}
 use Rattle.zq_model.specs.Operation.{Operation, operation_over}
 use Rattle.zq_model.specs.Rule.{Rule}
 use Rattle.zq_model.specs.Sets.{IsClosed, IsHeaps, IsIn, IsMade, IsNew, IsWorld, vector_of}
-use Rattle.zq_moves.specs.Moves.{Move, Queues}
-use Rattle.zq_plans.specs.Plan.{Plan, plan_of}
-use Rattle.zq_plans.specs.Replies.{Reply, bytes_of}
-use Rattle.zq_plans.specs.Run.{LAST_COUNT, Number, cut_error, cut_reply}
-use Rattle.zq_runs.proofs.Kept.{at_each}
-use Rattle.zq_runs.specs.Doing.{Done, done_by, done_command, done_to, is_ping, unchanged}
-use Rattle.zq_runs.specs.State.{State, after_move, after_moves, greatest, home_of, is_full, is_spent, is_worn, next_stamp, operation_by, standing, with_at, with_number}
+use Rattle.zq_model.specs.Moves.{Move, Queues}
+use Rattle.zq_semantics.specs.Plan.{Plan, plan_of}
+use Rattle.zq_semantics.specs.Replies.{Reply, bytes_of}
+use Rattle.zq_semantics.specs.Run.{LAST_COUNT, Number, cut_error, cut_reply}
+use Rattle.zq_semantics.proofs.Kept.{at_each}
+use Rattle.zq_semantics.specs.Doing.{Done, done_by, done_command, done_to, is_ping, unchanged}
+use Rattle.zq_semantics.specs.State.{State, after_move, after_moves, greatest, home_of, is_full, is_spent, is_worn, next_stamp, operation_by, standing, with_at, with_number}
 use Rattle.zq_words.specs.Command.{Command}
 
 -- ---- numbers below the last

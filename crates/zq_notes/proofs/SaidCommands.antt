@@ -5,13 +5,13 @@ use Rattle.std.proofs.lemmas.List.{length-take-le, take_all}
 use Rattle.std.specs.Prelude.{All, List, Ok, [], codes, false, if◌then◌else◌, length, pos, take, true, ℕ, ◌∷◌, ◌≡◌, ◌≤◌}
 use Rattle.zq_model.specs.Operation.{LONGEST, Operation}
 use Rattle.zq_model.specs.Rule.{Rule}
-use Rattle.zq_moves.specs.Moves.{Move, Queue, Queues}
+use Rattle.zq_model.specs.Moves.{Move, Queue, Queues}
 use Rattle.zq_notes.specs.Readings.{IsCutAt, IsRunOver, cut_off, in_full}
-use Rattle.zq_plans.specs.Plan.{is_there, plan_of}
-use Rattle.zq_plans.specs.Run.{ForCopies, ForMoves, ForReply, Memory, Number, Takes, Want, takes_of}
+use Rattle.zq_semantics.specs.Plan.{is_there, plan_of}
+use Rattle.zq_semantics.specs.Run.{ForCopies, ForMoves, ForReply, Memory, Number, Takes, Want, takes_of}
 use Rattle.zq_resp.specs.Request.{IsRequest, IsWord}
-use Rattle.zq_runs.specs.Doing.{drawn, is_ping, queues_for}
-use Rattle.zq_runs.specs.Reading.{heaps_in, queues_over}
+use Rattle.zq_semantics.specs.Doing.{drawn, is_ping, queues_for}
+use Rattle.zq_semantics.specs.Reading.{heaps_in, queues_over}
 use Rattle.zq_words.proofs.CommandLimits.{within_limits}
 use Rattle.zq_words.specs.Command.{Command, Del, Ping, Zadd, ZaddIncr, Zcard, Zcount, Zincrby, Zpopmin, Zpopnear, Zrange, Zrank, Zrem, Zrevrank, Zscore, command_of}
 use Rattle.zq_words.specs.Heaps.{heaps_of}

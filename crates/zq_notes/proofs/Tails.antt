@@ -3,8 +3,8 @@
 use Rattle.std.proofs.Common.{ap, arith, inl, inr, refl, subst, sym, take-append-drop, ◌∙◌}
 use Rattle.std.proofs.lemmas.List.{map-append}
 use Rattle.std.specs.Prelude.{List, [], drop, take, ℕ, ◌++◌, ◌∷◌, ◌≡◌, ◌⊎◌}
-use Rattle.zq_history.specs.Books.{Book, Change, Record, merged, operation_of, operations_of, recorded, steps_image, steps_of}
-use Rattle.zq_history.specs.Reach.{begun, cut_of}
+use Rattle.zq_model.specs.Books.{Book, Change, Record, merged, operation_of, operations_of, recorded, steps_image, steps_of}
+use Rattle.zq_model.specs.Reach.{begun, cut_of}
 use Rattle.zq_model.proofs.Membership.{in_left, in_right, in_union}
 use Rattle.zq_model.proofs.TailSets.{tail_closed, tail_replayed}
 use Rattle.zq_model.proofs.Worlds.{last_same, world_part}

@@ -2,14 +2,14 @@
 
 use Rattle.std.specs.Prelude.{List, [], map, ℕ, ◌++◌, ◌∷◌, ◌≡◌, ◌≤◌, ◌⊎◌}
 use Rattle.zq_dots.specs.Rule.{rule_of}
-use Rattle.zq_history.specs.Books.{Book}
+use Rattle.zq_model.specs.Books.{Book}
 use Rattle.zq_notes.specs.Does.{Does}
 use Rattle.zq_notes.specs.Notes.{Answer, Asked, Books, Note}
 use Rattle.zq_notes.specs.Thread.{left_by_all}
 use Rattle.zq_spread.specs.Calls.{IsCall, heaps_of}
 use Rattle.zq_spread.specs.Dispatch.{DoesCommand, HasFoundNone, IsTurnedAway, IsWornOut, all_heaps}
 use Rattle.zq_spread.specs.Drawn.{drawn}
-use Rattle.zq_spread.specs.declared.kept.Kept.{Kept}
+use Rattle.zq_spread.specs.declared.locked_heap.LockedHeap.{LockedHeap}
 use Rattle.zq_spread.specs.declared.pass.Pass.{Pass}
 use Rattle.zq_spread.specs.declared.site.Site.{Site}
 use Rattle.zq_words.specs.Command.{Command}
@@ -48,8 +48,8 @@ pub record Call : Type 0 where
   pub after : Pass
   pub note : Note
 
-abbrev pub books_in : List Kept → List Book
-books_in found = map (λ (x : Kept). x.book) found
+abbrev pub books_in : List LockedHeap → List Book
+books_in found = map (λ (x : LockedHeap). x.book) found
 
 abbrev pub notes_of : List Call → List Note
 notes_of calls = map (λ c. c.note) calls

@@ -3,8 +3,8 @@
 use Rattle.std.specs.List.{range_with_len}
 use Rattle.std.specs.Prelude.{List, Result, [], ℕ, ◌∷◌, ◌≡◌, ◌⊎◌}
 use Rattle.zq_dots.specs.Placed.{Placed}
-use Rattle.zq_history.specs.Books.{Book, Step}
-use Rattle.zq_history.specs.Reach.{begun}
+use Rattle.zq_model.specs.Books.{Book, Step}
+use Rattle.zq_model.specs.Reach.{begun}
 use Rattle.zq_journal.specs.declared.since.Since.{Since}
 use Rattle.zq_model.specs.Heaps.{heap_of}
 use Rattle.zq_model.specs.Rule.{Rule}

@@ -2,14 +2,14 @@
 
 use Rattle.std.specs.Prelude.{List, Ok, [], codes, pos, ℕ, ◌∷◌}
 use Rattle.zq_dots.specs.Placed.{Placed}
-use Rattle.zq_history.specs.Books.{Made, Merged, Step, Took}
+use Rattle.zq_model.specs.Books.{Made, Merged, Step, Took}
 use Rattle.zq_journal.specs.Books.{step_of}
 use Rattle.zq_model.specs.Examples.{HEAPS, key_q, member_x, near, on_x, vector_with}
 use Rattle.zq_model.specs.Image.{empty_image}
 use Rattle.zq_model.specs.Operation.{Operation, Put}
 use Rattle.zq_model.specs.Rule.{Rule}
 use Rattle.zq_notes.specs.Notes.{Answer, Asked, Handed, Joined, Note, Replied, Shown, ToMerge, ToRun, ToShow, ToTake}
-use Rattle.zq_plans.specs.Examples.{no_flags}
+use Rattle.zq_semantics.specs.Examples.{no_flags}
 use Rattle.zq_shard.specs.declared.taken.Taken.TheVariants.{Known, New}
 use Rattle.zq_words.specs.Command.{Zadd, Zscore}
 use Rattle.zq_words.specs.Words.{Word}

@@ -1,7 +1,7 @@
 -- The operations that a site gathers: what it makes and takes, and what merged images cover.
 
 use Rattle.std.specs.Prelude.{List, [], filter, ℕ, ◌&&◌, ◌++◌, ◌==◌, ◌∷◌, ◌≡◌}
-use Rattle.zq_history.specs.Books.{Book, Merged, Recorded, Step, operation_of, operations_of}
+use Rattle.zq_model.specs.Books.{Book, Merged, Recorded, Step, operation_of, operations_of}
 use Rattle.zq_model.specs.Image.{Image, image_of}
 use Rattle.zq_model.specs.Operation.{Operation, has}
 use Rattle.zq_model.specs.Rule.{Rule}

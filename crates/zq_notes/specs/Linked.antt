@@ -5,13 +5,13 @@ use Rattle.zq_dots.specs.Placed.{Placed}
 use Rattle.zq_model.specs.Operation.{Operation, has}
 use Rattle.zq_model.specs.Rule.{Rule}
 use Rattle.zq_model.specs.Sets.{AreSame, Early, IsIn, IsWorld}
-use Rattle.zq_moves.specs.Lent.{queues_of}
+use Rattle.zq_model.specs.Lent.{queues_of}
 use Rattle.zq_notes.specs.Gathered.{AreImagesOf}
 use Rattle.zq_notes.specs.Notes.{Books, Handed, Joined, ToMerge, ToTake}
 use Rattle.zq_notes.specs.Readings.{IsReadOff}
 use Rattle.zq_notes.specs.Sites.{Event, books_at, empty_books, has_at, made_of, notes_at}
 use Rattle.zq_notes.specs.Thread.{IsOneThread}
-use Rattle.zq_runs.specs.Reading.{heaps_in}
+use Rattle.zq_semantics.specs.Reading.{heaps_in}
 use Rattle.zq_shard.specs.Shard.{HeapImage}
 use Rattle.zq_shard.specs.Taken.{answer_of}
 use Rattle.zq_shard.specs.declared.taken.Taken.{Taken}

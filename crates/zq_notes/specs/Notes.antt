@@ -2,7 +2,7 @@
 
 use Rattle.std.specs.Prelude.{List, Result, ℕ}
 use Rattle.zq_dots.specs.Placed.{Placed}
-use Rattle.zq_history.specs.Books.{Book, Step}
+use Rattle.zq_model.specs.Books.{Book, Step}
 use Rattle.zq_journal.specs.declared.faults.MergeFault.{MergeFault}
 use Rattle.zq_journal.specs.declared.faults.TakeFault.{TakeFault}
 use Rattle.zq_journal.specs.declared.since.Since.{Since}

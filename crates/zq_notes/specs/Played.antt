@@ -7,12 +7,12 @@ use Rattle.zq_model.specs.Rule.{Rule}
 use Rattle.zq_model.specs.Sets.{AreSame}
 use Rattle.zq_notes.specs.Notes.{Answer, Asked, Handed, Joined, Replied, ToCopy, ToMerge, ToRun, ToShow, ToTake, ToTell}
 use Rattle.zq_notes.specs.Sites.{Event, has_at, made_of}
-use Rattle.zq_plans.specs.Plan.{is_there}
-use Rattle.zq_runs.specs.Doing.{drawn}
-use Rattle.zq_runs.specs.Events as runs
-use Rattle.zq_runs.specs.Events.{Do, Merge, Run, Take, answer_to, set_at}
-use Rattle.zq_runs.specs.Reading.{heaps_in, queues_over}
-use Rattle.zq_runs.specs.Runs.{IsPlayable, after_event, run, start}
+use Rattle.zq_semantics.specs.Plan.{is_there}
+use Rattle.zq_semantics.specs.Doing.{drawn}
+use Rattle.zq_semantics.specs.Events as runs
+use Rattle.zq_semantics.specs.Events.{Do, Merge, Run, Take, answer_to, set_at}
+use Rattle.zq_semantics.specs.Reading.{heaps_in, queues_over}
+use Rattle.zq_semantics.specs.Runs.{IsPlayable, after_event, run, start}
 use Rattle.zq_shard.specs.Taken.{answer_of}
 use Rattle.zq_words.specs.Command.{Command, Zpopmin, Zpopnear, command_of}
 use Rattle.zq_words.specs.Words.{Word}

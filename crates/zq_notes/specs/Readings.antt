@@ -2,8 +2,8 @@
 
 use Rattle.std.specs.Prelude.{Bool, Err, List, Ok, Result, [], false, if◌then◌else◌, length, map, slice_index, slice_set, take, true, ℕ, ◌+◌, ◌<◌, ◌==◌, ◌∷◌, ◌≡◌, ◌≤◌, ◌⊎◌}
 use Rattle.zq_dots.specs.Placed.{Placed}
-use Rattle.zq_history.specs.Books as book
-use Rattle.zq_history.specs.Books.{Made, Step}
+use Rattle.zq_model.specs.Books as book
+use Rattle.zq_model.specs.Books.{Made, Step}
 use Rattle.zq_journal.specs.Answers.{IfOps}
 use Rattle.zq_journal.specs.Books.{step_of, steps_when}
 use Rattle.zq_journal.specs.Records.{placed_at}
@@ -18,13 +18,13 @@ use Rattle.zq_model.specs.Operation.{Operation, operation_over}
 use Rattle.zq_model.specs.Rule.{Rule}
 use Rattle.zq_model.specs.Sets.{AreSame, IsIn, New, in_heap, taken_of, vector_of}
 use Rattle.zq_model.specs.Tail.{lacking}
-use Rattle.zq_moves.specs.Moves.{Move, Queues}
+use Rattle.zq_model.specs.Moves.{Move, Queues}
 use Rattle.zq_notes.specs.Notes.{Answer, Asked, Copied, Handed, Joined, Note, Replied, Shown, ToCopy, ToMerge, ToRun, ToShow, ToTake, ToTell, Told}
-use Rattle.zq_plans.specs.Plan.{is_there, plan_of}
-use Rattle.zq_plans.specs.Ranges.{ranged, turned_if}
-use Rattle.zq_plans.specs.Replies.{bytes_of}
-use Rattle.zq_plans.specs.Run.{ForReply, IsReadShort, Memory, Number, Takes, Want, cut_error, cut_reply, takes_of}
-use Rattle.zq_runs.specs.Reading.{heaps_in, queues_over}
+use Rattle.zq_semantics.specs.Plan.{is_there, plan_of}
+use Rattle.zq_semantics.specs.Ranges.{ranged, turned_if}
+use Rattle.zq_semantics.specs.Replies.{bytes_of}
+use Rattle.zq_semantics.specs.Run.{ForReply, IsReadShort, Memory, Number, Takes, Want, cut_error, cut_reply, takes_of}
+use Rattle.zq_semantics.specs.Reading.{heaps_in, queues_over}
 use Rattle.zq_shard.specs.Shard.{HeapImage}
 use Rattle.zq_shard.specs.Taken.{answer_of}
 use Rattle.zq_shard.specs.declared.taken.Taken.{Taken}

@@ -2,7 +2,7 @@
 
 use Rattle.std.specs.Prelude.{List, [], if◌then◌else◌, ℕ, ◌++◌, ◌==◌, ◌∷◌, ◌≡◌}
 use Rattle.zq_dots.specs.Rule.{rule_of}
-use Rattle.zq_history.specs.Books.{Change, Made, Merged, Recorded, Step, Took}
+use Rattle.zq_model.specs.Books.{Change, Made, Merged, Recorded, Step, Took}
 use Rattle.zq_journal.specs.Books.{opened}
 use Rattle.zq_model.specs.Image.{empty_image}
 use Rattle.zq_model.specs.Operation.{Operation}

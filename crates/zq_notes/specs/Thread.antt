@@ -2,8 +2,8 @@
 
 use Rattle.std.specs.List.{list_all}
 use Rattle.std.specs.Prelude.{List, [], if◌then◌else◌, map, true, ℕ, ◌++◌, ◌==◌, ◌∷◌, ◌≡◌}
-use Rattle.zq_history.specs.Books.{Book, Step, are_steps_over, stamp_of}
-use Rattle.zq_history.specs.Reach.{worked}
+use Rattle.zq_model.specs.Books.{Book, Step, are_steps_over, stamp_of}
+use Rattle.zq_model.specs.Reach.{worked}
 use Rattle.zq_model.specs.Rule.{Rule}
 use Rattle.zq_notes.specs.Does.{Does}
 use Rattle.zq_notes.specs.Notes.{Books, Note}

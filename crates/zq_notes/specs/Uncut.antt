@@ -1,16 +1,16 @@
 -- Events that the run of a world can have: no call was cut, and what it was asked is there.
 
 use Rattle.std.specs.Prelude.{Err, List, Ok, [], length, map, ℕ, ◌+◌, ◌++◌, ◌<◌, ◌∷◌, ◌≡◌, ◌≤◌}
-use Rattle.zq_history.specs.Books.{Book, Step}
+use Rattle.zq_model.specs.Books.{Book, Step}
 use Rattle.zq_model.specs.Rule.{Rule}
 use Rattle.zq_model.specs.Sets.{IsIn, SITES}
-use Rattle.zq_moves.specs.Lent.{queues_of}
-use Rattle.zq_moves.specs.Moves.{Queues}
+use Rattle.zq_model.specs.Lent.{queues_of}
+use Rattle.zq_model.specs.Moves.{Queues}
 use Rattle.zq_notes.specs.Notes.{Answer, Asked, Handed, Joined, Replied, ToMerge, ToRun, ToTake}
 use Rattle.zq_notes.specs.Sites.{Event, books_at, made_of}
-use Rattle.zq_plans.specs.Plan.{plan_of}
-use Rattle.zq_plans.specs.Replies.{bytes_of}
-use Rattle.zq_plans.specs.Run.{LAST_COUNT}
+use Rattle.zq_semantics.specs.Plan.{plan_of}
+use Rattle.zq_semantics.specs.Replies.{bytes_of}
+use Rattle.zq_semantics.specs.Run.{LAST_COUNT}
 use Rattle.zq_resp.specs.Request.{IsRequest}
 use Rattle.zq_words.specs.Command.{Command, command_of}
 use Rattle.zq_words.specs.Words.{Word}

@@ -7,7 +7,7 @@ ghost use Rattle.zq_notes.specs.Examples.{added, four, knew, merged, put, scored
 ghost use Rattle.zq_notes.specs.Sites.{empty_books};
 ghost use Rattle.zq_notes.specs.Thread.{IsOneThread};
 
-use zq_moves::naming;
+use zq_model::naming;
 
 /// A site takes an operation, shows that it has it, and knows it when it comes again. It does not take it twice, and does not show it before it was taken.
 pub fn a_repeat_changes_nothing()

@@ -5,10 +5,10 @@ ghost use Rattle.zq_model.specs.Rule.{Rule as Rules};
 ghost use Rattle.zq_notes.specs.Played.{IsPlay};
 ghost use Rattle.zq_notes.specs.Sites.{AreEventsOf, Event};
 ghost use Rattle.zq_notes.specs.Uncut.{AreRunnable};
-ghost use Rattle.zq_runs.specs.Events.{Event as RunEvent};
+ghost use Rattle.zq_semantics.specs.Events.{Event as RunEvent};
 ghost use Rattle.zq_spread.specs.declared.site.Site.{Site as Sites};
 
-use zq_moves::naming;
+use zq_model::naming;
 
 /// The calls of running sites, as [`crate::linking`] has them, are the run of a world, where none
 /// was cut: each command did all that it plans, and nothing was refused. For each call there is the

@@ -8,21 +8,21 @@ ghost use Rattle.zq_model.specs.Meaning.{IsQueue, IsWholeQueue};
 ghost use Rattle.zq_model.specs.Operation.{Operation};
 ghost use Rattle.zq_model.specs.Rule.{Rule as Rules};
 ghost use Rattle.zq_model.specs.Sets.{AreSame, IsIn, IsWorld};
-ghost use Rattle.zq_moves.specs.Moves.{Move};
+ghost use Rattle.zq_model.specs.Moves.{Move};
 ghost use Rattle.zq_notes.specs.Calls.{AreCallsFrom, Call, notes_of};
 ghost use Rattle.zq_notes.specs.Gathered.{AreImagesOf, AreOfWorld, gathered};
 ghost use Rattle.zq_notes.specs.Notes.{Books, Note};
 ghost use Rattle.zq_notes.specs.Readings.{IsOrShort, IsReadOff, IsRunOf, is_list};
 ghost use Rattle.zq_notes.specs.Thread.{IsOneThread, left_by_all};
-ghost use Rattle.zq_plans.specs.Plan.{plan_of};
-ghost use Rattle.zq_plans.specs.Replies.{bytes_of};
-ghost use Rattle.zq_runs.specs.Reading.{answer_of, heaps_in, is_reading, queues_over};
+ghost use Rattle.zq_semantics.specs.Plan.{plan_of};
+ghost use Rattle.zq_semantics.specs.Replies.{bytes_of};
+ghost use Rattle.zq_semantics.specs.Reading.{answer_of, heaps_in, is_reading, queues_over};
 ghost use Rattle.zq_spread.specs.Calls.{heaps_of};
 ghost use Rattle.zq_spread.specs.declared.site.Site.{Site as Sites};
 ghost use Rattle.zq_words.specs.Command.{Command};
 ghost use Rattle.zq_words.specs.Words.{Word};
 
-use zq_moves::naming;
+use zq_model::naming;
 
 /// Where what the calls make, take and merge is of one world, each heap is the image of the operations gathered, which are a closed
 /// set of that world. A new site's heaps are the images of none.

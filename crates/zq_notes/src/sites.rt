@@ -6,7 +6,7 @@ ghost use Rattle.zq_notes.specs.Linked.{IsLinked};
 ghost use Rattle.zq_notes.specs.Sites.{AreEventsOf, Event};
 ghost use Rattle.zq_spread.specs.declared.site.Site.{Site as Sites};
 
-use zq_moves::naming;
+use zq_model::naming;
 
 /// Sites that were new, of one number of heaps and one rule, are called by threads of theirs. Their calls are given in one order, in which each found in its heaps
 /// what the site's calls before it left there, took what was made before, and merged what a site had before. Then all that they made is one world, and each

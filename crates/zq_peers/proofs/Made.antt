@@ -3,7 +3,7 @@ use Rattle.std.proofs.Common.{ap, arith, refl, ◌∙◌}
 use Rattle.std.specs.Prelude.{List, [], ℕ, ◌∷◌, ◌≡◌, ◌≤◌}
 use Rattle.zq_dots.specs.Rule.{rule_of}
 use Rattle.zq_dots.specs.declared.rule.Rule.{Rule}
-use Rattle.zq_history.specs.Books.{Book}
+use Rattle.zq_model.specs.Books.{Book}
 use Rattle.zq_shard.proofs.SameRules.{same_rule}
 use Rattle.zq_spread.specs.Makers.{AreEmptyBooks, IsMade}
 use Rattle.zq_spread.specs.declared.pass.Pass.{Pass}

@@ -4,8 +4,8 @@ use Rattle.std.proofs.Math.ListN.{get_or}
 use Rattle.std.proofs.lemmas.Grind.{flat_map-append}
 use Rattle.std.proofs.lemmas.List.{map-append, take_more}
 use Rattle.std.specs.Prelude.{Bool, List, [], flat_map, length, true, ℕ, ◌&&◌, ◌++◌, ◌∷◌, ◌≡◌}
-use Rattle.zq_frames.specs.Frame.{Frame, frame_of}
-use Rattle.zq_frames.specs.declared.frame.Frame as code
+use Rattle.zq_links.specs.Frame.{Frame, frame_of}
+use Rattle.zq_links.specs.declared.frame.Frame as code
 use Rattle.zq_node.specs.Hearing.{sent_to}
 use Rattle.zq_peers.proofs.Carried.{both_assoc, both_true}
 use Rattle.zq_peers.specs.Carried.{AreSent, Carriage, IsSent}

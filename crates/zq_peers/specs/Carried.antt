@@ -3,8 +3,8 @@
 use Rattle.std.specs.Prelude.{Bool, Err, IfOk, List, Ok, Result, Vec, [], false, true, ℕ, ◌&&◌, ◌∷◌, ◌≡◌}
 use Rattle.std.specs.declared.alloc.AllocError.{AllocError}
 use Rattle.std.specs.declared.alloc.Global.{Global}
-use Rattle.zq_frames.specs.Frame.{Frame}
-use Rattle.zq_frames.specs.Spelling.{frame_spelling, newest}
+use Rattle.zq_links.specs.Frame.{Frame}
+use Rattle.zq_links.specs.Spelling.{frame_spelling, newest}
 
 -- how a carrier carries: the state before, the site, the frame's bytes, whether they were carried, and the state after
 abbrev pub Carriage : Type 0 → Type 1

@@ -1,11 +1,11 @@
 -- What a link thread does with what comes.
 
 use Rattle.std.specs.Prelude.{Bool, Err, List, Ok, Result, [], flat_map, ℕ, ◌∷◌, ◌≡◌}
-use Rattle.zq_frames.specs.Answer.{Fails, IsOfMemory}
-use Rattle.zq_frames.specs.Frame.{Frame, frame_of}
-use Rattle.zq_frames.specs.Reading.{frame_at}
-use Rattle.zq_frames.specs.Spelling.{IsSpelled}
-use Rattle.zq_frames.specs.declared.frame.Frame as code
+use Rattle.zq_links.specs.Answer.{Fails, IsOfMemory}
+use Rattle.zq_links.specs.Frame.{Frame, frame_of}
+use Rattle.zq_links.specs.Reading.{frame_at}
+use Rattle.zq_links.specs.Spelling.{IsSpelled}
+use Rattle.zq_links.specs.declared.frame.Frame as code
 use Rattle.zq_node.specs.Calls.{MadeNoStep}
 use Rattle.zq_node.specs.Faults.{IsOwnFault}
 use Rattle.zq_node.specs.Hearing.{AreHaves, HasHeard, HasStopped, IsFaultOf, sent_to}

@@ -1,6 +1,6 @@
 //! What a link thread does with what comes.
 ghost use Rattle.std.specs.Prelude.{◌≡◌, All, Bool, List, map, ℕ};
-ghost use Rattle.zq_frames.specs.Frame.{IsWritable, frame_of};
+ghost use Rattle.zq_links.specs.Frame.{IsWritable, frame_of};
 ghost use Rattle.zq_node.specs.Hearing.{sent_of, sent_to};
 ghost use Rattle.zq_node.specs.Node.{IsNode, IsSameHome};
 ghost use Rattle.zq_peers.specs.Carried.{AreSent, IsPassedOn, IsSent};
@@ -11,7 +11,7 @@ use crate::unheard::Unheard;
 use std::alloc::{AllocError, Global};
 use std::sync::Wait;
 use zq_dots::SiteNo;
-use zq_frames::{Frame, read_frame, write_frame};
+use zq_links::{Frame, read_frame, write_frame};
 use zq_node::{Node, NodeFault};
 use zq_posheap::Seeded;
 
@@ -91,7 +91,7 @@ pub fn tell<R: Wait, C: Carry>(
 }
 
 /// Has the node hear the frame that the bytes are, and sends what comes of it, to the sites that the node names. It says
-/// whether there was memory for all of that: a frame for which there was none is lost. A state that is heard lies by the
+/// whether there was memory for all of that: a frame for which there was none is lost. A state that is heard uses this
 /// hasher.
 ///
 /// `Unread` where the bytes are no frame, or there was no memory to read them, as [`read_frame`] says: then nothing

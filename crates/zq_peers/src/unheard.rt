@@ -1,6 +1,6 @@
 //! Why bytes were not heard.
 
-use zq_frames::FrameFault;
+use zq_links::FrameFault;
 use zq_node::NodeFault;
 
 /// Why the bytes that came to a site were not heard.

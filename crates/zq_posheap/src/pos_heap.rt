@@ -87,6 +87,14 @@ impl<V: Drop> PosHeap<V> {
         Some(self.at(place))
     }
 
+    /// The score of a member.
+    pub fn score(&self, member: &[u8]) -> Option<i128>
+        ensures { result ≡ option_map (λ e. e.0) (get self.now.held member.now) }
+    {
+        let (score, _) = self.get(member)?;
+        Some(score)
+    }
+
     /// The first score and its member: the head of `in_order`, at hand with no sort.
     pub fn top(&self) -> Option<(i128, &[u8])>
         ensures none { IsNone result ↔ (self.now.held ≡ empty) }

@@ -5,21 +5,21 @@ use Rattle.std.proofs.Crossing.{crosses}
 use Rattle.zq_peers.proofs.Crossing.{mailbox_sync}
 use Rattle.zq_serve.specs.contracts.inboxes.Inboxes as Inboxes
 use Rattle.zq_serve.specs.contracts.linker.Linker as Linker
-use Rattle.zq_serve.specs.contracts.station.Station as Station
+use Rattle.zq_serve.specs.contracts.site_server.SiteServer as SiteServer
 use Rattle.zq_serve.specs.contracts.worker.Worker as Worker
 use Rattle.zq_spread.proofs.Crossing.{pass_field_send, site_field_send, site_field_sync}
 
-station_send : IsSend Station.the_row
-station_send = search (site_field_send, sendable, crosses) depth 30
+server_send : IsSend SiteServer.the_row
+server_send = search (site_field_send, sendable, crosses) depth 30
 
-station_sync : IsSync Station.the_row
-station_sync = search (site_field_sync, sendable, crosses) depth 30
+server_sync : IsSync SiteServer.the_row
+server_sync = search (site_field_sync, sendable, crosses) depth 30
 
 pub worker_send : IsSend Worker.the_row
-worker_send = search (station_send, station_sync, pass_field_send, sendable, crosses) depth 30
+worker_send = search (server_send, server_sync, pass_field_send, sendable, crosses) depth 30
 
 pub linker_send : IsSend Linker.the_row
-linker_send = search (station_send, station_sync, pass_field_send, sendable, crosses) depth 30
+linker_send = search (server_send, server_sync, pass_field_send, sendable, crosses) depth 30
 
 pub inboxes_send : (κ : NamedLft) → IsSend (Inboxes.the_row κ)
 inboxes_send κ = search (mailbox_sync, sendable, crosses) depth 30 fits 50000

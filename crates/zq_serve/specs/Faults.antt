@@ -3,10 +3,10 @@
 use Rattle.std.specs.Prelude.{Err, None, Ok, Option, Result, Some}
 use Rattle.zq_serve.specs.declared.warning.Fault.{Fault}
 use Rattle.zq_serve.specs.declared.warning.Fault.TheVariants.{Device, Protocol}
-use Rattle.zq_server.specs.declared.outcome.End.{End}
-use Rattle.zq_server.specs.declared.outcome.End.TheVariants as end
-use Rattle.zq_server.specs.declared.outcome.SessionFault.{SessionFault}
-use Rattle.zq_server.specs.declared.outcome.SessionFault.TheVariants.{NoMemory, Read, Write}
+use Rattle.zq_session.specs.declared.outcome.End.{End}
+use Rattle.zq_session.specs.declared.outcome.End.TheVariants as end
+use Rattle.zq_session.specs.declared.outcome.SessionFault.{SessionFault}
+use Rattle.zq_session.specs.declared.outcome.SessionFault.TheVariants.{NoMemory, Read, Write}
 
 abbrev pub fault_of : Result End SessionFault → Option Fault
 fault_of (Ok end.Clean) = None

@@ -1,3 +1,3 @@
-pub mod Turns
+pub mod ConnectionsLeft
 pub mod Faults
 pub mod Talks

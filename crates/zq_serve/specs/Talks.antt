@@ -1,9 +1,9 @@
 -- Connections that were served, one after the other.
 
 use Rattle.std.specs.Prelude.{List, Result, [], ℕ, ◌∷◌, ◌≡◌}
-use Rattle.zq_server.specs.Session.{Relation, Serves}
-use Rattle.zq_server.specs.declared.outcome.End.{End}
-use Rattle.zq_server.specs.declared.outcome.SessionFault.{SessionFault}
+use Rattle.zq_session.specs.Session.{Relation, Serves}
+use Rattle.zq_session.specs.declared.outcome.End.{End}
+use Rattle.zq_session.specs.declared.outcome.SessionFault.{SessionFault}
 
 -- a connection: the bytes that were read, those that were written, and how it ended
 pub record Talk : Type 0 where

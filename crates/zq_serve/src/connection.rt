@@ -2,20 +2,20 @@
 
 ghost use Rattle.std.specs.Io.KnownBytes.{Appends, Consumes};
 ghost use Rattle.std.specs.Prelude.{List, Result, ℕ};
-ghost use Rattle.zq_server.specs.Session.{Serves};
-ghost use Rattle.zq_server.specs.declared.outcome.End.{End};
-ghost use Rattle.zq_server.specs.declared.outcome.SessionFault.{SessionFault};
+ghost use Rattle.zq_session.specs.Session.{Serves};
+ghost use Rattle.zq_session.specs.declared.outcome.End.{End};
+ghost use Rattle.zq_session.specs.declared.outcome.SessionFault.{SessionFault};
 
 use crate::warning::{Fault, Warning, fault_of};
 use log::{Log, warn};
 use std::alloc::Global;
 use std::io::{Read, Write};
 use zq_dots::SiteNo;
-use zq_server::{Answers, session};
+use zq_session::{Answers, session};
 
 /// Serves one connection to its end. Whatever ends it ends it alone: a fault of the protocol or of the device is warned
 /// of, and want of memory is not.
-pub fn converse<A: Answers, R: Read, W: Write, L: Log>(
+pub fn serve_connection<A: Answers, R: Read, W: Write, L: Log>(
     log: &L,
     alloc: Global,
     site: SiteNo,

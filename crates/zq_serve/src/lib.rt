@@ -5,22 +5,24 @@
 
 mod announcing;
 mod connection;
+mod connections_left;
 mod fault;
 mod inboxes;
 mod linker;
 mod opening;
 mod running;
 mod serving;
-mod station;
+mod site_server;
 mod ticking;
-mod turns;
 mod warning;
 mod worker;
 
 pub use fault::ServeFault;
 pub use inboxes::Inboxes;
 pub use linker::Linker;
-pub use opening::{Crew, Plan, address_of, draw_hasher, listen, most_waiting, open_site};
+pub use opening::{
+    SiteOptions, SiteThreads, address_of, draw_hasher, listen, most_waiting, open_site,
+};
 pub use running::run_workers;
 pub use serving::serve;
 pub use worker::Worker;

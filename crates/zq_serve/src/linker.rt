@@ -1,10 +1,10 @@
 //! What links a site to the others.
 
 ghost use Rattle.std.specs.Arc.{arc_value};
-ghost use Rattle.zq_server.specs.PassFacts.{pass_fact};
+ghost use Rattle.zq_session.specs.PassFacts.{pass_fact};
 ghost use Rattle.zq_spread.specs.Passes.{IsPassOf};
 
-use crate::station::Station;
+use crate::site_server::SiteServer;
 use std::alloc::Global;
 use std::sync::{Arc, Wait};
 use zq_dots::SiteNo;
@@ -13,18 +13,18 @@ use zq_peers::{Carry, Link, Mailbox, Witness};
 use zq_posheap::Seeded;
 use zq_spread::Pass;
 
-/// The link thread of a station's site, with one of its passes, and the other sites.
+/// The link thread of a served site, with one of its passes, and the other sites.
 #[derive(Drop)]
 pub struct Linker {
-    pub(crate) station: Arc<Station>,
+    pub(crate) server: Arc<SiteServer>,
     pub(crate) pass: Pass,
     pub(crate) others: Vec<SiteNo>,
-    pub(crate) ghost own: { IsPassOf (arc_value station).site pass } by { pass_fact (arc_value station).site pass },
+    pub(crate) ghost own: { IsPassOf (arc_value server).site pass } by { pass_fact (arc_value server).site pass },
 }
 
 impl Linker {
     /// Hears what comes to its site's mailbox, and tells the other sites what this one has, until Stop comes. What it sends
-    /// goes to the carrier; of frames that it drops the witness is told. A state that is heard lies by the hasher.
+    /// goes to the carrier; of frames that it drops the witness is told. A state that is heard uses this hasher.
     pub fn run<R: Wait, C: Carry, T: Witness>(
         self,
         rt: &R,
@@ -35,19 +35,12 @@ impl Linker {
         witness: &mut T,
     ) {
         let Linker {
-            station,
+            server,
             pass,
             others,
         } = self;
-        let station: &Station = &station;
-        let mut node = Node::new(
-            alloc,
-            &station.site,
-            station.number,
-            station.heaps,
-            station.rule,
-            pass,
-        );
+        let server: &SiteServer = &server;
+        let mut node = Node::new(alloc, &server.site, pass);
         let link = Link {
             inbox,
             others,

@@ -4,10 +4,10 @@ ghost use Rattle.std.specs.Arc.{arc_value};
 ghost use Rattle.std.specs.Prelude.{All, IfOk, ◌*◌, ◌<◌, ◌≡◌, ◌≤◌};
 ghost use Rattle.zq_spread.specs.Passes.{IsPassOf};
 
+use crate::connections_left::ConnectionsLeft;
 use crate::fault::ServeFault;
 use crate::linker::Linker;
-use crate::station::Station;
-use crate::turns::Turns;
+use crate::site_server::SiteServer;
 use crate::worker::Worker;
 use std::alloc::{AllocError, Global};
 use std::net::{IpAddr, Ipv4Addr, Net, SocketAddr, TcpListener, TcpStream};
@@ -48,7 +48,7 @@ pub fn listen<R: Net<Listener = TcpListener, Stream = TcpStream>>(
 
 /// How a site is served.
 #[derive(Clone, Copy, Debug)]
-pub struct Plan {
+pub struct SiteOptions {
     /// Its number.
     pub number: SiteNo,
     /// Its number of heaps.
@@ -63,31 +63,31 @@ pub struct Plan {
 
 /// What works for sites: workers, and a linker for each site that is not alone.
 #[derive(Drop)]
-pub struct Crew {
+pub struct SiteThreads {
     /// A worker for each connection that is served at once.
     pub workers: Vec<Worker>,
     /// The linkers.
     pub linkers: Vec<Linker>,
 }
 
-impl Crew {
+impl SiteThreads {
     /// Nobody. It takes no memory.
-    pub fn new(alloc: Global) -> Crew {
-        Crew {
+    pub fn new(alloc: Global) -> SiteThreads {
+        SiteThreads {
             workers: Vec::new(alloc),
             linkers: Vec::new(alloc),
         }
     }
 }
 
-/// Makes a site and its station, which listens on this address, with passes for its workers and one more for its linker.
-fn open_station<R: Net<Listener = TcpListener, Stream = TcpStream>>(
+/// Makes a site and its server, which listens on this address, with passes for its workers and one more for its linker.
+fn open_server<R: Net<Listener = TcpListener, Stream = TcpStream>>(
     net: &R,
     alloc: Global,
-    plan: &Plan,
+    plan: &SiteOptions,
     address: SocketAddr,
     hasher: Seeded,
-) -> Result<(Arc<Station>, Vec<Pass>), ServeFault>
+) -> Result<(Arc<SiteServer>, Vec<Pass>), ServeFault>
     ensures { IfOk result (λ made. All (IsPassOf (arc_value made.0).site) made.1.items) }
 {
     let listener = listen(net, address)?;
@@ -101,53 +101,53 @@ fn open_station<R: Net<Listener = TcpListener, Stream = TcpStream>>(
         Err(SiteFault::NoMemory) => return Err(ServeFault::NoMemory),
         Err(SiteFault::Bounds) => unreachable!(),
     };
-    let station = Station {
+    let server = SiteServer {
         number,
         heaps,
         rule,
         site,
         listener,
-        turns: Mutex::new(Turns::new(plan.connections)),
+        turns: Mutex::new(ConnectionsLeft::new(plan.connections)),
     };
-    let station = Arc::new(alloc, station).map_err(AllocError::from)?;
-    Ok((station, passes))
+    let server = Arc::new(alloc, server).map_err(AllocError::from)?;
+    Ok((server, passes))
 }
 
 /// Appends a linker with the last of the passes where the site has others beside it, and a worker for each of the other
 /// passes.
-fn hire(
-    station: &Arc<Station>,
+fn add_threads(
+    server: &Arc<SiteServer>,
     passes: Vec<Pass>,
     others: Vec<SiteNo>,
-    crew: &mut Crew,
+    crew: &mut SiteThreads,
 ) -> Result<(), ServeFault>
-    requires { All (IsPassOf (arc_value station.now).site) passes.items }
+    requires { All (IsPassOf (arc_value server.now).site) passes.items }
 {
     let mut passes = passes;
     if let Some(pass) = passes.pop()
         && !others.is_empty()
     {
         let linker = Linker {
-            station: Arc::try_clone(station)?,
+            server: Arc::try_clone(server)?,
             pass,
             others,
         };
         crew.linkers.push(linker).map_err(AllocError::from)?;
     }
-    hire_workers(station, passes, &mut crew.workers)
+    add_workers(server, passes, &mut crew.workers)
 }
 
 /// Appends a worker for each of the passes.
-fn hire_workers(
-    station: &Arc<Station>,
+fn add_workers(
+    server: &Arc<SiteServer>,
     passes: Vec<Pass>,
     workers: &mut Vec<Worker>,
 ) -> Result<(), ServeFault>
-    requires { All (IsPassOf (arc_value station.now).site) passes.items }
+    requires { All (IsPassOf (arc_value server.now).site) passes.items }
 {
     for pass in passes {
         let worker = Worker {
-            station: Arc::try_clone(station)?,
+            server: Arc::try_clone(server)?,
             pass,
         };
         workers.push(worker).map_err(AllocError::from)?;
@@ -172,8 +172,8 @@ pub fn open_all<R: Net<Listener = TcpListener, Stream = TcpStream>>(
     alloc: Global,
     settings: &Settings,
     hasher: Seeded,
-) -> Result<Crew, ServeFault> {
-    let mut crew = Crew::new(alloc);
+) -> Result<SiteThreads, ServeFault> {
+    let mut crew = SiteThreads::new(alloc);
     let ports = settings.ports.as_slice();
     let sites = ports.len() as u8;
     let mut rest = ports;
@@ -195,10 +195,10 @@ pub fn open_all<R: Net<Listener = TcpListener, Stream = TcpStream>>(
 }
 
 /// How the site of a place among the ports is served.
-fn plan_of(settings: &Settings, place: u8) -> Plan
+fn plan_of(settings: &Settings, place: u8) -> SiteOptions
     requires { place < 64 }
 {
-    Plan {
+    SiteOptions {
         number: site_at(place),
         heaps: settings.heaps,
         rule: settings.rule,
@@ -211,11 +211,11 @@ fn plan_of(settings: &Settings, place: u8) -> Plan
 fn open_one<R: Net<Listener = TcpListener, Stream = TcpStream>>(
     net: &R,
     alloc: Global,
-    plan: &Plan,
+    plan: &SiteOptions,
     port: Port,
     sites: u8,
     hasher: Seeded,
-    crew: &mut Crew,
+    crew: &mut SiteThreads,
 ) -> Result<(), ServeFault>
     requires { sites ≤ 64 }
 {
@@ -224,21 +224,21 @@ fn open_one<R: Net<Listener = TcpListener, Stream = TcpStream>>(
     open_site(net, alloc, plan, address, others, hasher, crew)
 }
 
-/// Makes a site that has done nothing, whose members lie by the hasher, listens on the address for its clients, and appends
-/// what works for it: its workers and, where it has others beside it, its linker.
+/// Makes a site that has done nothing, whose members use the hasher, listens on the address for its clients, and
+/// appends what works for it: its workers and, where it has others beside it, its linker.
 ///
 /// `Device` where the address could not be listened on, and `NoMemory`: then some may have been appended.
 pub fn open_site<R: Net<Listener = TcpListener, Stream = TcpStream>>(
     net: &R,
     alloc: Global,
-    plan: &Plan,
+    plan: &SiteOptions,
     address: SocketAddr,
     others: Vec<SiteNo>,
     hasher: Seeded,
-    crew: &mut Crew,
+    crew: &mut SiteThreads,
 ) -> Result<(), ServeFault> {
-    let (station, passes) = open_station(net, alloc, plan, address, hasher)?;
-    hire(&station, passes, others, crew)
+    let (server, passes) = open_server(net, alloc, plan, address, hasher)?;
+    add_threads(&server, passes, others, crew)
 }
 
 /// How many messages wait in a site's mailbox at most: four rounds of what so many other sites have, at most 63.

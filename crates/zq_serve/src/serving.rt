@@ -4,9 +4,9 @@ use crate::announcing::announce;
 use crate::fault::ServeFault;
 use crate::inboxes::Inboxes;
 use crate::linker::Linker;
-use crate::opening::{Crew, draw_hasher, open_all, open_mailboxes};
+use crate::opening::{SiteThreads, draw_hasher, open_all, open_mailboxes};
 use crate::running::run_workers;
-use crate::station::Station;
+use crate::site_server::SiteServer;
 use log::Log;
 use std::alloc::Global;
 use std::io::Write;
@@ -56,12 +56,12 @@ where
 fn run_all<L: Log + Threads + Wait + Sync>(
     log: &L,
     alloc: Global,
-    crew: Crew,
+    crew: SiteThreads,
     mailboxes: &[Mailbox],
     hasher: Seeded,
     seed: u64,
 ) -> Result<(), ServeFault> {
-    let Crew { workers, linkers } = crew;
+    let SiteThreads { workers, linkers } = crew;
     thread::scope(
         thread::scope_env(),
         log,
@@ -97,6 +97,6 @@ fn link_one<R: Wait>(rt: &R, alloc: Global, linker: Linker, mailboxes: &[Mailbox
 
 /// The number of a linker's site.
 fn site_of(linker: &Linker) -> SiteNo {
-    let station: &Station = &linker.station;
-    station.number
+    let server: &SiteServer = &linker.server;
+    server.number
 }

@@ -4,7 +4,7 @@ use std::alloc::Global;
 use std::sync::Wait;
 use zq_peers::Mailbox;
 use zq_resp::{Reply, Request};
-use zq_server::Answers;
+use zq_session::Answers;
 
 /// Answers as the answerer inside, and sends a Tick to its site's link thread after each answer.
 #[derive(Drop)]

@@ -5,7 +5,7 @@ ghost use Rattle.zq_serve.specs.Faults.{fault_of as fault_in};
 
 use std::fmt;
 use zq_dots::SiteNo;
-use zq_server::{End, SessionFault};
+use zq_session::{End, SessionFault};
 
 /// What ended a connection that is worth a warning.
 #[derive(Clone, Copy, Debug, PartialEq, Eq)]

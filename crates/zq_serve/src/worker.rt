@@ -1,24 +1,24 @@
 //! What serves a site's connections, one at a time.
 
 ghost use Rattle.std.specs.Arc.{arc_value};
-ghost use Rattle.zq_server.specs.PassFacts.{pass_fact};
+ghost use Rattle.zq_session.specs.PassFacts.{pass_fact};
 ghost use Rattle.zq_spread.specs.Passes.{IsPassOf};
 
 use crate::inboxes::Inboxes;
-use crate::station::Station;
+use crate::site_server::SiteServer;
 use crate::ticking::Ticking;
 use log::Log;
 use std::alloc::Global;
 use std::sync::{Arc, Mutex, Wait};
-use zq_server::Passing;
+use zq_session::Passing;
 use zq_spread::{Draws, Pass};
 
-/// A worker of a station, with one of its site's passes.
+/// A worker of a site's server, with one of its site's passes.
 #[derive(Drop)]
 pub struct Worker {
-    pub(crate) station: Arc<Station>,
+    pub(crate) server: Arc<SiteServer>,
     pub(crate) pass: Pass,
-    pub(crate) ghost own: { IsPassOf (arc_value station).site pass } by { pass_fact (arc_value station).site pass },
+    pub(crate) ghost own: { IsPassOf (arc_value server).site pass } by { pass_fact (arc_value server).site pass },
 }
 
 impl Worker {
@@ -35,11 +35,11 @@ impl Worker {
         if !*gate.lock(log) {
             return;
         }
-        let Worker { station, pass } = self;
-        let station: &Station = &station;
-        let passing = Passing::new(log, &station.site, pass, Draws::new(seed));
-        let mailbox = inboxes.of(station.number);
+        let Worker { server, pass } = self;
+        let server: &SiteServer = &server;
+        let passing = Passing::new(log, &server.site, pass, Draws::new(seed));
+        let mailbox = inboxes.of(server.number);
         let mut ticking = Ticking::new(log, passing, mailbox);
-        station.attend(log, alloc, &mut ticking);
+        server.attend(log, alloc, &mut ticking);
     }
 }

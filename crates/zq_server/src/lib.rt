@@ -1,22 +1,12 @@
-//! Sessions of a server that speaks the protocol of Redis.
+//! The server: sessions, the settings of sites, serving them, and the drill, each from the library where it stands.
+//!
+//! A program that serves needs no other library of the queue. What these functions promise, and the definitions that
+//! their contracts cite, are those of the libraries below: `zq_session`, `zq_settings`, `zq_serve`, `zq_site` and
+//! `zq_drill`.
 #![tactic(auto)]
 
-mod ends;
-mod gathering;
-mod histories;
-mod meanings;
-mod outcome;
-mod passing;
-mod plain;
-mod serving;
-mod stream;
-mod transfer;
-
-pub use ends::Ends;
-pub use histories::passing_meaning;
-pub use meanings::meaning;
-pub use outcome::{End, SessionFault, status};
-pub use passing::Passing;
-pub use plain::Plain;
-pub use serving::Answers;
-pub use stream::{converse, session};
+pub use zq_drill::{DrillFault, drill};
+pub use zq_serve::{ServeFault, serve};
+pub use zq_session::{Answers, End, Passing, Plain, SessionFault, session, status};
+pub use zq_settings::{Settings, SettingsFault, SiteSettings, Why, settings, site_settings};
+pub use zq_site::serve_site;

@@ -86,9 +86,9 @@ impl Shard {
         alloc: Global,
         heap: u8,
         heaps: u8,
-        rule: Rule,
         vector: &Vector,
         rows: &[Row],
+        rule: Rule,
         hasher: Seeded,
     ) -> Result<Shard, AllocError>
         requires heaps { IsHeaps heaps }

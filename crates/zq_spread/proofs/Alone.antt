@@ -7,12 +7,12 @@ use Rattle.std.specs.List.{list_any}
 use Rattle.std.specs.Prelude.{if◌then◌else◌, slice_get}
 use Rattle.zq_commands.specs.Lending.{IsDated, IsLending, lent_after}
 use Rattle.zq_commands.specs.VecBooks.{lending_of}
-use Rattle.zq_history.specs.Books.{Book}
+use Rattle.zq_model.specs.Books.{Book}
 use Rattle.zq_model.specs.Bounded.{IsBounded}
 use Rattle.zq_model.specs.Sets.{IsIn}
-use Rattle.zq_moves.specs.Lent.{is_home, made_in}
-use Rattle.zq_moves.specs.Moves.{Move}
-use Rattle.zq_plans.specs.Run.{LAST_COUNT, is_worn}
+use Rattle.zq_model.specs.Lent.{is_home, made_in}
+use Rattle.zq_model.specs.Moves.{Move}
+use Rattle.zq_semantics.specs.Run.{LAST_COUNT, is_worn}
 
 -- the one book at a place
 pub only_at : (place : ℕ) (x y : Book) → slice_get (x ∷ []) place ≡ Some y → x ≡ y

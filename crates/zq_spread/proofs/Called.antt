@@ -10,7 +10,7 @@ use Rattle.zq_commands.specs.Commands.{HasBooks}
 use Rattle.zq_commands.specs.SiteBooks.{AreOfSite}
 use Rattle.zq_commands.specs.VecBooks.{lending_of, rule_in}
 use Rattle.zq_dots.specs.Rule.{rule_of}
-use Rattle.zq_history.specs.Books.{Book, Step}
+use Rattle.zq_model.specs.Books.{Book, Step}
 use Rattle.zq_model.proofs.Maps.{in_map}
 use Rattle.zq_model.proofs.Membership.{in_or_not, in_range_with_len}
 use Rattle.zq_model.specs.Bounded.{IsBounded}
@@ -18,9 +18,9 @@ use Rattle.zq_model.specs.Queue.{queue_of}
 use Rattle.zq_model.specs.Rule.{Rule}
 use Rattle.zq_model.specs.Meaning.{Scored}
 use Rattle.zq_model.specs.Sets.{IsIn}
-use Rattle.zq_moves.proofs.Counted.{in_merged, queue_merged}
-use Rattle.zq_moves.specs.Lent.{queues_of}
-use Rattle.zq_moves.specs.Moves.{Queue}
+use Rattle.zq_model.proofs.Counted.{in_merged, queue_merged}
+use Rattle.zq_model.specs.Lent.{queues_of}
+use Rattle.zq_model.specs.Moves.{Queue}
 use Rattle.zq_posheap.proofs.Lists.{there_is}
 use Rattle.zq_spread.proofs.ManyHeaps.{seen_same, steps_same, turns_same}
 use Rattle.zq_spread.proofs.Refused.{passed_on}
@@ -28,14 +28,14 @@ use Rattle.zq_spread.proofs.Seats.{seen_later}
 use Rattle.zq_spread.proofs.LeftAsGiven.{left_through, none_held, worked_after}
 use Rattle.zq_spread.specs.Calls.{AreWorkedIn, greatest_stamp, heaps_of}
 use Rattle.zq_spread.specs.Dispatch.{HasFoundNone, HasHeldEach, HasPassedOver, HasQueued, IsCommand, IsNear, IsWornOut, all_heaps}
-use Rattle.zq_spread.specs.Kept.{Follows, follows_further}
+use Rattle.zq_spread.specs.LockedHeaps.{Follows, follows_further}
 use Rattle.zq_spread.specs.Passes.{IsCountOf, IsPassOf, IsRoomAt, IsSeatOf, IsSeenLater, IsStopped, seen_at, seen_in}
 use Rattle.zq_spread.specs.Several.{AreBack, AreBegunAt, AreBooksAt, AreHeapsOf, HasMemberIn, IsBookAt}
 use Rattle.zq_spread.specs.Turns.{IsLeftAsGiven, turns_at, turns_in}
 use Rattle.zq_spread.specs.Worn.{HasFoundBusy, HasFoundLast, IsBusyIn, IsPassedOver}
-use Rattle.zq_spread.specs.declared.kept.Kept.{Kept}
+use Rattle.zq_spread.specs.declared.locked_heap.LockedHeap.{LockedHeap}
 use Rattle.zq_spread.specs.declared.pass.Pass.{Pass}
-use Rattle.zq_spread.specs.declared.room.Room.{Room}
+use Rattle.zq_spread.specs.declared.heap_slot.HeapSlot.{HeapSlot}
 use Rattle.zq_spread.specs.declared.site.Site.{Site}
 use Rattle.zq_ticketlock.specs.Steps.{FollowsSeen}
 use Rattle.zq_ticketlock.specs.Views.{idle_view, seen_by}
@@ -126,12 +126,12 @@ pub pass_back : (site : Site) (heaps : List ℕ) (p q : Pass) → IsPassOf site 
 pass_back site heaps p q is back = record {
   seats = back.seats.number;
   counts = ap (λ l. length l.items) back.outside.counts ∙ is.counts;
-  rooms = is.rooms;
-  seat = λ h room at. elim (in_or_not h heaps) [
-    | inl here ↦ back.seats.seat h room here at
-    | inr out ↦ subst (IsSeatOf room) (sym (back.outside.seats h out)) (is.seat h room at)
+  slots = is.slots;
+  seat = λ h slot at. elim (in_or_not h heaps) [
+    | inl here ↦ back.seats.seat h slot here at
+    | inr out ↦ subst (IsSeatOf slot) (sym (back.outside.seats h out)) (is.seat h slot at)
   ];
-  count = λ h room at. subst (λ l. IsCountOf room (slice_get l.items h)) (sym back.outside.counts) (is.count h room at);
+  count = λ h slot at. subst (λ l. IsCountOf slot (slice_get l.items h)) (sym back.outside.counts) (is.count h slot at);
   stamp = let same = back.outside.stamp in let low = is.stamp in omega (arith, same, low);
 }
 
@@ -151,7 +151,7 @@ stopped_back site heaps p q back = record {
 
 -- ---- a call after a call that was stopped
 
-view_seen : (v : View Kept) (b : Bool) → (idle_view v && b) ≡ true → IsSome (seen_by v)
+view_seen : (v : View LockedHeap) (b : Bool) → (idle_view v && b) ≡ true → IsSome (seen_by v)
 view_seen (Vacant n out) b is = absurd (cc)
 view_seen (Idle low reached x turns) b is = refl
 view_seen (Met low x y turns) b is = absurd (cc)
@@ -160,12 +160,12 @@ view_seen (Holding n x turns) b is = absurd (cc)
 view_seen Spent b is = absurd (cc)
 
 -- a seat that is there has seen a value
-seat_seen : (room : Room) (o : Option (Option (Seat Kept))) → IsSeatOf room o → IsSome (seen_in o)
-seat_seen room (Some (Some seat)) is = view_seen seat.place.me.0 _ seat.idle
-seat_seen room (Some None) is = absurd is
-seat_seen room None is = absurd is
+seat_seen : (slot : HeapSlot) (o : Option (Option (Seat LockedHeap))) → IsSeatOf slot o → IsSome (seen_in o)
+seat_seen slot (Some (Some seat)) is = view_seen seat.place.me.0 _ seat.idle
+seat_seen slot (Some None) is = absurd is
+seat_seen slot None is = absurd is
 
-later_seen : (x : Kept) (o before : Option Kept) → IsSome o → FollowsSeen Follows x o → IsSeenLater o before → FollowsSeen Follows x before
+later_seen : (x : LockedHeap) (o before : Option LockedHeap) → IsSome o → FollowsSeen Follows x o → IsSeenLater o before → FollowsSeen Follows x before
 later_seen x (Some y) (Some z) some follows later = follows_further x y z follows later
 later_seen x (Some y) None some follows later = tt
 later_seen x None before some follows later = absurd (cc)
@@ -178,7 +178,7 @@ seat_past site p q k at_p at_q high =
     slice_get_past q.seats.items k (omega (arith, high, one)) ∙ sym (slice_get_past p.seats.items k (omega (arith, high, other)))
 
 module _ (site : Site) (p q : Pass) (at_p : IsPassOf site p) (at_q : IsPassOf site q) (stopped : IsStopped p q) where
-  worked_before : (r : Pass) (heaps : List ℕ) (found left : List Kept) (steps : List (List Step)) → ((k : ℕ) → IsIn k heaps → k < heaps_of site) → AreWorkedIn q r heaps found left steps →
+  worked_before : (r : Pass) (heaps : List ℕ) (found left : List LockedHeap) (steps : List (List Step)) → ((k : ℕ) → IsIn k heaps → k < heaps_of site) → AreWorkedIn q r heaps found left steps →
       AreWorkedIn p r heaps found left steps
   worked_before r [] [] [] [] inside are = tt
   worked_before r [] (x ∷ found) left steps inside are = absurd are
@@ -188,9 +188,9 @@ module _ (site : Site) (p q : Pass) (at_p : IsPassOf site p) (at_q : IsPassOf si
   worked_before r (h ∷ heaps) (x ∷ found) [] steps inside are = absurd are
   worked_before r (h ∷ heaps) (x ∷ found) (y ∷ left) [] inside are = absurd are
   worked_before r (h ∷ heaps) (x ∷ found) (y ∷ left) (ss ∷ steps) inside are =
-      let room = there_is site.rooms.items h (inside h (inl refl)) in (
+      let slot = there_is site.slots.items h (inside h (inl refl)) in (
         record {
-          follows = later_seen x (seen_at q h) (seen_at p h) (seat_seen room.0 (slice_get q.seats.items h) (at_q.seat h room.0 room.1)) are.0.follows (stopped.seen h);
+          follows = later_seen x (seen_at q h) (seen_at p h) (seat_seen slot.0 (slice_get q.seats.items h) (at_q.seat h slot.0 slot.1)) are.0.follows (stopped.seen h);
           worked = are.0.worked;
           seen = are.0.seen;
           own = let same = stopped.steps h in let made = are.0.own in omega (arith, same, made);
@@ -221,14 +221,14 @@ module _ (site : Site) (p q : Pass) (at_p : IsPassOf site p) (at_q : IsPassOf si
     steps = λ k. later.steps k ∙ stopped.steps k;
     seen = λ k. elim (cases_lt k (heaps_of site)) [
       | inl low ↦
-          let room = there_is site.rooms.items k low in
-          later_both (seen_at r k) (seen_at q k) (seen_at p k) (seat_seen room.0 (slice_get q.seats.items k) (at_q.seat k room.0 room.1)) (later.seen k) (stopped.seen k)
+          let slot = there_is site.slots.items k low in
+          later_both (seen_at r k) (seen_at q k) (seen_at p k) (seat_seen slot.0 (slice_get q.seats.items k) (at_q.seat k slot.0 slot.1)) (later.seen k) (stopped.seen k)
       | inr high ↦ subst (λ o. IsSeenLater (seen_at r k) o) (ap seen_in (seat_past site p q k at_p at_q (omega (arith, high)))) (later.seen k)
     ];
     left = λ k. left_through (turns_at p k) (turns_at q k) (turns_at r k) (later.left k) (stopped.left k);
   }
     where
-      later_both : (o m b : Option Kept) → IsSome m → IsSeenLater o m → IsSeenLater m b → IsSeenLater o b
+      later_both : (o m b : Option LockedHeap) → IsSome m → IsSeenLater o m → IsSeenLater m b → IsSeenLater o b
       later_both None m b some first then = tt
       later_both (Some x) m b some first then = later_seen x m b some first then
 
@@ -280,20 +280,20 @@ queue_some rule key b books here some =
         subst (IsIn y) (sym (queue_merged rule key c bs)) (in_merged (queues_of rule (c ∷ []) key) (queues_of rule bs key) y (inr (queued_first bs there y is)))
 
 -- what was found is of the site's rule
-found_rule : (site : Site) (rooms : (h : ℕ) (room : Room) → slice_get site.rooms.items h ≡ Some room → IsRoomAt site h room) (before : Pass) (stamp : ℕ) (heaps : List ℕ) (helds : List (Held Kept))
-    (found : List Kept) (x : Kept) → AreBegunAt site before stamp heaps helds found → IsIn x found → x.book.rule ≡ rule_of site.rule
-found_rule site rooms before stamp [] [] [] x are here = absurd here
-found_rule site rooms before stamp [] [] (y ∷ found) x are here = absurd are
-found_rule site rooms before stamp [] (held ∷ helds) found x are here = absurd are
-found_rule site rooms before stamp (h ∷ heaps) [] found x are here = absurd are
-found_rule site rooms before stamp (h ∷ heaps) (held ∷ helds) [] x are here = absurd here
-found_rule site rooms before stamp (h ∷ heaps) (held ∷ helds) (y ∷ found) x are (inl same) =
-    ap (λ (k : Kept). k.book.rule) (sym same) ∙ are.0.of.rule ∙ ap rule_of (rooms h are.0.room are.0.at).2
-found_rule site rooms before stamp (h ∷ heaps) (held ∷ helds) (y ∷ found) x are (inr there) = found_rule site rooms before stamp heaps helds found x are.1 there
+found_rule : (site : Site) (slots : (h : ℕ) (slot : HeapSlot) → slice_get site.slots.items h ≡ Some slot → IsRoomAt site h slot) (before : Pass) (stamp : ℕ) (heaps : List ℕ) (helds : List (Held LockedHeap))
+    (found : List LockedHeap) (x : LockedHeap) → AreBegunAt site before stamp heaps helds found → IsIn x found → x.book.rule ≡ rule_of site.rule
+found_rule site slots before stamp [] [] [] x are here = absurd here
+found_rule site slots before stamp [] [] (y ∷ found) x are here = absurd are
+found_rule site slots before stamp [] (held ∷ helds) found x are here = absurd are
+found_rule site slots before stamp (h ∷ heaps) [] found x are here = absurd are
+found_rule site slots before stamp (h ∷ heaps) (held ∷ helds) [] x are here = absurd here
+found_rule site slots before stamp (h ∷ heaps) (held ∷ helds) (y ∷ found) x are (inl same) =
+    ap (λ (k : LockedHeap). k.book.rule) (sym same) ∙ are.0.of.rule ∙ ap rule_of (slots h are.0.slot are.0.at).2
+found_rule site slots before stamp (h ∷ heaps) (held ∷ helds) (y ∷ found) x are (inr there) = found_rule site slots before stamp heaps helds found x are.1 there
 
-pub queued_found : (site : Site) (rooms : (h : ℕ) (room : Room) → slice_get site.rooms.items h ≡ Some room → IsRoomAt site h room) (before : Pass) (stamp : ℕ) (heaps key : List ℕ) (helds : List (Held Kept))
-    (found : List Kept) → AreBegunAt site before stamp heaps helds found → HasMemberIn key found → HasQueued (rule_of site.rule) key (map (λ (x : Kept). x.book) found)
-queued_found site rooms before stamp heaps key helds found are has =
+pub queued_found : (site : Site) (slots : (h : ℕ) (slot : HeapSlot) → slice_get site.slots.items h ≡ Some slot → IsRoomAt site h slot) (before : Pass) (stamp : ℕ) (heaps key : List ℕ) (helds : List (Held LockedHeap))
+    (found : List LockedHeap) → AreBegunAt site before stamp heaps helds found → HasMemberIn key found → HasQueued (rule_of site.rule) key (map (λ (x : LockedHeap). x.book) found)
+queued_found site slots before stamp heaps key helds found are has =
     let x = has.0 in
-    queue_some (rule_of site.rule) key x.book (map (λ (y : Kept). y.book) found) (in_map (λ (y : Kept). y.book) x found has.1)
-    (subst (λ r. 1 ≤ length (queue_of r key (x.book.state.members ∷ []))) (found_rule site rooms before stamp heaps helds found x are has.1) has.2)
+    queue_some (rule_of site.rule) key x.book (map (λ (y : LockedHeap). y.book) found) (in_map (λ (y : LockedHeap). y.book) x found has.1)
+    (subst (λ r. 1 ≤ length (queue_of r key (x.book.state.members ∷ []))) (found_rule site slots before stamp heaps helds found x are has.1) has.2)

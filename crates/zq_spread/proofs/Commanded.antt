@@ -7,12 +7,12 @@ use Rattle.std.specs.Prelude.{List, [], ℕ, ◌++◌, ◌∷◌, ◌≡◌}
 use Rattle.zq_commands.specs.Commands.{HasBooks}
 use Rattle.zq_commands.specs.Lending.{HasBook}
 use Rattle.zq_commands.specs.VecBooks.{IsRecordedOn, lending_of}
-use Rattle.zq_history.specs.Books.{Book, Record, steps_of}
-use Rattle.zq_history.specs.Reach.{IsWorked}
+use Rattle.zq_model.specs.Books.{Book, Record, steps_of}
+use Rattle.zq_model.specs.Reach.{IsWorked}
 use Rattle.zq_model.specs.Heaps.{heap_of}
 use Rattle.zq_model.specs.Rule.{Rule}
-use Rattle.zq_plans.proofs.Narrow.{same_heap}
-use Rattle.zq_plans.specs.Run.{IsRun}
+use Rattle.zq_semantics.proofs.Narrow.{same_heap}
+use Rattle.zq_semantics.specs.Run.{IsRun}
 use Rattle.zq_spread.proofs.Twins.{AreTwins, IsTwin, begun_twin, run_twins}
 use Rattle.zq_spread.specs.Answers.{HasWorked}
 use Rattle.zq_spread.specs.Commanded.{IsAnswered, IsAppended}

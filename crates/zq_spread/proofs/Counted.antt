@@ -2,12 +2,12 @@
 
 use Rattle.std.proofs.Common.{ap, arith, subst, sym, ◌∙◌}
 use Rattle.std.specs.Prelude.{IfSome, IsSome, None, Option, Some, ◌+◌, ◌≡◌}
-use Rattle.zq_history.proofs.Reached.{worked_reaches}
-use Rattle.zq_history.specs.Reach.{IsWorked}
-use Rattle.zq_spread.specs.Kept.{Follows}
-use Rattle.zq_spread.specs.Rooms.{IsCountedUp, IsOf, IsWorkedOn}
-use Rattle.zq_spread.specs.declared.kept.Kept.{Kept}
-use Rattle.zq_spread.specs.declared.room.Room.{Room}
+use Rattle.zq_model.proofs.Reached.{worked_reaches}
+use Rattle.zq_model.specs.Reach.{IsWorked}
+use Rattle.zq_spread.specs.LockedHeaps.{Follows}
+use Rattle.zq_spread.specs.HeapSlots.{IsCountedUp, IsOf, IsWorkedOn}
+use Rattle.zq_spread.specs.declared.locked_heap.LockedHeap.{LockedHeap}
+use Rattle.zq_spread.specs.declared.heap_slot.HeapSlot.{HeapSlot}
 use Rattle.zq_ticketlock.specs.Steps.{FollowsSeen}
 use Rattle.zq_tally.specs.Words.{kept_of, total_of, total_table}
 
@@ -16,18 +16,18 @@ pub if_some : {A : Type 0} {P Q : A → Type 0} (o : Option A) → ((x : A) → 
 if_some (Some x) gives is = gives x is
 if_some None gives is = tt
 
-pub counted_follows : (room : Room) (now old found : Kept) → IsCountedUp room now old → IsWorkedOn room old found → Follows now found
-counted_follows room now old found counted is =
+pub counted_follows : (slot : HeapSlot) (now old found : LockedHeap) → IsCountedUp slot now old → IsWorkedOn slot old found → Follows now found
+counted_follows slot now old found counted is =
     let worked : IsWorked now.book found.book is.stamp is.steps = subst (λ b. IsWorked b found.book is.stamp is.steps) (sym counted.book) is.worked in
     let same : old.total ≡ found.total = is.total in
-    let count : now.book.count ≡ room.opening + total_of now.total = ap (λ b. b.count) counted.book ∙ sym counted.count in
-    let before : found.book.count ≡ room.opening + total_of found.total = is.of.count in (
+    let count : now.book.count ≡ slot.opening + total_of now.total = ap (λ b. b.count) counted.book ∙ sym counted.count in
+    let before : found.book.count ≡ slot.opening + total_of found.total = is.of.count in (
       (is.steps, worked_reaches now.book found.book is.stamp is.steps worked is.later),
       (counted.table ∙ ap total_table same, counted.parts ∙ ap kept_of same, omega (arith, count, before)),
     )
 
-pub counted_of : (room : Room) (now old found : Kept) → IsCountedUp room now old → IsWorkedOn room old found → IsOf room now
-counted_of room now old found counted is =
+pub counted_of : (slot : HeapSlot) (now old found : LockedHeap) → IsCountedUp slot now old → IsWorkedOn slot old found → IsOf slot now
+counted_of slot now old found counted is =
     record {
       heap = ap (λ b. b.heap) counted.book ∙ is.worked.heap ∙ is.of.heap;
       heaps = ap (λ b. b.heaps) counted.book ∙ is.worked.heaps ∙ is.of.heaps;
@@ -38,8 +38,8 @@ counted_of room now old found counted is =
     }
 
 -- a value that follows one of this heap is of this heap
-of_followed : (room : Room) (x y : Kept) → Follows x y → IsOf room y → IsOf room x
-of_followed room x y follows is = record {
+of_followed : (slot : HeapSlot) (x y : LockedHeap) → Follows x y → IsOf slot y → IsOf slot x
+of_followed slot x y follows is = record {
   heap = follows.0.1.heap ∙ is.heap;
   heaps = follows.0.1.heaps ∙ is.heaps;
   rule = follows.0.1.rule ∙ is.rule;
@@ -49,6 +49,6 @@ of_followed room x y follows is = record {
 }
 
 -- and so is one that follows what a seat of this heap has seen
-pub of_seen : (room : Room) (x : Kept) (o : Option Kept) → IsSome o → FollowsSeen Follows x o → IfSome o (IsOf room) → IsOf room x
-of_seen room x (Some y) some follows is = of_followed room x y follows is
-of_seen room x None some follows is = absurd (cc)
+pub of_seen : (slot : HeapSlot) (x : LockedHeap) (o : Option LockedHeap) → IsSome o → FollowsSeen Follows x o → IfSome o (IsOf slot) → IsOf slot x
+of_seen slot x (Some y) some follows is = of_followed slot x y follows is
+of_seen slot x None some follows is = absurd (cc)

@@ -7,16 +7,16 @@ use Rattle.zq_model.specs.Sets.{IsIn}
 use Rattle.zq_shard.specs.Shard.{queue_at}
 use Rattle.zq_spread.proofs.Seats.{seen_later}
 use Rattle.zq_spread.proofs.LeftAsGiven.{held_once, none_held}
-use Rattle.zq_spread.specs.Kept.{Follows}
+use Rattle.zq_spread.specs.LockedHeaps.{Follows}
 use Rattle.zq_spread.specs.Passes.{IsCountOf, IsPassBut, IsPassOf, IsSeatOf, IsSeenLater, seen_at, seen_in, steps_at, steps_in}
 use Rattle.zq_spread.specs.Several.{AreBack, AreBegunAt, AreHeapsOf, HasBegun, HasEndedIn, HasPushed, HasSeatsIn, IsBegunFrom, IsHeldAt, IsSameOutside, MayEndIn}
 use Rattle.zq_spread.specs.Turns.{HasTurn, IsLeftAsGiven, turns_at, turns_in}
-use Rattle.zq_spread.specs.declared.kept.Kept.{Kept}
+use Rattle.zq_spread.specs.declared.locked_heap.LockedHeap.{LockedHeap}
 use Rattle.zq_spread.specs.declared.pass.Pass.{Pass}
-use Rattle.zq_spread.specs.declared.room.Room.{Room}
+use Rattle.zq_spread.specs.declared.heap_slot.HeapSlot.{HeapSlot}
 use Rattle.zq_spread.specs.declared.site.Site.{Site}
-use Rattle.zq_spread.specs.declared.sought.Sought.{Sought}
-use Rattle.zq_spread.specs.declared.sought.Stop.{Stop}
+use Rattle.zq_spread.specs.declared.lock_scan.LockScan.{LockScan}
+use Rattle.zq_spread.specs.declared.lock_scan.Stop.{Stop}
 use Rattle.zq_ticketlock.specs.Seats.{given, held_logged, value_of}
 use Rattle.zq_ticketlock.specs.Steps.{FollowsSeen}
 use Rattle.zq_ticketlock.specs.declared.held.Held.{Held}
@@ -69,7 +69,7 @@ module _ (site : Site) (h : ℕ) (heaps : List ℕ) (are : AreHeapsOf site (h �
   pub seats_rest : (p q : Pass) → HasSeatsIn site (h ∷ heaps) p → IsSameOutside (h ∷ []) p q → HasSeatsIn site heaps q
   seats_rest p q has same = record {
     number = same.number ∙ has.number;
-    seat = λ k room here at. subst (IsSeatOf room) (sym (same.seats k (apart k here))) (has.seat k room (inr here) at);
+    seat = λ k slot here at. subst (IsSeatOf slot) (sym (same.seats k (apart k here))) (has.seat k slot (inr here) at);
   }
 
   -- what changed in one heap and then in the others
@@ -92,17 +92,17 @@ module _ (site : Site) (h : ℕ) (heaps : List ℕ) (are : AreHeapsOf site (h �
         stamp = last.stamp ∙ half.stamp;
       }
 
-  seat_of_one : (q : Pass) (k : ℕ) (room : Room) → HasSeatsIn site (h ∷ []) q → h ≡ k → slice_get site.rooms.items k ≡ Some room → IsSeatOf room (slice_get q.seats.items k)
-  seat_of_one q k room has same at = has.seat k room (inl same) at
+  seat_of_one : (q : Pass) (k : ℕ) (slot : HeapSlot) → HasSeatsIn site (h ∷ []) q → h ≡ k → slice_get site.slots.items k ≡ Some slot → IsSeatOf slot (slice_get q.seats.items k)
+  seat_of_one q k slot has same at = has.seat k slot (inl same) at
 
   -- the first heap was refused
   pub back_first : (p q : Pass) → HasSeatsIn site (h ∷ heaps) p → AreBack site (h ∷ []) p q → AreBack site (h ∷ heaps) p q
   back_first p q has back = record {
     seats = record {
       number = back.seats.number;
-      seat = λ k room is at. elim is [
-        | inl same ↦ back.seats.seat k room (inl same) at
-        | inr here ↦ subst (IsSeatOf room) (sym (back.outside.seats k (apart k here))) (has.seat k room (inr here) at)
+      seat = λ k slot is at. elim is [
+        | inl same ↦ back.seats.seat k slot (inl same) at
+        | inr here ↦ subst (IsSeatOf slot) (sym (back.outside.seats k (apart k here))) (has.seat k slot (inr here) at)
       ];
     };
     outside = record {
@@ -122,14 +122,14 @@ module _ (site : Site) (h : ℕ) (heaps : List ℕ) (are : AreHeapsOf site (h �
   }
 
   -- the others were, and the first was put home
-  pub back_more : (p q r s : Pass) (value : Kept) → IsSameOutside (h ∷ []) p q → AreBack site heaps q r → IsSameOutside (h ∷ []) r s → HasSeatsIn site (h ∷ []) s →
+  pub back_more : (p q r s : Pass) (value : LockedHeap) → IsSameOutside (h ∷ []) p q → AreBack site heaps q r → IsSameOutside (h ∷ []) r s → HasSeatsIn site (h ∷ []) s →
       seen_at s h ≡ Some value → HasTurn value value (turns_at s h) (turns_at p h) → FollowsSeen Follows value (seen_at p h) → AreBack site (h ∷ heaps) p s
   back_more p q r s value first then last home seen turn follows = record {
     seats = record {
       number = home.number;
-      seat = λ k room is at. elim is [
-        | inl same ↦ home.seat k room (inl same) at
-        | inr here ↦ subst (IsSeatOf room) (sym (last.seats k (apart k here))) (then.seats.seat k room here at)
+      seat = λ k slot is at. elim is [
+        | inl same ↦ home.seat k slot (inl same) at
+        | inr here ↦ subst (IsSeatOf slot) (sym (last.seats k (apart k here))) (then.seats.seat k slot here at)
       ];
     };
     outside = outside_again p q r s first then.outside last;
@@ -147,23 +147,23 @@ module _ (site : Site) (h : ℕ) (heaps : List ℕ) (are : AreHeapsOf site (h �
 
 -- a call that was refused leaves a pass of the site's
 pub seats_of : (site : Site) (heaps : List ℕ) (pass : Pass) → IsPassOf site pass → HasSeatsIn site heaps pass
-seats_of site heaps pass is = record { number = is.seats; seat = λ h room here at. is.seat h room at }
+seats_of site heaps pass is = record { number = is.seats; seat = λ h slot here at. is.seat h slot at }
 
 -- ---- a call that begins
 
 -- in no heap
-pub begun_none : (site : Site) (before : Pass) (key : List ℕ) (sought : Sought) (stamp : ℕ) → stamp ≡ sought.stamp + 1 → stamp ≤ LAST_STAMP → sought.is_enough ≡ true →
-    HasBegun site before [] key sought stamp []
-begun_none site before key sought stamp next last enough = record {
+pub begun_none : (site : Site) (before : Pass) (key : List ℕ) (scan : LockScan) (stamp : ℕ) → stamp ≡ scan.stamp + 1 → stamp ≤ LAST_STAMP → scan.is_enough ≡ true →
+    HasBegun site before [] key scan stamp []
+begun_none site before key scan stamp next last enough = record {
   found = [];
   each = tt;
-  next = let same : max sought.stamp 0 ≡ sought.stamp = omega arith in omega (arith, next, same);
+  next = let same : max scan.stamp 0 ≡ scan.stamp = omega arith in omega (arith, next, same);
   last = last;
   enough = inl enough;
 }
 
 -- what was found of a pass that is the same in these heaps
-begun_before : (site : Site) (p q : Pass) (stamp : ℕ) (heaps : List ℕ) (helds : List (Held Kept)) (found : List Kept) →
+begun_before : (site : Site) (p q : Pass) (stamp : ℕ) (heaps : List ℕ) (helds : List (Held LockedHeap)) (found : List LockedHeap) →
     ((k : ℕ) → IsIn k heaps → (seen_at q k ≡ seen_at p k) × (turns_at q k ≡ turns_at p k)) → AreBegunAt site q stamp heaps helds found → AreBegunAt site p stamp heaps helds found
 begun_before site p q stamp [] [] [] same are = tt
 begun_before site p q stamp [] [] (x ∷ found) same are = absurd are
@@ -172,7 +172,7 @@ begun_before site p q stamp (h ∷ heaps) [] found same are = absurd are
 begun_before site p q stamp (h ∷ heaps) (held ∷ helds) [] same are = absurd are
 begun_before site p q stamp (h ∷ heaps) (held ∷ helds) (x ∷ found) same are = (
   record {
-    room = are.0.room;
+    slot = are.0.slot;
     at = are.0.at;
     lock = are.0.lock;
     was_given = are.0.was_given;
@@ -189,18 +189,18 @@ begun_before site p q stamp (h ∷ heaps) (held ∷ helds) (x ∷ found) same ar
 )
 
 -- in one heap more, before the others
-pub begun_more : (site : Site) (p q : Pass) (h : ℕ) (heaps key : List ℕ) (sought next : Sought) (stamp : ℕ) (held now : Held Kept) (helds : List (Held Kept)) → AreHeapsOf site (h ∷ heaps) →
-    IsHeldAt site h held → FollowsSeen Follows (value_of held) (seen_at p h) → held_logged held ≡ turns_at p h → IsSameOutside (h ∷ []) p q → next.stamp ≡ max sought.stamp (value_of held).book.stamp →
-    (next.is_enough ≡ true → (sought.is_enough ≡ true) ⊎ (1 ≤ length (queue_at (state_of (value_of held).book) key))) →
-    HasBegun site q heaps key next stamp helds → IsBegunFrom stamp held now → HasBegun site p (h ∷ heaps) key sought stamp (now ∷ helds)
-begun_more site p q h heaps key sought next stamp held now helds are is follows turns same greatest enough rest from =
-    let x : Kept = value_of held in
+pub begun_more : (site : Site) (p q : Pass) (h : ℕ) (heaps key : List ℕ) (scan next : LockScan) (stamp : ℕ) (held now : Held LockedHeap) (helds : List (Held LockedHeap)) → AreHeapsOf site (h ∷ heaps) →
+    IsHeldAt site h held → FollowsSeen Follows (value_of held) (seen_at p h) → held_logged held ≡ turns_at p h → IsSameOutside (h ∷ []) p q → next.stamp ≡ max scan.stamp (value_of held).book.stamp →
+    (next.is_enough ≡ true → (scan.is_enough ≡ true) ⊎ (1 ≤ length (queue_at (state_of (value_of held).book) key))) →
+    HasBegun site q heaps key next stamp helds → IsBegunFrom stamp held now → HasBegun site p (h ∷ heaps) key scan stamp (now ∷ helds)
+begun_more site p q h heaps key scan next stamp held now helds are is follows turns same greatest enough rest from =
+    let x : LockedHeap = value_of held in
     let other : (k : ℕ) → IsIn k heaps → IsIn k (h ∷ []) → ⊥ = λ k here is. elim is [ inl e ↦ (let low = are.1 k here in absurd (omega (arith, e, low))) | inr none ↦ absurd none ] in
     record {
       found = x ∷ rest.found;
       each = (
         record {
-          room = is.room;
+          slot = is.slot;
           at = is.at;
           lock = from.lock ∙ is.lock;
           was_given = from.was_given ∙ is.was_given;
@@ -224,12 +224,12 @@ begun_more site p q h heaps key sought next stamp held now helds are is follows 
     }
 
 -- the stamp is later than what was found there
-pub later_than : (site : Site) (q : Pass) (heaps key : List ℕ) (sought next : Sought) (stamp : ℕ) (value : Kept) (helds : List (Held Kept)) → next.stamp ≡ max sought.stamp value.book.stamp →
+pub later_than : (site : Site) (q : Pass) (heaps key : List ℕ) (scan next : LockScan) (stamp : ℕ) (value : LockedHeap) (helds : List (Held LockedHeap)) → next.stamp ≡ max scan.stamp value.book.stamp →
     HasBegun site q heaps key next stamp helds → value.book.stamp < stamp
-later_than site q heaps key sought next stamp value helds greatest rest = let n = rest.next in omega (arith, n, greatest)
+later_than site q heaps key scan next stamp value helds greatest rest = let n = rest.next in omega (arith, n, greatest)
 
 -- as many are held as there are heaps
-pub begun_length : (site : Site) (before : Pass) (stamp : ℕ) (heaps : List ℕ) (helds : List (Held Kept)) (found : List Kept) → AreBegunAt site before stamp heaps helds found → length helds ≡ length heaps
+pub begun_length : (site : Site) (before : Pass) (stamp : ℕ) (heaps : List ℕ) (helds : List (Held LockedHeap)) (found : List LockedHeap) → AreBegunAt site before stamp heaps helds found → length helds ≡ length heaps
 begun_length site before stamp [] [] [] are = refl
 begun_length site before stamp [] [] (x ∷ found) are = absurd are
 begun_length site before stamp [] (held ∷ helds) found are = absurd are
@@ -244,27 +244,27 @@ on_err (Ok x) is = tt
 on_err (Err e) is = is
 
 -- there is room for one more
-pub has_room : (site : Site) (q : Pass) (heaps key : List ℕ) (next : Sought) (helds : List (Held Kept)) (room : ℕ) (r : Result ℕ Stop) → IfOk r (λ stamp. HasBegun site q heaps key next stamp helds) →
-    length heaps + 1 ≤ room → OnOk r (length helds < room)
-has_room site q heaps key next helds room (Ok stamp) begun most = let long = begun_length site q stamp heaps helds begun.found begun.each in omega (arith, long, most)
-has_room site q heaps key next helds room (Err stop) begun most = tt
+pub has_room : (site : Site) (q : Pass) (heaps key : List ℕ) (next : LockScan) (helds : List (Held LockedHeap)) (slot : ℕ) (r : Result ℕ Stop) → IfOk r (λ stamp. HasBegun site q heaps key next stamp helds) →
+    length heaps + 1 ≤ slot → OnOk r (length helds < slot)
+has_room site q heaps key next helds slot (Ok stamp) begun most = let long = begun_length site q stamp heaps helds begun.found begun.each in omega (arith, long, most)
+has_room site q heaps key next helds slot (Err stop) begun most = tt
 
-pub begun_on_more : (site : Site) (p q : Pass) (h : ℕ) (heaps key : List ℕ) (sought next : Sought) (held : Held Kept) (mid last : List (Held Kept)) (r s : Result ℕ Stop) → s ≡ r →
-    AreHeapsOf site (h ∷ heaps) → IsHeldAt site h held → FollowsSeen Follows (value_of held) (seen_at p h) → held_logged held ≡ turns_at p h → IsSameOutside (h ∷ []) p q → next.stamp ≡ max sought.stamp (value_of held).book.stamp →
-    (next.is_enough ≡ true → (sought.is_enough ≡ true) ⊎ (1 ≤ length (queue_at (state_of (value_of held).book) key))) →
-    IfOk r (λ stamp. HasBegun site q heaps key next stamp mid) → IfOk r (λ stamp. HasPushed stamp held mid last) → IfOk s (λ stamp. HasBegun site p (h ∷ heaps) key sought stamp last)
-begun_on_more site p q h heaps key sought next held mid last (Ok stamp) s same are is follows turns outside greatest enough begun pushed =
-    subst (λ o. IfOk o (λ n. HasBegun site p (h ∷ heaps) key sought n last)) (sym same)
-    (subst (λ l. HasBegun site p (h ∷ heaps) key sought stamp l) (sym pushed.1) (begun_more site p q h heaps key sought next stamp held pushed.0 mid are is follows turns outside greatest enough begun pushed.2))
-begun_on_more site p q h heaps key sought next held mid last (Err stop) s same are is follows turns outside greatest enough begun pushed =
-    subst (λ o. IfOk o (λ n. HasBegun site p (h ∷ heaps) key sought n last)) (sym same) tt
+pub begun_on_more : (site : Site) (p q : Pass) (h : ℕ) (heaps key : List ℕ) (scan next : LockScan) (held : Held LockedHeap) (mid last : List (Held LockedHeap)) (r s : Result ℕ Stop) → s ≡ r →
+    AreHeapsOf site (h ∷ heaps) → IsHeldAt site h held → FollowsSeen Follows (value_of held) (seen_at p h) → held_logged held ≡ turns_at p h → IsSameOutside (h ∷ []) p q → next.stamp ≡ max scan.stamp (value_of held).book.stamp →
+    (next.is_enough ≡ true → (scan.is_enough ≡ true) ⊎ (1 ≤ length (queue_at (state_of (value_of held).book) key))) →
+    IfOk r (λ stamp. HasBegun site q heaps key next stamp mid) → IfOk r (λ stamp. HasPushed stamp held mid last) → IfOk s (λ stamp. HasBegun site p (h ∷ heaps) key scan stamp last)
+begun_on_more site p q h heaps key scan next held mid last (Ok stamp) s same are is follows turns outside greatest enough begun pushed =
+    subst (λ o. IfOk o (λ n. HasBegun site p (h ∷ heaps) key scan n last)) (sym same)
+    (subst (λ l. HasBegun site p (h ∷ heaps) key scan stamp l) (sym pushed.1) (begun_more site p q h heaps key scan next stamp held pushed.0 mid are is follows turns outside greatest enough begun pushed.2))
+begun_on_more site p q h heaps key scan next held mid last (Err stop) s same are is follows turns outside greatest enough begun pushed =
+    subst (λ o. IfOk o (λ n. HasBegun site p (h ∷ heaps) key scan n last)) (sym same) tt
 
-pub back_on_more : (site : Site) (h : ℕ) (heaps : List ℕ) (p q m n : Pass) (held : Held Kept) (G : Type 0) (r s : Result ℕ Stop) → s ≡ r → AreHeapsOf site (h ∷ heaps) → IsSameOutside (h ∷ []) p q →
+pub back_on_more : (site : Site) (h : ℕ) (heaps : List ℕ) (p q m n : Pass) (held : Held LockedHeap) (G : Type 0) (r s : Result ℕ Stop) → s ≡ r → AreHeapsOf site (h ∷ heaps) → IsSameOutside (h ∷ []) p q →
     FollowsSeen Follows (value_of held) (seen_at p h) → held_logged held ≡ turns_at p h → OnErr r (AreBack site heaps q m) → IsSameOutside (h ∷ []) m n →
     OnErr r (G × HasSeatsIn site (h ∷ []) n × (seen_at n h ≡ Some (value_of held)) × HasTurn (value_of held) (value_of held) (turns_at n h) (held_logged held)) → OnErr s (AreBack site (h ∷ heaps) p n)
 back_on_more site h heaps p q m n held G (Ok stamp) s same are first follows turns back last home = subst (λ o. OnErr o (AreBack site (h ∷ heaps) p n)) (sym same) tt
 back_on_more site h heaps p q m n held G (Err stop) s same are first follows turns back last home =
-    let value : Kept = value_of held in
+    let value : LockedHeap = value_of held in
     let turn : HasTurn value value (turns_at n h) (turns_at p h) = subst (λ l. HasTurn value value (turns_at n h) l) turns home.3 in
     subst (λ o. OnErr o (AreBack site (h ∷ heaps) p n)) (sym same) (back_more site h heaps are p q m n value first back last home.1 home.2 turn follows)
 
@@ -275,14 +275,14 @@ pub stamped_home : (site : Site) (old new : Pass) → IsPassBut site [] old → 
 stamped_home site old new is seats counts stamp = record {
   seats = ap (λ l. length l.items) seats ∙ is.seats;
   counts = ap (λ l. length l.items) counts ∙ is.counts;
-  rooms = is.rooms;
-  seat = λ h room at. subst (λ l. IsSeatOf room (slice_get l.items h)) (sym seats) (is.seat h room (λ none. absurd none) at);
-  count = λ h room at. subst (λ l. IsCountOf room (slice_get l.items h)) (sym counts) (is.count h room at);
+  slots = is.slots;
+  seat = λ h slot at. subst (λ l. IsSeatOf slot (slice_get l.items h)) (sym seats) (is.seat h slot (λ none. absurd none) at);
+  count = λ h slot at. subst (λ l. IsCountOf slot (slice_get l.items h)) (sym counts) (is.count h slot at);
   stamp = stamp;
 }
 
 -- what ended of a pass that was the same in these heaps
-ended_before : (p q r : Pass) (heaps : List ℕ) (helds : List (Held Kept)) → ((k : ℕ) → IsIn k heaps → steps_at q k ≡ steps_at p k) → HasEndedIn q r heaps helds → HasEndedIn p r heaps helds
+ended_before : (p q r : Pass) (heaps : List ℕ) (helds : List (Held LockedHeap)) → ((k : ℕ) → IsIn k heaps → steps_at q k ≡ steps_at p k) → HasEndedIn q r heaps helds → HasEndedIn p r heaps helds
 ended_before p q r [] [] same are = tt
 ended_before p q r [] (held ∷ helds) same are = absurd are
 ended_before p q r (h ∷ heaps) [] same are = absurd are
@@ -291,15 +291,15 @@ ended_before p q r (h ∷ heaps) (held ∷ helds) same are = (
     left = are.0.left;
     seen = are.0.seen;
     book = are.0.book;
-    steps = subst (λ n. IfSome (given held) (λ (x : Kept). steps_at r h + x.book.count ≡ n + (value_of held).book.count)) (same h (inl refl)) are.0.steps;
+    steps = subst (λ n. IfSome (given held) (λ (x : LockedHeap). steps_at r h + x.book.count ≡ n + (value_of held).book.count)) (same h (inl refl)) are.0.steps;
     turn = are.0.turn;
   },
   ended_before p q r heaps helds (λ k here. same k (inr here)) are.1,
 )
 
 -- one heap was ended, and then the others
-pub ended_more : (site : Site) (p q r : Pass) (h : ℕ) (heaps : List ℕ) (held : Held Kept) (helds : List (Held Kept)) → AreHeapsOf site (h ∷ heaps) →
-    ((left : Kept) × (seen_at q h ≡ Some left) × (left.book ≡ (value_of held).book) × IfSome (given held) (λ found. HasTurn found left (turns_at q h) (held_logged held))) →
+pub ended_more : (site : Site) (p q r : Pass) (h : ℕ) (heaps : List ℕ) (held : Held LockedHeap) (helds : List (Held LockedHeap)) → AreHeapsOf site (h ∷ heaps) →
+    ((left : LockedHeap) × (seen_at q h ≡ Some left) × (left.book ≡ (value_of held).book) × IfSome (given held) (λ found. HasTurn found left (turns_at q h) (held_logged held))) →
     IfSome (given held) (λ found. steps_at q h + found.book.count ≡ steps_at p h + (value_of held).book.count) →
     ((k : ℕ) → (k ≡ h → ⊥) → (seen_at q k ≡ seen_at p k) × (steps_at q k ≡ steps_at p k) × (turns_at q k ≡ turns_at p k)) →
     ((k : ℕ) → (IsIn k heaps → ⊥) → (seen_at r k ≡ seen_at q k) × (steps_at r k ≡ steps_at q k) × (turns_at r k ≡ turns_at q k)) → HasEndedIn q r heaps helds → HasEndedIn p r (h ∷ heaps) (held ∷ helds)
@@ -310,17 +310,17 @@ ended_more site p q r h heaps held helds are left steps others later rest =
         left = left.0;
         seen = stays.0 ∙ left.1;
         book = left.2;
-        steps = subst (λ n. IfSome (given held) (λ (x : Kept). n + x.book.count ≡ steps_at p h + (value_of held).book.count)) (sym stays.1) steps;
-        turn = subst (λ l. IfSome (given held) (λ (x : Kept). HasTurn x left.0 l (held_logged held))) (sym stays.2) left.3;
+        steps = subst (λ n. IfSome (given held) (λ (x : LockedHeap). n + x.book.count ≡ steps_at p h + (value_of held).book.count)) (sym stays.1) steps;
+        turn = subst (λ l. IfSome (given held) (λ (x : LockedHeap). HasTurn x left.0 l (held_logged held))) (sym stays.2) left.3;
       },
       ended_before p q r heaps helds (λ k here. (others k (λ e. let low = are.1 k here in absurd (omega (arith, e, low)))).1) rest,
     )
 
 -- the first of those that may end
-pub may_end_first : (site : Site) (h : ℕ) (heaps : List ℕ) (helds : List (Held Kept)) → MayEndIn site (h ∷ heaps) helds → 0 < length helds
+pub may_end_first : (site : Site) (h : ℕ) (heaps : List ℕ) (helds : List (Held LockedHeap)) → MayEndIn site (h ∷ heaps) helds → 0 < length helds
 may_end_first site h heaps [] are = absurd are
 may_end_first site h heaps (held ∷ helds) are = omega arith
 
-pub may_end_none : (site : Site) (helds : List (Held Kept)) → MayEndIn site [] helds → helds ≡ []
+pub may_end_none : (site : Site) (helds : List (Held LockedHeap)) → MayEndIn site [] helds → helds ≡ []
 may_end_none site [] are = refl
 may_end_none site (held ∷ helds) are = absurd are

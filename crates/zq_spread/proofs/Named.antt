@@ -4,7 +4,7 @@ use Rattle.std.proofs.Common.{mod-lt, subst, ◌<◌}
 use Rattle.std.specs.Prelude.{List, [], ℕ, ◌∷◌, ◌≡◌}
 use Rattle.zq_model.specs.Heaps.{fnv1a64, heap_of, placing_bytes}
 use Rattle.zq_model.specs.Rule.{Rule}
-use Rattle.zq_plans.specs.Run.{IsRun}
+use Rattle.zq_semantics.specs.Run.{IsRun}
 use Rattle.zq_words.specs.Command.{Command, Del, Ping, Zadd, ZaddIncr, Zcard, Zcount, Zincrby, Zpopmin, Zpopnear, Zrange, Zrank, Zrem, Zrevrank, Zscore}
 use Rattle.zq_words.specs.Heaps.{heaps_of}
 use Rattle.zq_words.specs.Words.{Word}

@@ -5,8 +5,8 @@ use Rattle.std.proofs.Math.Nat.{le-max_right, max-zero}
 use Rattle.std.specs.Prelude.{Err, IfOk, IfSome, IsErrOf, IsSome, List, Ok, OnErr, OnOk, Option, Result, Some, [], max, refl, slice_get, ℕ, ◌+◌, ◌++◌, ◌<◌, ◌≡◌, ◌≢◌, ◌≤◌, ◌∷◌, ◌↔◌}
 use Rattle.zq_dots.specs.Placed.{Placed}
 use Rattle.zq_dots.specs.Rule.{rule_of}
-use Rattle.zq_history.specs.Books.{Book, Merged, Step}
-use Rattle.zq_history.specs.Reach.{IsWorked}
+use Rattle.zq_model.specs.Books.{Book, Merged, Step}
+use Rattle.zq_model.specs.Reach.{IsWorked}
 use Rattle.zq_journal.specs.Books.{LAST_STAMP, state_of, steps_taken, steps_when}
 use Rattle.zq_journal.specs.declared.faults.MergeFault.{MergeFault}
 use Rattle.zq_journal.specs.declared.faults.MergeFault.TheVariants as unmerged
@@ -23,12 +23,12 @@ use Rattle.zq_spread.proofs.LeftAsGiven.{worked_once}
 use Rattle.zq_spread.specs.Answers.{HasWorked, IsMerged, IsTaken}
 use Rattle.zq_spread.specs.Calls.{IsCall, IsLikeSite, IsOfSite, heaps_of}
 use Rattle.zq_spread.specs.Passes.{IsRoomAt, seen_at, steps_at}
-use Rattle.zq_spread.specs.Rooms.{IsBegun, IsOf, IsWorkedOn}
+use Rattle.zq_spread.specs.HeapSlots.{IsBegun, IsOf, IsWorkedOn}
 use Rattle.zq_spread.specs.Turns.{HasTurn, turns_at}
 use Rattle.zq_spread.specs.Worn.{IsBusyIn, IsWornIn}
-use Rattle.zq_spread.specs.declared.kept.Kept.{Kept}
+use Rattle.zq_spread.specs.declared.locked_heap.LockedHeap.{LockedHeap}
 use Rattle.zq_spread.specs.declared.pass.Pass.{Pass}
-use Rattle.zq_spread.specs.declared.room.Room.{Room}
+use Rattle.zq_spread.specs.declared.heap_slot.HeapSlot.{HeapSlot}
 use Rattle.zq_spread.specs.declared.site.Site.{Site}
 use Rattle.zq_ticketlock.proofs.Told.{seen_some}
 use Rattle.zq_ticketlock.specs.Seats.{given, held_logged, value_of}
@@ -79,9 +79,9 @@ merged_by old new a stamp s (Err unmerged.NoMemory) same rule worn heap other wo
     ([], subst (λ b. IsWorked b a stamp []) (sym stays) begun, (not_worn, refl))
 
 -- the heap of an operation of the site, where a call has begun
-pub begun_of_heap : (site : Site) (room : Room) (h floor stamp : ℕ) (p : Placed) (now found : Kept) → IsRoomAt site h room → IsWorked now.book found.book stamp [] → IsOf room found →
+pub begun_of_heap : (site : Site) (slot : HeapSlot) (h floor stamp : ℕ) (p : Placed) (now found : LockedHeap) → IsRoomAt site h slot → IsWorked now.book found.book stamp [] → IsOf slot found →
     IsOfSite site p → p.operation.heap ≡ h → IsOfHeap (state_of now.book) p
-begun_of_heap site room h floor stamp p now found at worked of is here =
+begun_of_heap site slot h floor stamp p now found at worked of is here =
     let heap : now.book.heap ≡ h = worked.heap ∙ of.heap ∙ at.0 in
     let heaps : now.book.heaps ≡ p.heaps = worked.heaps ∙ of.heaps ∙ at.1 ∙ sym is.heaps in
     record {
@@ -91,19 +91,19 @@ begun_of_heap site room h floor stamp p now found at worked of is here =
     }
 
 -- and another heap that is like the site's
-pub begun_same_heap : (site : Site) (room : Room) (h stamp : ℕ) (s : HeapImage) (now found : Kept) → IsRoomAt site h room → IsWorked now.book found.book stamp [] → IsOf room found →
+pub begun_same_heap : (site : Site) (slot : HeapSlot) (h stamp : ℕ) (s : HeapImage) (now found : LockedHeap) → IsRoomAt site h slot → IsWorked now.book found.book stamp [] → IsOf slot found →
     IsLikeSite site s → s.heap ≡ h → IsSameHeap (state_of now.book) s
-begun_same_heap site room h stamp s now found at worked of is here =
+begun_same_heap site slot h stamp s now found at worked of is here =
     record { heap = worked.heap ∙ of.heap ∙ at.0 ∙ sym here; heaps = worked.heaps ∙ of.heaps ∙ at.1 ∙ sym is.heaps }
 
-pub begun_same_rule : (site : Site) (room : Room) (h stamp : ℕ) (s : HeapImage) (now found : Kept) → IsRoomAt site h room → IsWorked now.book found.book stamp [] → IsOf room found →
+pub begun_same_rule : (site : Site) (slot : HeapSlot) (h stamp : ℕ) (s : HeapImage) (now found : LockedHeap) → IsRoomAt site h slot → IsWorked now.book found.book stamp [] → IsOf slot found →
     IsLikeSite site s → now.book.rule ≡ s.rule
-begun_same_rule site room h stamp s now found at worked of is = worked.rule ∙ of.rule ∙ ap rule_of at.2 ∙ sym is.rule
+begun_same_rule site slot h stamp s now found at worked of is = worked.rule ∙ of.rule ∙ ap rule_of at.2 ∙ sym is.rule
 
 -- a call that has worked in its one heap may end there
-pub may_end : (Does : List Book → List (List Step) → Type 0) (room : Room) (before : Option Kept) (floor stamp : ℕ) (begun now found : Kept) → IsBegun room before floor stamp begun found →
-    HasWorked Does now.book found.book stamp → now.total ≡ begun.total → IsWorkedOn room now found
-may_end Does room before floor stamp begun now found is done total = record {
+pub may_end : (Does : List Book → List (List Step) → Type 0) (slot : HeapSlot) (before : Option LockedHeap) (floor stamp : ℕ) (begun now found : LockedHeap) → IsBegun slot before floor stamp begun found →
+    HasWorked Does now.book found.book stamp → now.total ≡ begun.total → IsWorkedOn slot now found
+may_end Does slot before floor stamp begun now found is done total = record {
   home = is.home;
   of = is.of;
   stamp = stamp;
@@ -114,12 +114,12 @@ may_end Does room before floor stamp begun now found is done total = record {
 }
 
 -- and then it is a call
-pub one_call : (Does : List Book → List (List Step) → Type 0) (room : Room) (old mid new : Pass) (h stamp : ℕ) (begun now found : Kept) → IsBegun room (seen_at old h) old.stamp stamp begun found →
-    HasWorked Does now.book found.book stamp → new.stamp ≡ stamp → ((left : Kept) × (seen_at new h ≡ Some left) × (left.book ≡ now.book) × HasTurn found left (turns_at new h) (turns_at old h)) →
+pub one_call : (Does : List Book → List (List Step) → Type 0) (slot : HeapSlot) (old mid new : Pass) (h stamp : ℕ) (begun now found : LockedHeap) → IsBegun slot (seen_at old h) old.stamp stamp begun found →
+    HasWorked Does now.book found.book stamp → new.stamp ≡ stamp → ((left : LockedHeap) × (seen_at new h ≡ Some left) × (left.book ≡ now.book) × HasTurn found left (turns_at new h) (turns_at old h)) →
     steps_at new h + found.book.count ≡ steps_at mid h + now.book.count → ((k : ℕ) → (k ≡ h → ⊥) → (seen_at mid k ≡ seen_at old k) × (turns_at mid k ≡ turns_at old k)) →
     ((k : ℕ) → steps_at mid k ≡ steps_at old k) →
     ((k : ℕ) → (k ≡ h → ⊥) → (seen_at new k ≡ seen_at mid k) × (steps_at new k ≡ steps_at mid k) × (turns_at new k ≡ turns_at mid k)) → IsCall Does old new (h ∷ [])
-one_call Does room old mid new h stamp begun now found is done stamped left counted others steps stay = record {
+one_call Does slot old mid new h stamp begun now found is done stamped left counted others steps stay = record {
   found = found ∷ [];
   left = left.0 ∷ [];
   steps = done.0 ∷ [];
@@ -138,42 +138,42 @@ one_call Does room old mid new h stamp begun now found is done stamped left coun
   done = done.2;
 }
 
--- in each room of this number, the call has begun on the value that was given
-abbrev pub IsBegunIn : Site → Pass → ℕ → ℕ → Held Kept → Type 0
-IsBegunIn site old h stamp held = (room : Room) → slice_get site.rooms.items h ≡ Some room → IfSome (given held) (IsBegun room (seen_at old h) old.stamp stamp (value_of held))
+-- in each slot of this number, the call has begun on the value that was given
+abbrev pub IsBegunIn : Site → Pass → ℕ → ℕ → Held LockedHeap → Type 0
+IsBegunIn site old h stamp held = (slot : HeapSlot) → slice_get site.slots.items h ≡ Some slot → IfSome (given held) (IsBegun slot (seen_at old h) old.stamp stamp (value_of held))
 
 -- what a call has found
-pub begun_on : (site : Site) (old : Pass) (h stamp : ℕ) (held : Held Kept) → h < heaps_of site → IsSome (given held) → IsBegunIn site old h stamp held →
-    (room : Room) × (slice_get site.rooms.items h ≡ Some room) × (found : Kept) × (given held ≡ Some found) × IsBegun room (seen_at old h) old.stamp stamp (value_of held) found
+pub begun_on : (site : Site) (old : Pass) (h stamp : ℕ) (held : Held LockedHeap) → h < heaps_of site → IsSome (given held) → IsBegunIn site old h stamp held →
+    (slot : HeapSlot) × (slice_get site.slots.items h ≡ Some slot) × (found : LockedHeap) × (given held ≡ Some found) × IsBegun slot (seen_at old h) old.stamp stamp (value_of held) found
 begun_on site old h stamp held within some begun =
-    let room = there_is site.rooms.items h within in
-    let found = seen_some (IsBegun room.0 (seen_at old h) old.stamp stamp (value_of held)) (given held) some (begun room.0 room.1) in
-    (room.0, room.1, found.0, found.1, found.2)
+    let slot = there_is site.slots.items h within in
+    let found = seen_some (IsBegun slot.0 (seen_at old h) old.stamp stamp (value_of held)) (given held) some (begun slot.0 slot.1) in
+    (slot.0, slot.1, found.0, found.1, found.2)
 
 -- what the work of a call says of the value that it left
-abbrev pub DoesWork : (List Book → List (List Step) → Type 0) → ℕ → Held Kept → Kept → Type 0
+abbrev pub DoesWork : (List Book → List (List Step) → Type 0) → ℕ → Held LockedHeap → LockedHeap → Type 0
 DoesWork Does stamp held now = (a : Book) → IsWorked (value_of held).book a stamp [] → HasWorked Does now.book a stamp
 
 -- a call that began and worked may end
-pub may_end_in : (Does : List Book → List (List Step) → Type 0) (site : Site) (old : Pass) (h stamp : ℕ) (held : Held Kept) (now : Kept) → IsBegunIn site old h stamp held →
+pub may_end_in : (Does : List Book → List (List Step) → Type 0) (site : Site) (old : Pass) (h stamp : ℕ) (held : Held LockedHeap) (now : LockedHeap) → IsBegunIn site old h stamp held →
     DoesWork Does stamp held now → now.total ≡ (value_of held).total →
-    (room : Room) → slice_get site.rooms.items h ≡ Some room → IfSome (given held) (IsWorkedOn room now)
-may_end_in Does site old h stamp held now begun works total = λ room at.
-    if_some (given held) (λ found is. may_end Does room (seen_at old h) old.stamp stamp (value_of held) now found is (works found.book is.worked) total) (begun room at)
+    (slot : HeapSlot) → slice_get site.slots.items h ≡ Some slot → IfSome (given held) (IsWorkedOn slot now)
+may_end_in Does site old h stamp held now begun works total = λ slot at.
+    if_some (given held) (λ found is. may_end Does slot (seen_at old h) old.stamp stamp (value_of held) now found is (works found.book is.worked) total) (begun slot at)
 
 -- and where it ended, it is a call
-pub called_in : (Does : List Book → List (List Step) → Type 0) (site : Site) (old mid new : Pass) (h stamp : ℕ) (held : Held Kept) (now : Kept) → h < heaps_of site →
+pub called_in : (Does : List Book → List (List Step) → Type 0) (site : Site) (old mid new : Pass) (h stamp : ℕ) (held : Held LockedHeap) (now : LockedHeap) → h < heaps_of site →
     IsSome (given held) → IsBegunIn site old h stamp held → DoesWork Does stamp held now → new.stamp ≡ stamp →
-    ((left : Kept) × (seen_at new h ≡ Some left) × (left.book ≡ now.book) × IfSome (given held) (λ found. HasTurn found left (turns_at new h) (held_logged held))) →
+    ((left : LockedHeap) × (seen_at new h ≡ Some left) × (left.book ≡ now.book) × IfSome (given held) (λ found. HasTurn found left (turns_at new h) (held_logged held))) →
     IfSome (given held) (λ found. steps_at new h + found.book.count ≡ steps_at mid h + now.book.count) →
     ((k : ℕ) → (k ≡ h → ⊥) → (seen_at mid k ≡ seen_at old k) × (turns_at mid k ≡ turns_at old k)) → ((k : ℕ) → steps_at mid k ≡ steps_at old k) →
     ((k : ℕ) → (k ≡ h → ⊥) → (seen_at new k ≡ seen_at mid k) × (steps_at new k ≡ steps_at mid k) × (turns_at new k ≡ turns_at mid k)) → held_logged held ≡ turns_at old h → IsCall Does old new (h ∷ [])
 called_in Does site old mid new h stamp held now within some begun works stamped left counted others steps stay turns =
     let is = begun_on site old h stamp held within some begun in
     let here : steps_at new h + is.2.book.count ≡ steps_at mid h + now.book.count =
-    subst (λ o. IfSome o (λ (x : Kept). steps_at new h + x.book.count ≡ steps_at mid h + now.book.count)) is.3 counted in
+    subst (λ o. IfSome o (λ (x : LockedHeap). steps_at new h + x.book.count ≡ steps_at mid h + now.book.count)) is.3 counted in
     let turn : HasTurn is.2 left.0 (turns_at new h) (turns_at old h) =
-    subst (λ l. HasTurn is.2 left.0 (turns_at new h) l) turns (subst (λ o. IfSome o (λ (x : Kept). HasTurn x left.0 (turns_at new h) (held_logged held))) is.3 left.3) in
+    subst (λ l. HasTurn is.2 left.0 (turns_at new h) l) turns (subst (λ o. IfSome o (λ (x : LockedHeap). HasTurn x left.0 (turns_at new h) (held_logged held))) is.3 left.3) in
     one_call Does is.0 old mid new h stamp (value_of held) now is.2 is.4 (works is.2.book is.4.worked) stamped (left.0, left.1, left.2, turn) here others steps stay
 
 -- the heap of a refused call, by its number

@@ -2,8 +2,8 @@
 
 use Rattle.std.proofs.Common.{ap, refl, subst, sym, ◌∙◌}
 use Rattle.std.specs.Prelude.{Err, IfOk, List, Ok, Result, Some, [], ℕ, ◌≡◌}
-use Rattle.zq_history.specs.Books.{Book}
-use Rattle.zq_history.specs.Reach.{IsWorked}
+use Rattle.zq_model.specs.Books.{Book}
+use Rattle.zq_model.specs.Reach.{IsWorked}
 use Rattle.zq_journal.specs.Books.{state_of}
 use Rattle.zq_journal.specs.declared.since.Since.{Since}
 use Rattle.zq_model.specs.Image.{Image}
@@ -13,7 +13,7 @@ use Rattle.zq_spread.specs.Calls.{HasSeenBook}
 use Rattle.zq_spread.specs.Passes.{seen_at}
 use Rattle.zq_spread.specs.declared.faults.ReadFault.{ReadFault}
 use Rattle.zq_spread.specs.declared.faults.ReadFault.TheVariants as unread
-use Rattle.zq_spread.specs.declared.kept.Kept.{Kept}
+use Rattle.zq_spread.specs.declared.locked_heap.LockedHeap.{LockedHeap}
 use Rattle.zq_spread.specs.declared.pass.Pass.{Pass}
 
 -- a call leaves the state as it was when it began
@@ -48,7 +48,7 @@ pub asked_by : (v : List ℕ) (r : Result Since ReadFault) (b a : Book) (stamp :
 asked_by v r b a stamp is begun = ([], begun, (asked_of r b a (asked v r b is), refl))
 
 -- of the book that the pass has then seen
-pub answered_of : (v : List ℕ) (r : Result Since ReadFault) (b : Book) (new : Pass) (h : ℕ) → read_of (IsSince v) r b → ((left : Kept) × (seen_at new h ≡ Some left) × (left.book ≡ b)) →
+pub answered_of : (v : List ℕ) (r : Result Since ReadFault) (b : Book) (new : Pass) (h : ℕ) → read_of (IsSince v) r b → ((left : LockedHeap) × (seen_at new h ≡ Some left) × (left.book ≡ b)) →
     IfOk r (λ since. HasSeenBook new h (IsSince v since))
 answered_of v (Ok since) b new h is left = (left.0, left.1, subst (IsSince v since) (sym left.2) is)
 answered_of v (Err fault) b new h is left = tt

@@ -12,11 +12,11 @@ use Rattle.zq_spread.specs.Turns.{HasTurn, turns_at, turns_in}
 use Rattle.zq_spread.specs.Worn.{HasFoundLast, IsAtLast, IsHeldElsewhere, IsPassedOver, IsRefusedIn, IsStopOf, IsUnbegun, IsUnlocked, hold_of, reached_at, reached_in, served_at, served_in, stop_of}
 use Rattle.zq_spread.specs.declared.faults.HoldFault.{HoldFault}
 use Rattle.zq_spread.specs.declared.faults.HoldFault.TheVariants as hold
-use Rattle.zq_spread.specs.declared.kept.Kept.{Kept}
+use Rattle.zq_spread.specs.declared.locked_heap.LockedHeap.{LockedHeap}
 use Rattle.zq_spread.specs.declared.pass.Pass.{Pass}
 use Rattle.zq_spread.specs.declared.site.Site.{Site}
-use Rattle.zq_spread.specs.declared.sought.Stop.{Stop}
-use Rattle.zq_spread.specs.declared.sought.Stop.TheVariants as stop
+use Rattle.zq_spread.specs.declared.lock_scan.Stop.{Stop}
+use Rattle.zq_spread.specs.declared.lock_scan.Stop.TheVariants as stop
 use Rattle.zq_ticketlock.specs.Limits.{last_ticket}
 use Rattle.zq_ticketlock.specs.Seats.{entry, held_logged, value_of}
 use Rattle.zq_ticketlock.specs.declared.errors.TryFault.{TryFault}
@@ -31,10 +31,10 @@ pub last_of : (floor stamp : ℕ) → LAST_STAMP ≤ max floor stamp → (LAST_S
 last_of floor stamp most = elim (cases_lt floor LAST_STAMP) [ inl low ↦ inr (omega (arith, most, low)) | inr high ↦ inl high ]
 
 -- a seat that has put such a value home
-pub worn_by : (floor stamp high : ℕ) (value : Kept) (o : Option Kept) → LAST_STAMP ≤ max floor stamp → value.book.stamp ≡ stamp → o ≡ Some value → (LAST_STAMP ≤ floor) ⊎ IsAtLast high o
+pub worn_by : (floor stamp high : ℕ) (value : LockedHeap) (o : Option LockedHeap) → LAST_STAMP ≤ max floor stamp → value.book.stamp ≡ stamp → o ≡ Some value → (LAST_STAMP ≤ floor) ⊎ IsAtLast high o
 worn_by floor stamp high value o most is saw = elim (last_of floor stamp most) [ inl low ↦ inl low | inr here ↦ inr (inr (value, saw, omega (arith, here, is))) ]
 
--- a busy lock is not worn
+-- a busy lock is not exhausted
 pub held_elsewhere : (fault : TryFault) (low high : ℕ) → (fault ≡ try.Worn) ↔ (last_ticket ≤ low) → fault ≡ try.Busy → low < high → IsHeldElsewhere low high
 held_elsewhere fault low high worn busy later = (not_last (cases_lt low last_ticket), later)
   where
@@ -50,7 +50,7 @@ pub unlocked_by : (fault : TryFault) (s : Stop) (low high : ℕ) → s ≡ stop_
 unlocked_by try.Worn s low high is worn last busy = subst (λ t. IsUnlocked t low high) (sym is) (let found = worn.0 refl in omega (arith, found, last))
 unlocked_by try.Busy s low high is worn last busy = subst (λ t. IsUnlocked t low high) (sym is) (held_elsewhere try.Busy low high worn refl (busy refl))
 
-pub unbegun_by : (fault : TryFault) (floor low high : ℕ) (o : Option Kept) → (fault ≡ try.Worn) ↔ (last_ticket ≤ low) → low ≤ high → (fault ≡ try.Busy → low < high) → IsUnbegun fault floor low high o
+pub unbegun_by : (fault : TryFault) (floor low high : ℕ) (o : Option LockedHeap) → (fault ≡ try.Worn) ↔ (last_ticket ≤ low) → low ≤ high → (fault ≡ try.Busy → low < high) → IsUnbegun fault floor low high o
 unbegun_by try.Worn floor low high o worn last busy = inr (inl (let found = worn.0 refl in omega (arith, found, last)))
 unbegun_by try.Busy floor low high o worn last busy = held_elsewhere try.Busy low high worn refl (busy refl)
 
@@ -73,11 +73,11 @@ hold_busy try.Worn f low high found drawn is from to busy e = absurd (apart (sym
 hold_busy try.Busy f low high found drawn is from to busy e = let later = busy refl in omega (arith, from, to, later)
 
 -- a pass whose seat came back has found what the seat has
-pub found_last : (floor h : ℕ) (pass : Pass) (high : ℕ) (o : Option Kept) → reached_at pass h ≡ high → seen_at pass h ≡ o → (LAST_STAMP ≤ floor) ⊎ IsAtLast high o → HasFoundLast floor (h ∷ []) pass
+pub found_last : (floor h : ℕ) (pass : Pass) (high : ℕ) (o : Option LockedHeap) → reached_at pass h ≡ high → seen_at pass h ≡ o → (LAST_STAMP ≤ floor) ⊎ IsAtLast high o → HasFoundLast floor (h ∷ []) pass
 found_last floor h pass high o there saw (inl low) = inl low
 found_last floor h pass high o there saw (inr at) = inr (h, inl refl, subst (λ s. IsAtLast (reached_at pass h) s) (sym saw) (subst (λ n. IsAtLast n o) (sym there) at))
 
-pub refused_in : (fault : TryFault) (before after : Pass) (h low high : ℕ) (o : Option Kept) → IsStopped before after → served_at after h ≡ low → reached_at after h ≡ high → seen_at after h ≡ o →
+pub refused_in : (fault : TryFault) (before after : Pass) (h low high : ℕ) (o : Option LockedHeap) → IsStopped before after → served_at after h ≡ low → reached_at after h ≡ high → seen_at after h ≡ o →
     IsUnbegun fault before.stamp low high o → IsRefusedIn fault (h ∷ []) before after
 refused_in try.Worn before after h low high o stopped from there saw why = (stopped, found_last before.stamp h after high o there saw why)
 refused_in try.Busy before after h low high o stopped from there saw why =
@@ -86,7 +86,7 @@ refused_in try.Busy before after h low high o stopped from there saw why =
 -- ---- in several heaps
 
 -- a heap that was passed over, and then held again so often
-pub passed_on : (key : List ℕ) (later : List (Entry Kept)) (p q r : Pass) (h : ℕ) → turns_at r h ≡ later ++ turns_at q h → IsPassedOver key [] p q h → IsPassedOver key later p r h
+pub passed_on : (key : List ℕ) (later : List (Entry LockedHeap)) (p q r : Pass) (h : ℕ) → turns_at r h ≡ later ++ turns_at q h → IsPassedOver key [] p q h → IsPassedOver key later p r h
 passed_on key later p q r h turns over = record { given = over.given; none = over.none; ticket = over.ticket; turns = turns ∙ ap (λ l. later ++ l) over.turns }
 
 -- in none
@@ -119,7 +119,7 @@ module _ (site : Site) (h : ℕ) (heaps : List ℕ) (are : AreHeapsOf site (h �
   others_apart : (k : ℕ) → IsIn k heaps → IsIn k (h ∷ []) → ⊥
   others_apart k here is = elim is [ inl same ↦ (let low = are.1 k here in absurd (omega (arith, same, low))) | inr none ↦ absurd none ]
 
-  pub stop_more : (p q m n : Pass) (value : Kept) (floor next : ℕ) (enough more : Bool) (key : List ℕ) (s : Stop) → IsSameOutside (h ∷ []) p q → IsSameOutside (h ∷ []) m n → seen_at n h ≡ Some value →
+  pub stop_more : (p q m n : Pass) (value : LockedHeap) (floor next : ℕ) (enough more : Bool) (key : List ℕ) (s : Stop) → IsSameOutside (h ∷ []) p q → IsSameOutside (h ∷ []) m n → seen_at n h ≡ Some value →
       HasTurn value value (turns_at n h) (turns_at p h) → next ≡ max floor value.book.stamp → (more ≡ false → (enough ≡ false) × (length (queue_at (state_of value.book) key) ≡ 0)) →
       IsStopOf next more heaps key q m s → IsStopOf floor enough (h ∷ heaps) key p n s
   stop_more p q m n value floor next enough more key stop.Worn first last seen turn greatest none (inl high) =
@@ -143,12 +143,12 @@ module _ (site : Site) (h : ℕ) (heaps : List ℕ) (are : AreHeapsOf site (h �
           let other : turns_at q k ≡ turns_at p k = ap turns_in (first.seats k (others_apart k here)) in
           record { given = over.given; none = over.none; ticket = over.ticket; turns = one ∙ over.turns ∙ ap (λ l. entry over.ticket over.given over.given ∷ l) other }
 
-  pub stop_on_more : (p q m n : Pass) (held : Held Kept) (floor next : ℕ) (enough more : Bool) (key : List ℕ) (G : Type 0) (r s : Result ℕ Stop) → s ≡ r → IsSameOutside (h ∷ []) p q →
+  pub stop_on_more : (p q m n : Pass) (held : Held LockedHeap) (floor next : ℕ) (enough more : Bool) (key : List ℕ) (G : Type 0) (r s : Result ℕ Stop) → s ≡ r → IsSameOutside (h ∷ []) p q →
       IsSameOutside (h ∷ []) m n → OnErr r (G × HasSeatsIn site (h ∷ []) n × (seen_at n h ≡ Some (value_of held)) × HasTurn (value_of held) (value_of held) (turns_at n h) (held_logged held)) →
       held_logged held ≡ turns_at p h → next ≡ max floor (value_of held).book.stamp → (more ≡ false → (enough ≡ false) × (length (queue_at (state_of (value_of held).book) key) ≡ 0)) →
       IfErr r (IsStopOf next more heaps key q m) → IfErr s (IsStopOf floor enough (h ∷ heaps) key p n)
   stop_on_more p q m n held floor next enough more key G (Ok stamp) s same first last home turns greatest none why = subst (λ o. IfErr o (IsStopOf floor enough (h ∷ heaps) key p n)) (sym same) tt
   stop_on_more p q m n held floor next enough more key G (Err fault) s same first last home turns greatest none why =
-      let value : Kept = value_of held in
+      let value : LockedHeap = value_of held in
       subst (λ o. IfErr o (IsStopOf floor enough (h ∷ heaps) key p n)) (sym same)
       (stop_more p q m n value floor next enough more key fault first last home.2 (subst (λ l. HasTurn value value (turns_at n h) l) turns home.3) greatest none why)

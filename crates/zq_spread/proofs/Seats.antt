@@ -7,13 +7,13 @@ use Rattle.std.proofs.lemmas.Option.{same_Some, slice_get_read}
 use Rattle.std.specs.Prelude.{List, None, Option, Some, [], get_or, length, slice_get, slice_set, ℕ, ◌<◌, ◌≡◌, ◌≤◌, ◌∷◌}
 use Rattle.zq_journal.specs.Books.{LAST_STAMP}
 use Rattle.zq_posheap.proofs.Lists.{slice_get-set_other, slice_get-set_same}
-use Rattle.zq_spread.specs.Kept.{follows_itself}
+use Rattle.zq_spread.specs.LockedHeaps.{follows_itself}
 use Rattle.zq_spread.proofs.LeftAsGiven.{none_held}
 use Rattle.zq_spread.specs.Passes.{IsCountOf, IsPassBut, IsPassOf, IsSeatOf, IsSeenLater, IsStopped, seen_at, steps_at}
 use Rattle.zq_spread.specs.Turns.{IsLeftAsGiven, turns_at}
-use Rattle.zq_spread.specs.declared.kept.Kept.{Kept}
+use Rattle.zq_spread.specs.declared.locked_heap.LockedHeap.{LockedHeap}
 use Rattle.zq_spread.specs.declared.pass.Pass.{Pass}
-use Rattle.zq_spread.specs.declared.room.Room.{Room}
+use Rattle.zq_spread.specs.declared.heap_slot.HeapSlot.{HeapSlot}
 use Rattle.zq_spread.specs.declared.site.Site.{Site}
 use Rattle.zq_tally.specs.declared.count.Count.{Count}
 use Rattle.zq_ticketlock.specs.declared.seat.Seat.{Seat}
@@ -23,22 +23,22 @@ pub taken_at : {X : Type 0} (xs : List X) (n i : ℕ) (x took y : X) → length 
 taken_at xs n i x took y long within is same some = slice_get_read xs n i x (sym long) within is ∙ ap Some (sym same ∙ some)
 
 -- a pass of which a seat was taken
-pub seat_out : (site : Site) (pass new : Pass) (heap : ℕ) (x : Option (Seat Kept)) → new.seats.items ≡ slice_set pass.seats.items heap x → new.counts ≡ pass.counts →
+pub seat_out : (site : Site) (pass new : Pass) (heap : ℕ) (x : Option (Seat LockedHeap)) → new.seats.items ≡ slice_set pass.seats.items heap x → new.counts ≡ pass.counts →
     new.stamp ≡ pass.stamp → IsPassOf site pass → IsPassBut site (heap ∷ []) new
 seat_out site pass new heap x seats counts stamp is = record {
   seats = ap length seats ∙ length-set pass.seats.items heap x ∙ is.seats;
   counts = ap (λ c. length c.items) counts ∙ is.counts;
-  rooms = is.rooms;
-  seat = λ h room other at. subst (IsSeatOf room) (sym (ap (λ l. slice_get l h) seats ∙ slice_get-set_other pass.seats.items heap h x (λ same. other (inl (sym same))))) (is.seat h room at);
-  count = λ h room at. subst (λ c. IsCountOf room (slice_get c.items h)) (sym counts) (is.count h room at);
+  slots = is.slots;
+  seat = λ h slot other at. subst (IsSeatOf slot) (sym (ap (λ l. slice_get l h) seats ∙ slice_get-set_other pass.seats.items heap h x (λ same. other (inl (sym same))))) (is.seat h slot at);
+  count = λ h slot at. subst (λ c. IsCountOf slot (slice_get c.items h)) (sym counts) (is.count h slot at);
   stamp = subst (λ n. n ≤ LAST_STAMP) (sym stamp) is.stamp;
 }
 
 -- and of which the seat was put back
-pub seat_home : (site : Site) (pass new : Pass) (heap : ℕ) (out : List ℕ) (room : Room) (seat : Seat Kept) → heap < length site.rooms.items → slice_get site.rooms.items heap ≡ Some room →
-    new.seats.items ≡ slice_set pass.seats.items heap (Some seat) → new.counts ≡ pass.counts → new.stamp ≡ pass.stamp → IsSeatOf room (Some (Some seat)) →
+pub seat_home : (site : Site) (pass new : Pass) (heap : ℕ) (out : List ℕ) (slot : HeapSlot) (seat : Seat LockedHeap) → heap < length site.slots.items → slice_get site.slots.items heap ≡ Some slot →
+    new.seats.items ≡ slice_set pass.seats.items heap (Some seat) → new.counts ≡ pass.counts → new.stamp ≡ pass.stamp → IsSeatOf slot (Some (Some seat)) →
     IsPassBut site (heap ∷ out) pass → IsPassBut site out new
-seat_home site pass new heap out room seat within at seats counts stamp fits is =
+seat_home site pass new heap out slot seat within at seats counts stamp fits is =
     let here : slice_get new.seats.items heap ≡ Some (Some seat) =
     ap (λ l. slice_get l heap) seats ∙ slice_get-set_same pass.seats.items heap (Some seat) (subst (λ n. heap < n) (sym is.seats) within) in
     let there : (h : ℕ) → (h ≡ heap → ⊥) → slice_get new.seats.items h ≡ slice_get pass.seats.items h =
@@ -46,14 +46,14 @@ seat_home site pass new heap out room seat within at seats counts stamp fits is 
     record {
       seats = ap length seats ∙ length-set pass.seats.items heap (Some seat) ∙ is.seats;
       counts = ap (λ c. length c.items) counts ∙ is.counts;
-      rooms = is.rooms;
+      slots = is.slots;
       seat = λ h other_room away at_h. elim (cases_eq h heap) [
         | inl same ↦ (
-            let one : Some room ≡ Some other_room = sym at ∙ ap (slice_get site.rooms.items) (sym same) ∙ at_h in
-            subst (λ r. IsSeatOf r (slice_get new.seats.items h)) (same_Some room other_room one) (subst (IsSeatOf room) (sym (ap (slice_get new.seats.items) same ∙ here)) fits))
+            let one : Some slot ≡ Some other_room = sym at ∙ ap (slice_get site.slots.items) (sym same) ∙ at_h in
+            subst (λ r. IsSeatOf r (slice_get new.seats.items h)) (same_Some slot other_room one) (subst (IsSeatOf slot) (sym (ap (slice_get new.seats.items) same ∙ here)) fits))
         | inr other ↦ subst (IsSeatOf other_room) (sym (there h other)) (is.seat h other_room (λ here. elim here [ inl e ↦ other (sym e) | inr later ↦ away later ]) at_h)
       ];
-      count = λ h room at. subst (λ c. IsCountOf room (slice_get c.items h)) (sym counts) (is.count h room at);
+      count = λ h slot at. subst (λ c. IsCountOf slot (slice_get c.items h)) (sym counts) (is.count h slot at);
       stamp = subst (λ n. n ≤ LAST_STAMP) (sym stamp) is.stamp;
     }
 
@@ -62,23 +62,23 @@ pub all_home : (site : Site) (pass : Pass) → IsPassBut site [] pass → IsPass
 all_home site pass is = record {
   seats = is.seats;
   counts = is.counts;
-  rooms = is.rooms;
-  seat = λ h room at. is.seat h room (λ none. absurd none) at;
+  slots = is.slots;
+  seat = λ h slot at. is.seat h slot (λ none. absurd none) at;
   count = is.count;
   stamp = is.stamp;
 }
 
-pub seat_back : (site : Site) (pass new : Pass) (heap : ℕ) (room : Room) (seat : Seat Kept) → heap < length site.rooms.items → slice_get site.rooms.items heap ≡ Some room →
-    new.seats.items ≡ slice_set pass.seats.items heap (Some seat) → new.counts ≡ pass.counts → new.stamp ≡ pass.stamp → IsSeatOf room (Some (Some seat)) →
+pub seat_back : (site : Site) (pass new : Pass) (heap : ℕ) (slot : HeapSlot) (seat : Seat LockedHeap) → heap < length site.slots.items → slice_get site.slots.items heap ≡ Some slot →
+    new.seats.items ≡ slice_set pass.seats.items heap (Some seat) → new.counts ≡ pass.counts → new.stamp ≡ pass.stamp → IsSeatOf slot (Some (Some seat)) →
     IsPassBut site (heap ∷ []) pass → IsPassOf site new
-seat_back site pass new heap room seat within at seats counts stamp fits is = all_home site new (seat_home site pass new heap [] room seat within at seats counts stamp fits is)
+seat_back site pass new heap slot seat within at seats counts stamp fits is = all_home site new (seat_home site pass new heap [] slot seat within at seats counts stamp fits is)
 
 -- a pass of which a count was taken and put back
-pub count_back : (site : Site) (pass new : Pass) (out : List ℕ) (heap : ℕ) (room : Room) (x : Option Count) (count : Count) → heap < length site.rooms.items →
-    slice_get site.rooms.items heap ≡ Some room → new.seats ≡ pass.seats → new.counts.items ≡ slice_set (slice_set pass.counts.items heap x) heap (Some count) →
-    new.stamp ≤ LAST_STAMP → IsCountOf room (Some (Some count)) → IsPassBut site out pass → IsPassBut site out new
-count_back site pass new out heap room x count within at seats counts stamp fits is =
-    let long : length (slice_set pass.counts.items heap x) ≡ length site.rooms.items = length-set pass.counts.items heap x ∙ is.counts in
+pub count_back : (site : Site) (pass new : Pass) (out : List ℕ) (heap : ℕ) (slot : HeapSlot) (x : Option Count) (count : Count) → heap < length site.slots.items →
+    slice_get site.slots.items heap ≡ Some slot → new.seats ≡ pass.seats → new.counts.items ≡ slice_set (slice_set pass.counts.items heap x) heap (Some count) →
+    new.stamp ≤ LAST_STAMP → IsCountOf slot (Some (Some count)) → IsPassBut site out pass → IsPassBut site out new
+count_back site pass new out heap slot x count within at seats counts stamp fits is =
+    let long : length (slice_set pass.counts.items heap x) ≡ length site.slots.items = length-set pass.counts.items heap x ∙ is.counts in
     let here : slice_get new.counts.items heap ≡ Some (Some count) =
     ap (λ l. slice_get l heap) counts ∙ slice_get-set_same (slice_set pass.counts.items heap x) heap (Some count) (subst (λ n. heap < n) (sym long) within) in
     let there : (h : ℕ) → (h ≡ heap → ⊥) → slice_get new.counts.items h ≡ slice_get pass.counts.items h =
@@ -86,19 +86,19 @@ count_back site pass new out heap room x count within at seats counts stamp fits
     record {
       seats = ap (λ l. length l.items) seats ∙ is.seats;
       counts = ap length counts ∙ length-set (slice_set pass.counts.items heap x) heap (Some count) ∙ long;
-      rooms = is.rooms;
-      seat = λ h room other at. subst (λ l. IsSeatOf room (slice_get l.items h)) (sym seats) (is.seat h room other at);
+      slots = is.slots;
+      seat = λ h slot other at. subst (λ l. IsSeatOf slot (slice_get l.items h)) (sym seats) (is.seat h slot other at);
       count = λ h other_room at_h. elim (cases_eq h heap) [
         | inl same ↦ (
-            let one : Some room ≡ Some other_room = sym at ∙ ap (slice_get site.rooms.items) (sym same) ∙ at_h in
-            subst (λ r. IsCountOf r (slice_get new.counts.items h)) (same_Some room other_room one) (subst (IsCountOf room) (sym (ap (slice_get new.counts.items) same ∙ here)) fits))
+            let one : Some slot ≡ Some other_room = sym at ∙ ap (slice_get site.slots.items) (sym same) ∙ at_h in
+            subst (λ r. IsCountOf r (slice_get new.counts.items h)) (same_Some slot other_room one) (subst (IsCountOf slot) (sym (ap (slice_get new.counts.items) same ∙ here)) fits))
         | inr other ↦ subst (IsCountOf other_room) (sym (there h other)) (is.count h other_room at_h)
       ];
       stamp = stamp;
     }
 
 -- what a pass has seen, it has seen later
-pub seen_later : (o : Option Kept) → IsSeenLater o o
+pub seen_later : (o : Option LockedHeap) → IsSeenLater o o
 seen_later (Some x) = follows_itself x
 seen_later None = tt
 

@@ -6,7 +6,7 @@ use Rattle.std.proofs.lemmas.Option.{same_Some, slice_get_read}
 use Rattle.std.specs.Prelude.{slice_get}
 use Rattle.zq_spread.specs.Recorded.{kept_itself}
 use Rattle.zq_spread.specs.Several.{AreHeldOn, IsHeldOn, books_of, held_on_itself}
-use Rattle.zq_spread.specs.declared.kept.Kept.{Kept}
+use Rattle.zq_spread.specs.declared.locked_heap.LockedHeap.{LockedHeap}
 use Rattle.zq_ticketlock.specs.Seats.{value_of}
 use Rattle.zq_ticketlock.specs.declared.held.Held.{Held}
 
@@ -65,26 +65,26 @@ module _ {X : Type 0} where
       let long = length-reverse items in
       ap (λ l. reverse (set l i y)) (sym (reverse-reverse items)) ∙ ap reverse (set_turned (reverse items) p i y (omega (arith, within, long)) (omega (arith, is, long))) ∙ reverse-reverse (set (reverse items) p y)
 
-book_read : (helds : List (Held Kept)) (p : ℕ) (x : Held Kept) → slice_get helds p ≡ Some x → slice_get (books_of helds) p ≡ Some (value_of x).book
+book_read : (helds : List (Held LockedHeap)) (p : ℕ) (x : Held LockedHeap) → slice_get helds p ≡ Some x → slice_get (books_of helds) p ≡ Some (value_of x).book
 book_read [] p x is = absurd (cc)
-book_read (h ∷ helds) zero x is = ap (λ (y : Held Kept). Some (value_of y).book) (same_Some h x is)
+book_read (h ∷ helds) zero x is = ap (λ (y : Held LockedHeap). Some (value_of y).book) (same_Some h x is)
 book_read (h ∷ helds) (suc p) x is = book_read helds p x is
 
-book_set : (helds : List (Held Kept)) (p : ℕ) (y : Held Kept) → books_of (set helds p y) ≡ set (books_of helds) p (value_of y).book
+book_set : (helds : List (Held LockedHeap)) (p : ℕ) (y : Held LockedHeap) → books_of (set helds p y) ≡ set (books_of helds) p (value_of y).book
 book_set [] p y = refl
 book_set (h ∷ helds) zero y = refl
 book_set (h ∷ helds) (suc p) y = ap (λ l. (value_of h).book ∷ l) (book_set helds p y)
 
-held_set : (helds : List (Held Kept)) (p : ℕ) (x y : Held Kept) → slice_get helds p ≡ Some x → IsHeldOn x y → AreHeldOn helds (set helds p y)
+held_set : (helds : List (Held LockedHeap)) (p : ℕ) (x y : Held LockedHeap) → slice_get helds p ≡ Some x → IsHeldOn x y → AreHeldOn helds (set helds p y)
 held_set [] p x y is on = absurd (cc)
 held_set (h ∷ helds) zero x y is on = (subst (λ k. IsHeldOn k y) (sym (same_Some h x is)) on, held_on_itself helds)
 held_set (h ∷ helds) (suc p) x y is on = (record { lock = refl; was_given = refl; kept = kept_itself (value_of h); turns = refl }, held_set helds p x y is on)
 
-pub as_many : (items : List (Held Kept)) → length (books_of (reverse items)) ≡ length items
-as_many items = length-map (reverse items) (λ (held : Held Kept). (value_of held).book) ∙ length-reverse items
+pub as_many : (items : List (Held LockedHeap)) → length (books_of (reverse items)) ≡ length items
+as_many items = length-map (reverse items) (λ (held : Held LockedHeap). (value_of held).book) ∙ length-reverse items
 
 -- what is held at a place of the stack, and what comes of a change there
-module _ (items : List (Held Kept)) (place n : ℕ) (x : Held Kept) (many : n ≡ length items) (within : place < length items) (is : x ≡ get_or items (n - 1 - place) x) where
+module _ (items : List (Held LockedHeap)) (place n : ℕ) (x : Held LockedHeap) (many : n ≡ length items) (within : place < length items) (is : x ≡ get_or items (n - 1 - place) x) where
   index_is : n - 1 - place + place + 1 ≡ length items
   index_is = omega (arith, many, within)
 
@@ -94,8 +94,8 @@ module _ (items : List (Held Kept)) (place n : ℕ) (x : Held Kept) (many : n �
   pub book_stands : slice_get (books_of (reverse items)) place ≡ Some (value_of x).book
   book_stands = book_read (reverse items) place x held_stands
 
-  pub books_changed : (y : Held Kept) → books_of (reverse (set items (n - 1 - place) y)) ≡ set (books_of (reverse items)) place (value_of y).book
+  pub books_changed : (y : Held LockedHeap) → books_of (reverse (set items (n - 1 - place) y)) ≡ set (books_of (reverse items)) place (value_of y).book
   books_changed y = ap books_of (set_stacked items place (n - 1 - place) y within index_is) ∙ book_set (reverse items) place y
 
-  pub held_changed : (y : Held Kept) → IsHeldOn x y → AreHeldOn (reverse items) (reverse (set items (n - 1 - place) y))
+  pub held_changed : (y : Held LockedHeap) → IsHeldOn x y → AreHeldOn (reverse items) (reverse (set items (n - 1 - place) y))
   held_changed y on = subst (λ l. AreHeldOn (reverse items) l) (sym (set_stacked items place (n - 1 - place) y within index_is)) (held_set (reverse items) place x y held_stands on)

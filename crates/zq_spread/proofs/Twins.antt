@@ -4,19 +4,19 @@ use Rattle.std.proofs.Common.{ap, arith, refl, subst, sym, ◌∙◌}
 use Rattle.std.proofs.lemmas.List.{append-nil, append_assoc}
 use Rattle.std.specs.List.{list_any}
 use Rattle.std.specs.Prelude.{Bool, List, None, Option, Some, [], false, if◌then◌else◌, map, slice_get, slice_index, take, true, ℕ, ◌++◌, ◌+◌, ◌==◌, ◌∷◌, ◌≡◌, ◌||◌}
-use Rattle.zq_history.specs.Books.{Book, Made, Record}
-use Rattle.zq_history.specs.Reach.{IsWorked}
+use Rattle.zq_model.specs.Books.{Book, Made, Record}
+use Rattle.zq_model.specs.Reach.{IsWorked}
 use Rattle.zq_model.specs.Heaps.{heap_of}
 use Rattle.zq_model.specs.Image.{image_after}
 use Rattle.zq_model.specs.Operation.{operation_over}
 use Rattle.zq_model.specs.Queue.{queue_of}
 use Rattle.zq_model.specs.Rule.{Rule}
 use Rattle.zq_model.specs.Sets.{LAST}
-use Rattle.zq_moves.specs.Lent.{books_after, is_home, made, made_in, operation_in, queues_of}
-use Rattle.zq_moves.specs.Moves.{Move, Queues}
-use Rattle.zq_plans.specs.Plan.{Plan, plan_of}
-use Rattle.zq_plans.specs.Replies.{Reply}
-use Rattle.zq_plans.specs.Run.{ForCopies, ForMoves, ForReply, IsRun, IsWhyOf, LAST_COUNT, MayLack, Memory, Number, Runs, Takes, Want, cut_reply, is_worn, part, takes_of, whole}
+use Rattle.zq_model.specs.Lent.{books_after, is_home, made, made_in, operation_in, queues_of}
+use Rattle.zq_model.specs.Moves.{Move, Queues}
+use Rattle.zq_semantics.specs.Plan.{Plan, plan_of}
+use Rattle.zq_semantics.specs.Replies.{Reply}
+use Rattle.zq_semantics.specs.Run.{ForCopies, ForMoves, ForReply, IsRun, IsWhyOf, LAST_COUNT, MayLack, Memory, Number, Runs, Takes, Want, cut_reply, is_worn, part, takes_of, whole}
 use Rattle.zq_words.specs.Command.{Command}
 use Rattle.zq_words.specs.Words.{Word}
 

@@ -5,12 +5,12 @@ use Rattle.std.specs.Prelude.{IfSome, List, Some, [], length, map, max, slice_ge
 use Rattle.zq_commands.specs.Lending.{IsLending}
 use Rattle.zq_commands.specs.VecBooks.{lending_of, rule_in}
 use Rattle.zq_dots.specs.Rule.{rule_of}
-use Rattle.zq_history.specs.Books.{Book, Step, steps_of}
-use Rattle.zq_history.specs.Reach.{IsWorked}
+use Rattle.zq_model.specs.Books.{Book, Step, steps_of}
+use Rattle.zq_model.specs.Reach.{IsWorked}
 use Rattle.zq_model.specs.Bounded.{IsBounded}
 use Rattle.zq_model.specs.Sets.{IsIn}
-use Rattle.zq_moves.specs.Lent.{AreLent}
-use Rattle.zq_plans.specs.Run.{IsRun}
+use Rattle.zq_model.specs.Lent.{AreLent}
+use Rattle.zq_semantics.specs.Run.{IsRun}
 use Rattle.zq_spread.proofs.Commanded.{appended}
 use Rattle.zq_spread.proofs.ManyHeaps.{seen_same, steps_same, turns_same}
 use Rattle.zq_spread.proofs.LeftAsGiven.{worked_once}
@@ -19,12 +19,12 @@ use Rattle.zq_spread.specs.Calls.{AreWorkedIn, greatest_stamp, heaps_of}
 use Rattle.zq_spread.specs.Commanded.{AreAppended}
 use Rattle.zq_spread.specs.Dispatch.{HasHeldEach, IsCommandOver}
 use Rattle.zq_spread.specs.Passes.{IsRoomAt, seen_at, steps_at}
-use Rattle.zq_spread.specs.Rooms.{IsWorkedOn}
+use Rattle.zq_spread.specs.HeapSlots.{IsWorkedOn}
 use Rattle.zq_spread.specs.Several.{AreBegunAt, AreBooksAt, AreHeapsOf, AreHeldOn, HasEndedIn, IsBegunAt, IsHeldOn, IsSameOutside, MayEndIn, books_of}
 use Rattle.zq_spread.specs.Turns.{HasHeldOnce, HasTurn, turns_at}
-use Rattle.zq_spread.specs.declared.kept.Kept.{Kept}
+use Rattle.zq_spread.specs.declared.locked_heap.LockedHeap.{LockedHeap}
 use Rattle.zq_spread.specs.declared.pass.Pass.{Pass}
-use Rattle.zq_spread.specs.declared.room.Room.{Room}
+use Rattle.zq_spread.specs.declared.heap_slot.HeapSlot.{HeapSlot}
 use Rattle.zq_spread.specs.declared.site.Site.{Site}
 use Rattle.zq_ticketlock.specs.Seats.{entry, held_logged, value_of}
 use Rattle.zq_ticketlock.specs.declared.held.Held.{Held}
@@ -33,8 +33,8 @@ use Rattle.zq_words.specs.Words.{Word}
 
 -- ---- the books may be lent
 
-module _ (site : Site) (rooms : (h : ℕ) (room : Room) → slice_get site.rooms.items h ≡ Some room → IsRoomAt site h room) where
-  pub begun_books : (before : Pass) (stamp : ℕ) (heaps : List ℕ) (helds : List (Held Kept)) (found : List Kept) → AreBegunAt site before stamp heaps helds found → AreBooksAt site heaps (books_of helds)
+module _ (site : Site) (slots : (h : ℕ) (slot : HeapSlot) → slice_get site.slots.items h ≡ Some slot → IsRoomAt site h slot) where
+  pub begun_books : (before : Pass) (stamp : ℕ) (heaps : List ℕ) (helds : List (Held LockedHeap)) (found : List LockedHeap) → AreBegunAt site before stamp heaps helds found → AreBooksAt site heaps (books_of helds)
   begun_books before stamp [] [] [] are = tt
   begun_books before stamp [] [] (x ∷ found) are = absurd are
   begun_books before stamp [] (held ∷ helds) found are = absurd are
@@ -42,11 +42,11 @@ module _ (site : Site) (rooms : (h : ℕ) (room : Room) → slice_get site.rooms
   begun_books before stamp (h ∷ heaps) (held ∷ helds) [] are = absurd are
   begun_books before stamp (h ∷ heaps) (held ∷ helds) (x ∷ found) are =
       let is = are.0 in
-      let room = rooms h is.room is.at in (
+      let slot = slots h is.slot is.at in (
         record {
-          heap = is.worked.heap ∙ is.of.heap ∙ room.0;
-          heaps = is.worked.heaps ∙ is.of.heaps ∙ room.1;
-          rule = is.worked.rule ∙ is.of.rule ∙ ap rule_of room.2;
+          heap = is.worked.heap ∙ is.of.heap ∙ slot.0;
+          heaps = is.worked.heaps ∙ is.of.heaps ∙ slot.1;
+          rule = is.worked.rule ∙ is.of.rule ∙ ap rule_of slot.2;
           bounded = is.bounded;
         },
         begun_books before stamp heaps helds found are.1,
@@ -91,7 +91,7 @@ module _ (site : Site) (rooms : (h : ℕ) (room : Room) → slice_get site.rooms
   }
 
 -- each book has the call's stamp
-pub begun_dated : (site : Site) (before : Pass) (stamp : ℕ) (heaps : List ℕ) (helds : List (Held Kept)) (found : List Kept) (b : Book) → AreBegunAt site before stamp heaps helds found →
+pub begun_dated : (site : Site) (before : Pass) (stamp : ℕ) (heaps : List ℕ) (helds : List (Held LockedHeap)) (found : List LockedHeap) (b : Book) → AreBegunAt site before stamp heaps helds found →
     IsIn b (books_of helds) → b.stamp ≤ stamp
 begun_dated site before stamp [] [] [] b are here = absurd here
 begun_dated site before stamp [] [] (x ∷ found) b are here = absurd are
@@ -104,15 +104,15 @@ begun_dated site before stamp (h ∷ heaps) (held ∷ helds) (x ∷ found) b are
 
 -- ---- what the command made
 
-abbrev steps_each : (olds news : List (Held Kept)) → AreHeldOn olds news → List (List Step)
+abbrev steps_each : (olds news : List (Held LockedHeap)) → AreHeldOn olds news → List (List Step)
 steps_each [] [] on = []
 steps_each [] (y ∷ news) on = []
 steps_each (x ∷ olds) [] on = []
 steps_each (x ∷ olds) (y ∷ news) on = steps_of on.0.kept.1.records ∷ steps_each olds news on.1
 
 module _ (site : Site) (before : Pass) (stamp : ℕ) where
-  begun_twins : (heaps : List ℕ) (helds : List (Held Kept)) (found : List Kept) → AreBegunAt site before stamp heaps helds found →
-      AreTwins (books_of helds) (map (λ (x : Kept). x.book) found) (books_of helds) (map (λ (x : Kept). x.book) found)
+  begun_twins : (heaps : List ℕ) (helds : List (Held LockedHeap)) (found : List LockedHeap) → AreBegunAt site before stamp heaps helds found →
+      AreTwins (books_of helds) (map (λ (x : LockedHeap). x.book) found) (books_of helds) (map (λ (x : LockedHeap). x.book) found)
   begun_twins [] [] [] are = tt
   begun_twins [] [] (x ∷ found) are = absurd are
   begun_twins [] (held ∷ helds) found are = absurd are
@@ -120,8 +120,8 @@ module _ (site : Site) (before : Pass) (stamp : ℕ) where
   begun_twins (h ∷ heaps) (held ∷ helds) [] are = absurd are
   begun_twins (h ∷ heaps) (held ∷ helds) (x ∷ found) are = (begun_twin (value_of held).book x.book stamp are.0.worked, begun_twins heaps helds found are.1)
 
-  appended_each : (heaps : List ℕ) (olds news : List (Held Kept)) (found : List Kept) (left : List Book) → AreBegunAt site before stamp heaps olds found → (on : AreHeldOn olds news) →
-      AreTwins (books_of olds) (map (λ (x : Kept). x.book) found) (books_of news) left → AreAppended left (map (λ (x : Kept). x.book) found) (steps_each olds news on)
+  appended_each : (heaps : List ℕ) (olds news : List (Held LockedHeap)) (found : List LockedHeap) (left : List Book) → AreBegunAt site before stamp heaps olds found → (on : AreHeldOn olds news) →
+      AreTwins (books_of olds) (map (λ (x : LockedHeap). x.book) found) (books_of news) left → AreAppended left (map (λ (x : LockedHeap). x.book) found) (steps_each olds news on)
   appended_each [] [] [] [] [] are on twins = tt
   appended_each [] [] [] [] (l ∷ left) are on twins = absurd twins
   appended_each [] [] news (x ∷ found) left are on twins = absurd are
@@ -137,7 +137,7 @@ module _ (site : Site) (before : Pass) (stamp : ℕ) where
   )
 
   -- the own work of the call in one heap
-  work_of : (h : ℕ) (held y : Held Kept) (x : Kept) → IsBegunAt site before stamp h held x → (on : IsHeldOn held y) → (value_of y).book.stamp ≤ stamp →
+  work_of : (h : ℕ) (held y : Held LockedHeap) (x : LockedHeap) → IsBegunAt site before stamp h held x → (on : IsHeldOn held y) → (value_of y).book.stamp ≤ stamp →
       IsWorked (value_of y).book x.book stamp (steps_of on.kept.1.records)
   work_of h held y x is on high =
       let low = on.kept.1.stamp in
@@ -147,7 +147,7 @@ module _ (site : Site) (before : Pass) (stamp : ℕ) where
       (on.kept.1.worked x.book [] (subst (λ s. IsWorked (value_of held).book x.book s []) (sym same) is.worked))
 
   -- a heap may be ended where the command has worked
-  pub may_end_each : (heaps : List ℕ) (olds news : List (Held Kept)) (found : List Kept) → AreBegunAt site before stamp heaps olds found → AreHeldOn olds news →
+  pub may_end_each : (heaps : List ℕ) (olds news : List (Held LockedHeap)) (found : List LockedHeap) → AreBegunAt site before stamp heaps olds found → AreHeldOn olds news →
       ((b : Book) → IsIn b (books_of news) → b.stamp ≤ stamp) → MayEndIn site heaps news
   may_end_each [] [] [] found are on low = tt
   may_end_each [] [] (y ∷ news) found are on low = absurd on
@@ -157,10 +157,10 @@ module _ (site : Site) (before : Pass) (stamp : ℕ) where
   may_end_each (h ∷ heaps) (held ∷ olds) [] (x ∷ found) are on low = absurd on
   may_end_each (h ∷ heaps) (held ∷ olds) (y ∷ news) (x ∷ found) are on low = (
     record {
-      room = are.0.room;
+      slot = are.0.slot;
       at = are.0.at;
       lock = on.0.lock ∙ are.0.lock;
-      worked = subst (λ o. IfSome o (IsWorkedOn are.0.room (value_of y))) (sym (on.0.was_given ∙ are.0.was_given))
+      worked = subst (λ o. IfSome o (IsWorkedOn are.0.slot (value_of y))) (sym (on.0.was_given ∙ are.0.was_given))
           (record {
             home = are.0.home;
             of = are.0.of;
@@ -175,9 +175,9 @@ module _ (site : Site) (before : Pass) (stamp : ℕ) where
   )
 
   -- and where it ended, the pass has seen what the command left
-  ended_each : (mid after : Pass) (heaps : List ℕ) (olds news : List (Held Kept)) (found : List Kept) → AreBegunAt site before stamp heaps olds found → (on : AreHeldOn olds news) →
+  ended_each : (mid after : Pass) (heaps : List ℕ) (olds news : List (Held LockedHeap)) (found : List LockedHeap) → AreBegunAt site before stamp heaps olds found → (on : AreHeldOn olds news) →
       ((b : Book) → IsIn b (books_of news) → b.stamp ≤ stamp) → after.stamp ≡ stamp → ((k : ℕ) → steps_at mid k ≡ steps_at before k) → HasEndedIn mid after heaps news →
-      (left : List Kept) × AreWorkedIn before after heaps found left (steps_each olds news on) × HasHeldEach before after heaps
+      (left : List LockedHeap) × AreWorkedIn before after heaps found left (steps_each olds news on) × HasHeldEach before after heaps
   ended_each mid after [] [] [] [] are on low dated steps ended = ([], tt, λ k none. absurd none)
   ended_each mid after [] [] [] (x ∷ found) are on low dated steps ended = absurd are
   ended_each mid after [] [] (y ∷ news) found are on low dated steps ended = absurd on
@@ -190,10 +190,10 @@ module _ (site : Site) (before : Pass) (stamp : ℕ) where
       let own : List Step = steps_of on.0.kept.1.records in
       let work : IsWorked (value_of y).book x.book stamp own = work_of h held y x are.0 on.0 (low (value_of y).book (inl refl)) in
       let counted : steps_at after h + x.book.count ≡ steps_at mid h + (value_of y).book.count =
-      subst (λ o. IfSome o (λ (z : Kept). steps_at after h + z.book.count ≡ steps_at mid h + (value_of y).book.count)) (on.0.was_given ∙ are.0.was_given) ended.0.steps in
+      subst (λ o. IfSome o (λ (z : LockedHeap). steps_at after h + z.book.count ≡ steps_at mid h + (value_of y).book.count)) (on.0.was_given ∙ are.0.was_given) ended.0.steps in
       let turn : HasTurn x ended.0.left (turns_at after h) (turns_at before h) =
       subst (λ l. HasTurn x ended.0.left (turns_at after h) l) (on.0.turns ∙ are.0.turns)
-      (subst (λ o. IfSome o (λ (z : Kept). HasTurn z ended.0.left (turns_at after h) (held_logged y))) (on.0.was_given ∙ are.0.was_given) ended.0.turn) in (
+      (subst (λ o. IfSome o (λ (z : LockedHeap). HasTurn z ended.0.left (turns_at after h) (held_logged y))) (on.0.was_given ∙ are.0.was_given) ended.0.turn) in (
         ended.0.left ∷ rest.0,
         (
           record {
@@ -209,14 +209,14 @@ module _ (site : Site) (before : Pass) (stamp : ℕ) where
       )
 
   -- so it is a call
-  pub called_over : (command : Command) (reply : Word) (mid after : Pass) (heaps : List ℕ) (olds news : List (Held Kept)) (found : List Kept) → AreBegunAt site before stamp heaps olds found →
+  pub called_over : (command : Command) (reply : Word) (mid after : Pass) (heaps : List ℕ) (olds news : List (Held LockedHeap)) (found : List LockedHeap) → AreBegunAt site before stamp heaps olds found →
       (on : AreHeldOn olds news) → ((b : Book) → IsIn b (books_of news) → b.stamp ≤ stamp) → after.stamp ≡ stamp → IsSameOutside heaps before mid → HasEndedIn mid after heaps news →
       ((k : ℕ) → (IsIn k heaps → ⊥) → (seen_at after k ≡ seen_at mid k) × (steps_at after k ≡ steps_at mid k) × (turns_at after k ≡ turns_at mid k)) → stamp ≡ max before.stamp (greatest_stamp found) + 1 →
       IsRun (rule_of site.rule) site.number stamp command (books_of olds) (books_of news) reply → IsCommandOver site command reply before after heaps found
   called_over command reply mid after heaps olds news found are on low dated outside ended others next ran =
       let steps = λ (k : ℕ). steps_same heaps before mid k outside in
       let each = ended_each mid after heaps olds news found are on low dated steps ended in
-      let other = run_twins (rule_of site.rule) site.number stamp command (books_of olds) (map (λ (x : Kept). x.book) found) (books_of news) reply (begun_twins heaps olds found are) ran in (
+      let other = run_twins (rule_of site.rule) site.number stamp command (books_of olds) (map (λ (x : LockedHeap). x.book) found) (books_of news) reply (begun_twins heaps olds found are) ran in (
         record {
           found = found;
           left = each.0;
@@ -226,7 +226,7 @@ module _ (site : Site) (before : Pass) (stamp : ℕ) where
           others = λ k out. let stays = others k out in (stays.0 ∙ seen_same heaps before mid k outside out, stays.1 ∙ steps k, stays.2 ∙ turns_same heaps before mid k outside out);
           done = record {
             left = other.0;
-            ran = subst (λ n. IsRun (rule_of site.rule) site.number n command (map (λ (x : Kept). x.book) found) other.0 reply) (sym dated) other.1;
+            ran = subst (λ n. IsRun (rule_of site.rule) site.number n command (map (λ (x : LockedHeap). x.book) found) other.0 reply) (sym dated) other.1;
             appended = appended_each heaps olds news found other.0 are on other.2;
           };
         },

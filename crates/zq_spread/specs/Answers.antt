@@ -3,8 +3,8 @@
 use Rattle.std.specs.List.{All}
 use Rattle.std.specs.Prelude.{Err, List, Ok, Result, [], map, not, ℕ, ◌∷◌, ◌≡◌, ◌≢◌}
 use Rattle.zq_dots.specs.Placed.{Placed}
-use Rattle.zq_history.specs.Books.{Book, Merged, Step, operations_of}
-use Rattle.zq_history.specs.Reach.{IsWorked}
+use Rattle.zq_model.specs.Books.{Book, Merged, Step, operations_of}
+use Rattle.zq_model.specs.Reach.{IsWorked}
 use Rattle.zq_journal.specs.Answers.{IfOps, is_too_old}
 use Rattle.zq_journal.specs.Books.{IsPeer, LAST_STAMP, base_of, state_of, steps_taken}
 use Rattle.zq_journal.specs.Records.{placed_at}

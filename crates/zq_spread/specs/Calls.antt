@@ -3,22 +3,22 @@
 use Rattle.std.specs.Prelude.{List, Some, [], length, map, max, ℕ, ◌+◌, ◌∷◌, ◌≡◌}
 use Rattle.zq_dots.specs.Placed.{Placed}
 use Rattle.zq_dots.specs.Rule.{rule_of}
-use Rattle.zq_history.specs.Books.{Book, Step}
-use Rattle.zq_history.specs.Reach.{IsWorked}
+use Rattle.zq_model.specs.Books.{Book, Step}
+use Rattle.zq_model.specs.Reach.{IsWorked}
 use Rattle.zq_model.specs.Heaps.{heap_of}
 use Rattle.zq_model.specs.Sets.{IsIn}
 use Rattle.zq_shard.specs.Shard.{HeapImage}
-use Rattle.zq_spread.specs.Kept.{Follows}
+use Rattle.zq_spread.specs.LockedHeaps.{Follows}
 use Rattle.zq_spread.specs.Passes.{seen_at, steps_at}
 use Rattle.zq_spread.specs.Turns.{IsTurnAfter, turns_at}
-use Rattle.zq_spread.specs.declared.kept.Kept.{Kept}
+use Rattle.zq_spread.specs.declared.locked_heap.LockedHeap.{LockedHeap}
 use Rattle.zq_spread.specs.declared.pass.Pass.{Pass}
 use Rattle.zq_spread.specs.declared.site.Site.{Site}
 use Rattle.zq_ticketlock.specs.Steps.{FollowsSeen}
 
 -- the number of its heaps
 abbrev pub heaps_of : Site → ℕ
-heaps_of site = length site.rooms.items
+heaps_of site = length site.slots.items
 
 -- the operation was made among as many heaps as the site's, and lies in its own
 pub record IsOfSite (site : Site) (p : Placed) : Type 0 where
@@ -32,7 +32,7 @@ pub record IsLikeSite (site : Site) (s : HeapImage) : Type 0 where
 
 -- a call's part in one heap: what it found there, which follows what the pass had seen, its own steps on that, and what it left, which the pass has then seen;
 -- what it found is what the lock gave, and what it left is what it put home
-pub record IsWorkedIn (before after : Pass) (h : ℕ) (found left : Kept) (steps : List Step) : Type 0 where
+pub record IsWorkedIn (before after : Pass) (h : ℕ) (found left : LockedHeap) (steps : List Step) : Type 0 where
   pub follows : FollowsSeen Follows found (seen_at before h)
   pub worked : IsWorked left.book found.book after.stamp steps
   pub seen : seen_at after h ≡ Some left
@@ -40,12 +40,12 @@ pub record IsWorkedIn (before after : Pass) (h : ℕ) (found left : Kept) (steps
   pub turn : IsTurnAfter found left (turns_at after h) (turns_at before h)
 
 -- its parts in each of its heaps
-abbrev pub AreWorkedIn : Pass → Pass → List ℕ → List Kept → List Kept → List (List Step) → Type 0
+abbrev pub AreWorkedIn : Pass → Pass → List ℕ → List LockedHeap → List LockedHeap → List (List Step) → Type 0
 AreWorkedIn before after [] [] [] [] = Unit {0}
 AreWorkedIn before after (h ∷ heaps) (x ∷ found) (y ∷ left) (ss ∷ steps) = IsWorkedIn before after h x y ss × AreWorkedIn before after heaps found left steps
 AreWorkedIn before after heaps found left steps = ⊥
 
-abbrev pub greatest_stamp : List Kept → ℕ
+abbrev pub greatest_stamp : List LockedHeap → ℕ
 greatest_stamp [] = 0
 greatest_stamp (x ∷ found) = max x.book.stamp (greatest_stamp found)
 
@@ -53,8 +53,8 @@ greatest_stamp (x ∷ found) = max x.book.stamp (greatest_stamp found)
 -- stamp; the pass then has seen what was left there, and of other heaps what it had, and it has held no other; the answer and the steps are what the call does
 -- over the books found
 pub record IsCall (Does : List Book → List (List Step) → Type 0) (before after : Pass) (heaps : List ℕ) : Type 0 where
-  pub found : List Kept
-  pub left : List Kept
+  pub found : List LockedHeap
+  pub left : List LockedHeap
   pub steps : List (List Step)
   pub next : after.stamp ≡ max before.stamp (greatest_stamp found) + 1
   pub worked : AreWorkedIn before after heaps found left steps
@@ -63,4 +63,4 @@ pub record IsCall (Does : List Book → List (List Step) → Type 0) (before aft
 
 -- the pass has seen a book of this heap with this property
 abbrev pub HasSeenBook : Pass → ℕ → (Book → Type 0) → Type 0
-HasSeenBook pass h P = (x : Kept) × (seen_at pass h ≡ Some x) × P x.book
+HasSeenBook pass h P = (x : LockedHeap) × (seen_at pass h ≡ Some x) × P x.book

@@ -1,10 +1,10 @@
 -- What a command answers and does over the books that a call holds.
 
 use Rattle.std.specs.Prelude.{List, [], ℕ, ◌++◌, ◌∷◌, ◌≡◌}
-use Rattle.zq_history.specs.Books.{Book, Record, Step, steps_of}
+use Rattle.zq_model.specs.Books.{Book, Record, Step, steps_of}
 use Rattle.zq_model.specs.Rule.{Rule}
-use Rattle.zq_plans.specs.Replies.{bytes_of}
-use Rattle.zq_plans.specs.Run.{IsRun, Memory, Number, cut_error}
+use Rattle.zq_semantics.specs.Replies.{bytes_of}
+use Rattle.zq_semantics.specs.Run.{IsRun, Memory, Number, cut_error}
 use Rattle.zq_words.specs.Command.{Command}
 use Rattle.zq_words.specs.Words.{Word}
 

@@ -4,25 +4,25 @@ use Rattle.std.specs.List.{AllZip}
 use Rattle.std.specs.Prelude.{All, List, Option, Some, None, [], length, slice_get, sum_by, ℕ, ◌+◌, ◌∷◌, ◌≡◌, ◌≤◌}
 use Rattle.zq_spread.specs.Passes.{IsCountOf, IsPassOf, IsSeenLater, seen_at, steps_at}
 use Rattle.zq_spread.specs.Turns.{IsLeftAsGiven, turns_at}
-use Rattle.zq_spread.specs.declared.kept.Kept.{Kept}
+use Rattle.zq_spread.specs.declared.locked_heap.LockedHeap.{LockedHeap}
 use Rattle.zq_spread.specs.declared.pass.Pass.{Pass}
-use Rattle.zq_spread.specs.declared.room.Room.{Room}
+use Rattle.zq_spread.specs.declared.heap_slot.HeapSlot.{HeapSlot}
 use Rattle.zq_spread.specs.declared.site.Site.{Site}
-use Rattle.zq_tally.specs.declared.view.TheConstants.{PARTS}
+use Rattle.zq_tally.specs.Limits.{ALL_PARTS}
 
-abbrev pub opening_of : Option Room → ℕ
-opening_of (Some room) = room.opening
+abbrev pub opening_of : Option HeapSlot → ℕ
+opening_of (Some slot) = slot.opening
 opening_of None = 0
 
 -- the count that the book of a heap had when the site was made
 abbrev pub opening_at : Site → ℕ → ℕ
-opening_at site h = opening_of (slice_get site.rooms.items h)
+opening_at site h = opening_of (slice_get site.slots.items h)
 
 -- these are all the passes that the site was made with
 pub record AreAllPasses (site : Site) (passes : List Pass) : Type 0 where
   pub some : 1 ≤ length passes
   pub each : All (IsPassOf site) passes
-  pub all : (h : ℕ) (room : Room) → slice_get site.rooms.items h ≡ Some room → length passes + room.spare ≡ PARTS
+  pub all : (h : ℕ) (slot : HeapSlot) → slice_get site.slots.items h ≡ Some slot → length passes + slot.spare ≡ ALL_PARTS
 
 -- the steps of all these passes in a heap
 abbrev pub steps_of_all : ℕ → List Pass → ℕ
@@ -52,13 +52,13 @@ IsSeenByFirst heap before after = ⊥
 abbrev pub HasSeenAll : Site → ℕ → List Pass → Type 0
 HasSeenAll site heap [] = ⊥
 HasSeenAll site heap (first ∷ others) =
-    (kept : Kept) × (seen_at first heap ≡ Some kept) × (kept.book.count ≡ opening_at site heap + steps_of_all heap (first ∷ others))
+    (kept : LockedHeap) × (seen_at first heap ≡ Some kept) × (kept.book.count ≡ opening_at site heap + steps_of_all heap (first ∷ others))
 
 -- the pass's count in the heap was taken out and put back
-pub record IsCountBack (room : Room) (heap : ℕ) (before after : Pass) : Type 0 where
+pub record IsCountBack (slot : HeapSlot) (heap : ℕ) (before after : Pass) : Type 0 where
   pub seats : after.seats ≡ before.seats
   pub stamp : after.stamp ≡ before.stamp
   pub number : length after.counts.items ≡ length before.counts.items
-  pub count : IsCountOf room (slice_get after.counts.items heap)
+  pub count : IsCountOf slot (slice_get after.counts.items heap)
   pub steps : (k : ℕ) → steps_at after k ≡ steps_at before k
   pub rest : (k : ℕ) → (k ≡ heap → ⊥) → slice_get after.counts.items k ≡ slice_get before.counts.items k

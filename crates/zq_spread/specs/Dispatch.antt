@@ -3,16 +3,16 @@
 use Rattle.std.specs.List.{range_with_len}
 use Rattle.std.specs.Prelude.{Bool, List, [], length, map, true, ℕ, ◌∷◌, ◌≡◌, ◌≤◌, ◌⊎◌}
 use Rattle.zq_dots.specs.Rule.{rule_of}
-use Rattle.zq_history.specs.Books.{Book, Step}
+use Rattle.zq_model.specs.Books.{Book, Step}
 use Rattle.zq_model.specs.Rule.{Rule}
 use Rattle.zq_model.specs.Sets.{IsIn}
-use Rattle.zq_moves.specs.Lent.{queues_of}
+use Rattle.zq_model.specs.Lent.{queues_of}
 use Rattle.zq_spread.specs.Calls.{IsCall, heaps_of}
 use Rattle.zq_spread.specs.Commanded.{IsAnswered, short_reply, worn_reply}
 use Rattle.zq_spread.specs.Drawn.{drawn}
 use Rattle.zq_spread.specs.Turns.{HasHeldOnce}
 use Rattle.zq_spread.specs.Worn.{IsBusyIn, IsPassedOver, IsWornIn}
-use Rattle.zq_spread.specs.declared.kept.Kept.{Kept}
+use Rattle.zq_spread.specs.declared.locked_heap.LockedHeap.{LockedHeap}
 use Rattle.zq_spread.specs.declared.pass.Pass.{Pass}
 use Rattle.zq_spread.specs.declared.site.Site.{Site}
 use Rattle.zq_ticketlock.specs.declared.turns.Entry.{Entry}
@@ -60,22 +60,22 @@ abbrev pub HasHeldEach : Pass → Pass → List ℕ → Type 0
 HasHeldEach before after heaps = (h : ℕ) → IsIn h heaps → HasHeldOnce before after h
 
 -- such a call, which has found these values there
-abbrev pub IsCommandOver : Site → Command → Word → Pass → Pass → List ℕ → List Kept → Type 0
+abbrev pub IsCommandOver : Site → Command → Word → Pass → Pass → List ℕ → List LockedHeap → Type 0
 IsCommandOver site command reply before after heaps found = (call : IsCommand site command reply before after heaps) × (call.found ≡ found) × HasHeldEach before after heaps
 
 -- such a call, where there was enough from the first, or one of the books that it found has a member of the key
 abbrev pub HasAnswered : Site → Command → List ℕ → Bool → Word → Pass → Pass → List ℕ → Type 0
 HasAnswered site command key enough reply before after heaps =
-    (call : IsCommand site command reply before after heaps) × ((enough ≡ true) ⊎ HasQueued (rule_of site.rule) key (map (λ (x : Kept). x.book) call.found)) × HasHeldEach before after heaps
+    (call : IsCommand site command reply before after heaps) × ((enough ≡ true) ⊎ HasQueued (rule_of site.rule) key (map (λ (x : LockedHeap). x.book) call.found)) × HasHeldEach before after heaps
 
 -- ZPOPNEAR has held each of these heaps twice: first its book had no member of the key, and was let go as it was given
 abbrev pub HasPassedOver : Command → Pass → Pass → List ℕ → Type 0
-HasPassedOver (Zpopnear key) before after heaps = (h : ℕ) → IsIn h heaps → (last : Entry Kept) × IsPassedOver key (last ∷ []) before after h
+HasPassedOver (Zpopnear key) before after heaps = (h : ℕ) → IsIn h heaps → (last : Entry LockedHeap) × IsPassedOver key (last ∷ []) before after h
 HasPassedOver command before after heaps = ⊥
 
 -- the same, but that it may not have come to hold each of them again
 abbrev pub HasFoundNone : Command → Pass → Pass → List ℕ → Type 0
-HasFoundNone (Zpopnear key) before after heaps = (h : ℕ) → IsIn h heaps → (later : List (Entry Kept)) × IsPassedOver key later before after h
+HasFoundNone (Zpopnear key) before after heaps = (h : ℕ) → IsIn h heaps → (later : List (Entry LockedHeap)) × IsPassedOver key later before after h
 HasFoundNone command before after heaps = ⊥
 
 -- a call of ZPOPNEAR in the heaps that it drew, where one of them has a member of the key, or in all, where it has passed over those; or the refusal of the one

@@ -1,21 +1,21 @@
 -- A heap that a pass holds.
 
 use Rattle.std.specs.Prelude.{Some, [], slice_get, ℕ, ◌<◌, ◌∷◌, ◌≡◌}
-use Rattle.zq_history.specs.Books.{Book}
+use Rattle.zq_model.specs.Books.{Book}
 use Rattle.zq_spread.specs.Calls.{heaps_of}
-use Rattle.zq_spread.specs.Kept.{Follows, IsAtHome}
+use Rattle.zq_spread.specs.LockedHeaps.{Follows, IsAtHome}
 use Rattle.zq_spread.specs.Passes.{IsPassBut, seen_at, steps_at}
-use Rattle.zq_spread.specs.Rooms.{IsOf}
+use Rattle.zq_spread.specs.HeapSlots.{IsOf}
 use Rattle.zq_spread.specs.Turns.{HasTurn, turns_at}
 use Rattle.zq_spread.specs.declared.holdings.Holding.{Holding}
-use Rattle.zq_spread.specs.declared.kept.Kept.{Kept}
+use Rattle.zq_spread.specs.declared.locked_heap.LockedHeap.{LockedHeap}
 use Rattle.zq_spread.specs.declared.pass.Pass.{Pass}
-use Rattle.zq_spread.specs.declared.room.Room.{Room}
+use Rattle.zq_spread.specs.declared.heap_slot.HeapSlot.{HeapSlot}
 use Rattle.zq_spread.specs.declared.site.Site.{Site}
 use Rattle.zq_ticketlock.specs.Seats.{given, held_lock, held_logged, id_of, value_of}
 use Rattle.zq_ticketlock.specs.Steps.{FollowsSeen}
 
-abbrev pub kept_held : Holding → Kept
+abbrev pub kept_held : Holding → LockedHeap
 kept_held holding = value_of holding.held
 
 -- the book of the heap that is held
@@ -26,8 +26,8 @@ book_held holding = (kept_held holding).book
 pub record IsHoldingOf (site : Site) (holding : Holding) : Type 0 where
   pub heap : holding.heap < heaps_of site
   pub pass : IsPassBut site (holding.heap ∷ []) holding.pass
-  pub lock : (room : Room) → slice_get site.rooms.items holding.heap ≡ Some room → held_lock holding.held ≡ id_of room.lock
-  pub of : (room : Room) → slice_get site.rooms.items holding.heap ≡ Some room → IsOf room (kept_held holding)
+  pub lock : (slot : HeapSlot) → slice_get site.slots.items holding.heap ≡ Some slot → held_lock holding.held ≡ id_of slot.lock
+  pub of : (slot : HeapSlot) → slice_get site.slots.items holding.heap ≡ Some slot → IsOf slot (kept_held holding)
   pub home : IsAtHome (kept_held holding)
   pub given : given holding.held ≡ Some (kept_held holding)
 

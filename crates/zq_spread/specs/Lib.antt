@@ -1,5 +1,5 @@
-pub mod Kept
-pub mod Rooms
+pub mod LockedHeaps
+pub mod HeapSlots
 pub mod Turns
 pub mod Passes
 pub mod Answers
@@ -9,7 +9,7 @@ pub mod Recorded
 pub mod Commanded
 pub mod Companies
 pub mod Makers
-pub mod Grounds
+pub mod SiteBuilders
 pub mod Meetings
 pub mod Drawn
 pub mod Dispatch

@@ -2,13 +2,13 @@
 
 use Rattle.std.specs.Prelude.{List, Some, length, slice_get, ℕ, ◌≡◌, ◌≤◌}
 use Rattle.zq_dots.specs.Rule.{rule_of}
-use Rattle.zq_history.specs.Books.{Book}
+use Rattle.zq_model.specs.Books.{Book}
 use Rattle.zq_journal.specs.Books.{opened}
 use Rattle.zq_model.specs.Image.{empty_image}
 use Rattle.zq_model.specs.Rule.{Rule}
 use Rattle.zq_spread.specs.Companies.{AreAllPasses, opening_at}
 use Rattle.zq_spread.specs.Passes.{seen_at, steps_at}
-use Rattle.zq_spread.specs.declared.kept.Kept.{Kept}
+use Rattle.zq_spread.specs.declared.locked_heap.LockedHeap.{LockedHeap}
 use Rattle.zq_spread.specs.declared.pass.Pass.{Pass}
 use Rattle.zq_spread.specs.declared.site.Site.{Site}
 
@@ -31,12 +31,12 @@ pub record AreEmptyBooks (heaps : ℕ) (rule : Rule) (books : List Book) : Type 
 pub record IsNewPass (books : List Book) (pass : Pass) : Type 0 where
   pub stamp : pass.stamp ≡ 0
   pub steps : (h : ℕ) → steps_at pass h ≡ 0
-  pub seen : (h : ℕ) (book : Book) → slice_get books h ≡ Some book → (kept : Kept) × (seen_at pass h ≡ Some kept) × (kept.book ≡ book)
+  pub seen : (h : ℕ) (book : Book) → slice_get books h ≡ Some book → (kept : LockedHeap) × (seen_at pass h ≡ Some kept) × (kept.book ≡ book)
 
 -- a new site of this number over these books, with all its passes
 pub record IsMade (number : ℕ) (books : List Book) (n : ℕ) (site : Site) (passes : List Pass) : Type 0 where
   pub number_is : site.number ≡ number
-  pub heaps : length site.rooms.items ≡ length books
+  pub heaps : length site.slots.items ≡ length books
   pub rule : (h : ℕ) (book : Book) → slice_get books h ≡ Some book → rule_of site.rule ≡ book.rule
   pub opening : (h : ℕ) (book : Book) → slice_get books h ≡ Some book → opening_at site h ≡ book.count
   pub passes_are : length passes ≡ n

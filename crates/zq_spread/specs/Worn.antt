@@ -8,10 +8,10 @@ use Rattle.zq_spread.specs.Passes.{IsStopped, seen_at}
 use Rattle.zq_spread.specs.Turns.{turns_at}
 use Rattle.zq_spread.specs.declared.faults.HoldFault.{HoldFault}
 use Rattle.zq_spread.specs.declared.faults.HoldFault.TheVariants as hold
-use Rattle.zq_spread.specs.declared.kept.Kept.{Kept}
+use Rattle.zq_spread.specs.declared.locked_heap.LockedHeap.{LockedHeap}
 use Rattle.zq_spread.specs.declared.pass.Pass.{Pass}
-use Rattle.zq_spread.specs.declared.sought.Stop.{Stop}
-use Rattle.zq_spread.specs.declared.sought.Stop.TheVariants as stop
+use Rattle.zq_spread.specs.declared.lock_scan.Stop.{Stop}
+use Rattle.zq_spread.specs.declared.lock_scan.Stop.TheVariants as stop
 use Rattle.zq_ticketlock.specs.Limits.{last_ticket}
 use Rattle.zq_ticketlock.specs.Seats.{entry, reached, served}
 use Rattle.zq_ticketlock.specs.declared.errors.TryFault.{TryFault}
@@ -19,11 +19,11 @@ use Rattle.zq_ticketlock.specs.declared.errors.TryFault.TheVariants as try
 use Rattle.zq_ticketlock.specs.declared.seat.Seat.{Seat}
 use Rattle.zq_ticketlock.specs.declared.turns.Entry.{Entry}
 
-abbrev pub reached_in : Option (Option (Seat Kept)) → ℕ
+abbrev pub reached_in : Option (Option (Seat LockedHeap)) → ℕ
 reached_in (Some (Some seat)) = reached seat
 reached_in other = 0
 
-abbrev pub served_in : Option (Option (Seat Kept)) → ℕ
+abbrev pub served_in : Option (Option (Seat LockedHeap)) → ℕ
 served_in (Some (Some seat)) = served seat
 served_in other = 0
 
@@ -43,8 +43,8 @@ HasFoundWorn heap (first ∷ others) = last_ticket ≤ reached_at first heap
 -- ---- what is found
 
 -- all tickets of a lock up to this one are drawn, and that is the last; or its book, as it was seen, has the last stamp
-abbrev pub IsAtLast : ℕ → Option Kept → Type 0
-IsAtLast reached seen = (last_ticket ≤ reached) ⊎ ((x : Kept) × (seen ≡ Some x) × (LAST_STAMP ≤ x.book.stamp))
+abbrev pub IsAtLast : ℕ → Option LockedHeap → Type 0
+IsAtLast reached seen = (last_ticket ≤ reached) ⊎ ((x : LockedHeap) × (seen ≡ Some x) × (LAST_STAMP ≤ x.book.stamp))
 
 -- somebody else has drawn the ticket of a lock that is served, which is not the last
 abbrev pub IsHeldElsewhere : ℕ → ℕ → Type 0
@@ -84,7 +84,7 @@ hold_of try.Worn = hold.Worn
 hold_of try.Busy = hold.Busy
 
 -- why a seat of a lock, which has found these tickets and seen this, begins no call
-abbrev pub IsUnbegun : TryFault → ℕ → ℕ → ℕ → Option Kept → Type 0
+abbrev pub IsUnbegun : TryFault → ℕ → ℕ → ℕ → Option LockedHeap → Type 0
 IsUnbegun try.Worn floor served reached seen = (LAST_STAMP ≤ floor) ⊎ IsAtLast reached seen
 IsUnbegun try.Busy floor served reached seen = IsHeldElsewhere served reached
 
@@ -97,8 +97,8 @@ IsUnlocked stop.Nothing served reached = ⊥
 -- ---- heaps that ZPOPNEAR passes over
 
 -- the heap was held, its book had no member of the key, and it was let go as it was given; these holds came later
-pub record IsPassedOver (key : List ℕ) (later : List (Entry Kept)) (before after : Pass) (h : ℕ) : Type 0 where
-  pub given : Kept
+pub record IsPassedOver (key : List ℕ) (later : List (Entry LockedHeap)) (before after : Pass) (h : ℕ) : Type 0 where
+  pub given : LockedHeap
   pub none : length (queue_at (state_of given.book) key) ≡ 0
   pub ticket : ℕ
   pub turns : turns_at after h ≡ later ++ entry ticket given given ∷ turns_at before h

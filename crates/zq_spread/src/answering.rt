@@ -1,7 +1,7 @@
 //! What a held heap answers to a command.
 ghost use Rattle.std.specs.Prelude.{◌≡◌, ◌≤◌, [], IsTrue};
-ghost use Rattle.zq_history.specs.Books.{Book as Books};
-ghost use Rattle.zq_history.specs.Reach.{IsWorked};
+ghost use Rattle.zq_model.specs.Books.{Book as Books};
+ghost use Rattle.zq_model.specs.Reach.{IsWorked};
 ghost use Rattle.zq_journal.specs.Books.{LAST_STAMP};
 ghost use Rattle.zq_resp.specs.Reply.{is_writable, reply_bytes};
 ghost use Rattle.zq_spread.specs.Answers.{HasWorked};
@@ -9,14 +9,14 @@ ghost use Rattle.zq_spread.specs.Commanded.{IsAnswered};
 ghost use Rattle.zq_words.specs.Heaps as named;
 ghost use Rattle.zq_words.specs.declared.heaps.Heaps.TheVariants.{One};
 
-use crate::kept::Kept;
+use crate::locked_heap::LockedHeap;
 use std::alloc::Global;
 use zq_commands::run;
 use zq_dots::SiteNo;
 use zq_resp::Reply;
 use zq_words::Command;
 
-impl Kept {
+impl LockedHeap {
     /// Runs a command that names members of this heap alone.
     pub(crate) fn answer(
         &mut self,

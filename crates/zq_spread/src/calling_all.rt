@@ -3,7 +3,7 @@ ghost use Rattle.std.specs.List.{range_with_len};
 ghost use Rattle.std.specs.Prelude.{◌≡◌, ◌<◌, ◌≤◌, ◌⊎◌, [], IfErr, IfOk, IsErrOf, IsTrue, List, OnErr, length, vec_capacity};
 ghost use Rattle.zq_commands.specs.Commands.{HasBooks};
 ghost use Rattle.zq_commands.specs.VecBooks.{lending_of};
-ghost use Rattle.zq_history.specs.Books.{Book as Books};
+ghost use Rattle.zq_model.specs.Books.{Book as Books};
 ghost use Rattle.zq_resp.specs.Reply.{is_writable, reply_bytes};
 ghost use Rattle.zq_spread.specs.Calls.{heaps_of};
 ghost use Rattle.zq_spread.specs.Dispatch.{HasAnswered, HasHeldEach, IsCommand, IsNear, IsTurnedAway, IsWornOut, all_heaps};
@@ -14,10 +14,10 @@ ghost use Rattle.zq_spread.specs.Worn.{IsStopOf};
 ghost use Rattle.zq_words.specs.Command.{Zpopnear};
 
 use crate::calling::{short, worn};
-use crate::holds::Holds;
+use crate::lock_scan::{LockScan, Stop};
+use crate::locked_heaps::LockedHeaps;
 use crate::pass::Pass;
 use crate::site::Site;
-use crate::sought::{Sought, Stop};
 use std::alloc::Global;
 use std::sync::Wait;
 use zq_resp::Reply;
@@ -45,7 +45,7 @@ impl Site {
         heaps: &[u8],
         key: &[u8],
         is_enough: bool,
-        holds: &mut Holds,
+        holds: &mut LockedHeaps,
         command: &Command,
     ) -> Result<Reply, Stop>
         requires pass { IsPassOf self.now pass.old }
@@ -53,7 +53,7 @@ impl Site {
         requires heaps { AreHeapsOf self.now heaps.now }
         requires homes { (books : List Books) → AreBooksAt self.now heaps.now books → HasBooks command.now (lending_of books) }
         requires empty { helds_of holds.old ≡ [] }
-        requires room { length heaps.now ≤ vec_capacity holds.old.helds }
+        requires slot { length heaps.now ≤ vec_capacity holds.old.helds }
         ensures pass { IsPassOf self.now pass.new }
         ensures called { IfOk result (λ reply. HasAnswered self.now command.now key.now is_enough (reply_bytes reply) pass.old pass.new heaps.now) }
         ensures stopped { OnErr result (IsStopped pass.old pass.new) }
@@ -63,11 +63,11 @@ impl Site {
         ensures empty { helds_of holds.new ≡ [] }
         ensures stays { OnErr result (vec_capacity holds.new.helds ≡ vec_capacity holds.old.helds) }
     {
-        let sought = Sought {
+        let scan = LockScan {
             stamp: pass.stamp,
             is_enough,
         };
-        match self.begin_all(rt, pass, heaps, key, sought, holds) {
+        match self.begin_all(rt, pass, heaps, key, scan, holds) {
             Ok(stamp) => Ok(self.work_all(alloc, pass, heaps, holds, stamp, command)),
             Err(stop) => Err(stop),
         }
@@ -79,19 +79,19 @@ impl Site {
         rt: &R,
         alloc: Global,
         pass: &mut Pass,
-        holds: &mut Holds,
+        holds: &mut LockedHeaps,
         command: &Command,
     ) -> Reply
         requires pass { IsPassOf self.now pass.old }
         requires empty { helds_of holds.old ≡ [] }
-        requires room { heaps_of self.now ≤ vec_capacity holds.old.helds }
+        requires slot { heaps_of self.now ≤ vec_capacity holds.old.helds }
         ensures pass { IsPassOf self.now pass.new }
         ensures called { (IsCommand self.now command.now (reply_bytes result) pass.old pass.new (all_heaps self.now) × HasHeldEach pass.old pass.new (all_heaps self.now))
             ⊎ IsWornOut (all_heaps self.now) (reply_bytes result) pass.old pass.new }
         ensures writable { IsTrue (is_writable result) }
         ensures empty { helds_of holds.new ≡ [] }
     {
-        let heaps = every(self.rooms.len());
+        let heaps = every(self.slots.len());
         match self.call_in(rt, alloc, pass, heaps, &[], true, holds, command) {
             Ok(reply) => reply,
             Err(Stop::Worn) => worn(),
@@ -109,7 +109,7 @@ impl Site {
         pass: &mut Pass,
         drawn: &[u8],
         key: &[u8],
-        holds: &mut Holds,
+        holds: &mut LockedHeaps,
         command: &Command,
     ) -> Reply
         requires pass { IsPassOf self.now pass.old }
@@ -118,7 +118,7 @@ impl Site {
         requires few { length drawn.now ≤ heaps_of self.now }
         requires near { command.now ≡ Zpopnear key.now }
         requires empty { helds_of holds.old ≡ [] }
-        requires room { heaps_of self.now ≤ vec_capacity holds.old.helds }
+        requires slot { heaps_of self.now ≤ vec_capacity holds.old.helds }
         ensures pass { IsPassOf self.now pass.new }
         ensures called { IsNear self.now command.now (reply_bytes result) pass.old pass.new drawn.now }
         ensures writable { IsTrue (is_writable result) }
@@ -147,7 +147,7 @@ impl Site {
         ensures called { IsCommand self.now command.now (reply_bytes result) pass.old pass.new (all_heaps self.now) ⊎ IsTurnedAway (all_heaps self.now) (reply_bytes result) pass.old pass.new }
         ensures writable { IsTrue (is_writable result) }
     {
-        let Ok(mut holds) = Holds::with_room(alloc, self.rooms.len()) else {
+        let Ok(mut holds) = LockedHeaps::with_room(alloc, self.slots.len()) else {
             return short();
         };
         let reply = self.answer_all(rt, alloc, pass, &mut holds, command);
@@ -172,7 +172,7 @@ impl Site {
         ensures called { IsNear self.now command.now (reply_bytes result) pass.old pass.new (drawn (heaps_of self.now) w1 w2) }
         ensures writable { IsTrue (is_writable result) }
     {
-        let Ok(mut holds) = Holds::with_room(alloc, self.rooms.len()) else {
+        let Ok(mut holds) = LockedHeaps::with_room(alloc, self.slots.len()) else {
             return short();
         };
         let (low, high) = self.draw(w1, w2);

@@ -52,7 +52,7 @@ impl Site {
         ensures called { IsCalled self.now command.now w1 w2 (reply_bytes result) pass.old pass.new }
         ensures writable { IsTrue (is_writable result) }
     {
-        match command.heaps(self.rooms.len() as u8) {
+        match command.heaps(self.slots.len() as u8) {
             Heaps::NoHeap => self.answer_alone(alloc, pass, command),
             Heaps::One(heap) => self.call_one(rt, alloc, pass, heap, command),
             Heaps::Near => match command.kind() {
@@ -80,7 +80,7 @@ impl Site {
         ensures free { named.heaps_of command.now (heaps_of self.now) ≡ NoHeap → IsOk result }
         ensures writable { IfOk result (λ reply. IsTrue (is_writable reply)) }
     {
-        match command.heaps(self.rooms.len() as u8) {
+        match command.heaps(self.slots.len() as u8) {
             Heaps::NoHeap => Ok(self.answer_alone(alloc, pass, command)),
             Heaps::One(heap) => self.try_call_one(alloc, pass, heap, command),
             Heaps::Near => match command.kind() {

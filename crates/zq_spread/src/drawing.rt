@@ -12,7 +12,7 @@ impl Site {
         ensures drawn { result.0 ∷ result.1 ∷ [] ≡ drawn (heaps_of self.now) w1 w2 }
         ensures heaps { AreHeapsOf self.now (result.0 ∷ result.1 ∷ []) }
     {
-        let heaps = self.rooms.len() as u64;
+        let heaps = self.slots.len() as u64;
         let first = w1 % heaps;
         let second = (first + 1 + w2 % (heaps - 1)) % heaps;
         (u64::min(first, second) as u8, u64::max(first, second) as u8)

@@ -41,7 +41,7 @@ impl Site {
         let heap = usize::from(heap);
         let seat = self.take_seat(&mut pass, heap);
         seat.has_seen();
-        match self.rooms[heap].lock.try_lock(seat) {
+        match self.slots[heap].lock.try_lock(seat) {
             Ok(held) => Ok(Holding { pass, heap, held }),
             Err((fault, seat)) => {
                 self.put_seat(&mut pass, heap, seat);
@@ -62,7 +62,7 @@ impl Site {
             heap,
             held,
         } = holding;
-        let seat = self.rooms[heap].lock.unlock(held);
+        let seat = self.slots[heap].lock.unlock(held);
         self.put_seat(&mut pass, heap, seat);
         pass
     }

@@ -1,6 +1,6 @@
 //! A heap that a pass holds, its type.
 
-use crate::kept::Kept;
+use crate::locked_heap::LockedHeap;
 use crate::pass::Pass;
 use zq_ticketlock::Held;
 
@@ -10,5 +10,5 @@ pub struct Holding {
     // The pass has no seat in the heap until then.
     pub(crate) pass: Pass,
     pub(crate) heap: usize,
-    pub(crate) held: Held<Kept>,
+    pub(crate) held: Held<LockedHeap>,
 }

@@ -1,17 +1,17 @@
 //! How a heap that is held is lent to a command.
 ghost use Rattle.std.specs.Prelude.{Some, [], slice_get, ◌∷◌, ◌≡◌};
 ghost use Rattle.zq_commands.specs.VecBooks.{lending_of};
-ghost use Rattle.zq_history.specs.Books.{Book as Books};
+ghost use Rattle.zq_model.specs.Books.{Book as Books};
 ghost use Rattle.zq_journal.specs.Books.{state_of};
 
-use crate::kept::Kept;
+use crate::locked_heap::LockedHeap;
 use std::alloc::{AllocError, Global};
-use zq_commands::{Books, Cut, MOST_SCANNED, count_between, make_in};
+use zq_commands::{Books, MOST_SCANNED, Stopped, count_between, make_in};
 use zq_dots::{Act, SiteNo};
 use zq_shard::Shard;
 use zq_words::Bound;
 
-impl Books for Kept {
+impl Books for LockedHeap {
     ghost use Rattle.zq_spread.specs.Recorded.{kept_itself, kept_through, IsKeptOn};
 
     ghost lent = { λ kept. lending_of (kept.book ∷ []) };
@@ -80,7 +80,7 @@ impl Books for Kept {
         key: &[u8],
         member: &[u8],
         act: Act,
-    ) -> Result<bool, Cut> {
+    ) -> Result<bool, Stopped> {
         make_in(&mut self.book, alloc, site, stamp, key, member, act)
     }
 
@@ -90,7 +90,7 @@ impl Books for Kept {
 }
 
 /// The heap at the one place.
-fn heap_at(kept: &Kept, _place: usize) -> &Shard
+fn heap_at(kept: &LockedHeap, _place: usize) -> &Shard
     ensures { (book : Books) → slice_get (kept.now.book ∷ []) _place ≡ Some book → result.now ≡ record (state_of book) { rule = kept.now.book.rule } }
 {
     kept.book.shard()

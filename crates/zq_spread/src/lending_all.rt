@@ -4,25 +4,25 @@ ghost use Rattle.std.specs.Prelude.{IfOk, IsErrOf, OnErr, OnOk, Some, is_some, l
 ghost use Rattle.zq_commands.specs.Lending.{IsLending};
 ghost use Rattle.zq_commands.specs.VecBooks.{lending_of, rule_in};
 ghost use Rattle.zq_dots.specs.Act.{act_of};
-ghost use Rattle.zq_history.specs.Books.{Book as Books};
+ghost use Rattle.zq_model.specs.Books.{Book as Books};
 ghost use Rattle.zq_journal.specs.Books.{state_of};
 ghost use Rattle.zq_model.specs.Operation.{LONGEST};
-ghost use Rattle.zq_moves.specs.Lent.{is_home_of, made_in};
-ghost use Rattle.zq_plans.specs.Run.{LAST_COUNT, is_worn};
+ghost use Rattle.zq_model.specs.Lent.{is_home_of, made_in};
+ghost use Rattle.zq_semantics.specs.Run.{LAST_COUNT, is_worn};
 ghost use Rattle.zq_spread.specs.Several.{IsBoundedBook, IsHeldOn, books_of, helds_of};
 ghost use Rattle.zq_ticketlock.specs.Seats.{value_of};
 
-use crate::holds::Holds;
-use crate::kept::Kept;
+use crate::locked_heap::LockedHeap;
+use crate::locked_heaps::LockedHeaps;
 use std::alloc::{AllocError, Global};
-use zq_commands::{Books, Cut, MOST_SCANNED, count_between, make_in};
+use zq_commands::{Books, MOST_SCANNED, Stopped, count_between, make_in};
 use zq_dots::{Act, SiteNo, heap_of};
 use zq_journal::Book;
 use zq_shard::Shard;
 use zq_ticketlock::Held;
 use zq_words::Bound;
 
-impl Books for Holds {
+impl Books for LockedHeaps {
     ghost use Rattle.zq_spread.specs.Several.{AreHeldOn, held_on_itself, held_on_through};
 
     ghost lent = { λ holds. lending_of (books_of (helds_of holds)) };
@@ -92,7 +92,7 @@ impl Books for Holds {
         key: &[u8],
         member: &[u8],
         act: Act,
-    ) -> Result<bool, Cut> {
+    ) -> Result<bool, Stopped> {
         let index = self.helds.as_slice().len() - 1 - place;
         make_held(&mut self.helds[index], alloc, site, stamp, key, member, act)
     }
@@ -103,7 +103,7 @@ impl Books for Holds {
 }
 
 /// The book at a place. The lowest heap is the last of the stack.
-fn book_at(holds: &Holds, place: usize) -> &Book
+fn book_at(holds: &LockedHeaps, place: usize) -> &Book
     requires { place < length (helds_of holds.now) }
     ensures { slice_get (books_of (helds_of holds.now)) place ≡ Some result.now }
 {
@@ -112,7 +112,7 @@ fn book_at(holds: &Holds, place: usize) -> &Book
 }
 
 /// The place of the book of a heap, which is one of these.
-fn place_of(holds: &Holds, heap: u8) -> usize
+fn place_of(holds: &LockedHeaps, heap: u8) -> usize
     requires { (place : ℕ) × (book : Books) × (slice_get (books_of (helds_of holds.now)) place ≡ Some book) × (book.heap ≡ heap) }
     ensures inside { result < length (books_of (helds_of holds.now)) }
     ensures heap { (book : Books) → slice_get (books_of (helds_of holds.now)) result ≡ Some book → book.heap ≡ heap }
@@ -126,7 +126,7 @@ fn place_of(holds: &Holds, heap: u8) -> usize
 }
 
 /// The heap at a place.
-fn shard_at(holds: &Holds, place: usize) -> &Shard
+fn shard_at(holds: &LockedHeaps, place: usize) -> &Shard
     requires lent { IsLending (lending_of (books_of (helds_of holds.now))) }
     requires inside { place < length (books_of (helds_of holds.now)) }
     ensures { (book : Books) → slice_get (books_of (helds_of holds.now)) place ≡ Some book →
@@ -136,7 +136,7 @@ fn shard_at(holds: &Holds, place: usize) -> &Shard
 }
 
 /// Makes an ordered index of a key's members in a heap that is held.
-fn index_held(held: &mut Held<Kept>, alloc: Global, key: &[u8])
+fn index_held(held: &mut Held<LockedHeap>, alloc: Global, key: &[u8])
     ensures same { (value_of held.new).book ≡ (value_of held.old).book }
     ensures held { IsHeldOn held.old held.new }
 {
@@ -147,14 +147,14 @@ fn index_held(held: &mut Held<Kept>, alloc: Global, key: &[u8])
 /// Makes a site's next operation of an act in a heap that is held, which is the member's, and answers whether the
 /// member stood before. Nothing has changed after an error.
 fn make_held(
-    held: &mut Held<Kept>,
+    held: &mut Held<LockedHeap>,
     alloc: Global,
     site: SiteNo,
     stamp: u64,
     key: &[u8],
     member: &[u8],
     act: Act,
-) -> Result<bool, Cut>
+) -> Result<bool, Stopped>
     requires home { is_home_of key.now member.now (value_of held.old).book ≡ true }
     requires stamp { (value_of held.old).book.stamp ≤ stamp }
     requires bounded { stamp ≤ LAST_COUNT }
@@ -164,7 +164,7 @@ fn make_held(
     ensures stood { IfOk result (λ stood. stood ≡ is_some (get (value_of held.old).book.state.members (key.now, member.now))) }
     ensures bounded { OnOk result (IsBoundedBook (value_of held.new).book) }
     ensures held { IsHeldOn held.old held.new }
-    ensures worn { IsErrOf result Cut.Worn ↔ (is_worn site (value_of held.old).book ≡ true) }
+    ensures worn { IsErrOf result Stopped.Worn ↔ (is_worn site (value_of held.old).book ≡ true) }
     ensures refused { OnErr result ((value_of held.new).book ≡ (value_of held.old).book) }
 {
     let kept = held.value_mut();

@@ -2,37 +2,37 @@
 #![tactic(auto)]
 
 mod answering;
+mod building;
 mod calling;
 mod calling_all;
 mod dispatching;
 mod drawing;
 mod draws;
+mod empty_slot;
 mod faults;
-mod ground;
+mod heap_slot;
 mod holding;
 mod holdings;
-mod holds;
-mod kept;
 mod lending;
 mod lending_all;
+mod lock_scan;
+mod locked_heap;
+mod locked_heaps;
 mod locking;
 mod makers;
+mod many_heaps;
 mod meeting;
 mod merging;
+mod one_heap;
 mod pass;
-mod plot;
 mod reading;
-mod room;
 mod seating;
-mod settling;
-mod several;
 mod site;
-mod sought;
+mod site_builder;
 mod stacking;
 mod taking;
 mod tallying;
 mod trying_all;
-mod turns;
 mod working;
 
 pub use draws::Draws;

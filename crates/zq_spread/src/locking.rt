@@ -1,28 +1,28 @@
 //! How a call locks one of several heaps, and puts it home as it was.
 ghost use Rattle.std.specs.Prelude.{◌≡◌, ◌<◌, ◌∷◌, IfErr, IfOk, IsErrOf, OnErr, Some, [], length, slice_get, ℕ};
 ghost use Rattle.zq_spread.specs.Calls.{heaps_of};
-ghost use Rattle.zq_spread.specs.Kept.{Follows};
+ghost use Rattle.zq_spread.specs.LockedHeaps.{Follows};
 ghost use Rattle.zq_spread.specs.Passes.{IsSeatOf, seen_at};
 ghost use Rattle.zq_spread.specs.Several.{AreBack, HasSeatsIn, IsHeldAt, IsSameOutside};
 ghost use Rattle.zq_spread.specs.Turns.{HasTurn, turns_at};
 ghost use Rattle.zq_spread.specs.Worn.{IsUnlocked, reached_at, served_at};
-ghost use Rattle.zq_spread.specs.declared.room.Room.{Room as Rooms};
+ghost use Rattle.zq_spread.specs.declared.heap_slot.HeapSlot.{HeapSlot as Rooms};
 ghost use Rattle.zq_ticketlock.specs.Seats.{held_logged, logged, reached, seen, served, value_of};
 ghost use Rattle.zq_ticketlock.specs.Steps.{FollowsSeen};
 
-use crate::kept::Kept;
+use crate::lock_scan::Stop;
+use crate::locked_heap::LockedHeap;
 use crate::pass::Pass;
 use crate::site::Site;
-use crate::sought::Stop;
 use std::sync::Wait;
 use zq_ticketlock::{Held, Seat, TryFault};
 
 impl Site {
     /// Takes a seat out.
-    fn seat_out(&self, pass: &mut Pass, heap: usize) -> Seat<Kept>
+    fn seat_out(&self, pass: &mut Pass, heap: usize) -> Seat<LockedHeap>
         requires seats { HasSeatsIn self.now (heap ∷ []) pass.old }
         requires heap { heap < heaps_of self.now }
-        ensures seat { (room : Rooms) → slice_get self.now.rooms.items heap ≡ Some room → IsSeatOf room (Some (Some result)) }
+        ensures seat { (slot : Rooms) → slice_get self.now.slots.items heap ≡ Some slot → IsSeatOf slot (Some (Some result)) }
         ensures seen { seen result ≡ seen_at pass.old heap }
         ensures turns { logged result ≡ turns_at pass.old heap }
         ensures outside { IsSameOutside (heap ∷ []) pass.old pass.new }
@@ -34,10 +34,10 @@ impl Site {
     }
 
     /// Puts a seat back.
-    fn seat_in(&self, pass: &mut Pass, heap: usize, seat: Seat<Kept>)
+    fn seat_in(&self, pass: &mut Pass, heap: usize, seat: Seat<LockedHeap>)
         requires number { length pass.old.seats.items ≡ heaps_of self.now }
         requires heap { heap < heaps_of self.now }
-        requires seat { (room : Rooms) → slice_get self.now.rooms.items heap ≡ Some room → IsSeatOf room (Some (Some seat)) }
+        requires seat { (slot : Rooms) → slice_get self.now.slots.items heap ≡ Some slot → IsSeatOf slot (Some (Some seat)) }
         ensures seats { HasSeatsIn self.now (heap ∷ []) pass.new }
         ensures seen { seen_at pass.new heap ≡ seen seat }
         ensures turns { turns_at pass.new heap ≡ logged seat }
@@ -48,14 +48,14 @@ impl Site {
         pass.seats[heap] = Some(seat);
     }
 
-    /// Locks a heap, and waits for it. The pass has no seat there until the heap is put home. Where the lock is worn the
-    /// pass has its seat again.
+    /// Locks a heap, and waits for it. The pass has no seat there until the heap is put home. Where the lock is exhausted
+    /// the pass has its seat again.
     pub(crate) fn lock_in<R: Wait>(
         &self,
         rt: &R,
         pass: &mut Pass,
         heap: usize,
-    ) -> Result<Held<Kept>, Stop>
+    ) -> Result<Held<LockedHeap>, Stop>
         requires seats { HasSeatsIn self.now (heap ∷ []) pass.old }
         requires heap { heap < heaps_of self.now }
         ensures held { IfOk result (IsHeldAt self.now heap) }
@@ -68,7 +68,7 @@ impl Site {
     {
         let seat = self.seat_out(pass, heap);
         seat.has_seen();
-        match self.rooms[heap].lock.lock(rt, seat) {
+        match self.slots[heap].lock.lock(rt, seat) {
             Ok(held) => Ok(held),
             Err((_, seat)) => {
                 self.seat_in(pass, heap, seat);
@@ -78,7 +78,7 @@ impl Site {
     }
 
     /// The same where nobody holds the heap or waits for it. It never waits.
-    pub(crate) fn try_lock_in(&self, pass: &mut Pass, heap: usize) -> Result<Held<Kept>, Stop>
+    pub(crate) fn try_lock_in(&self, pass: &mut Pass, heap: usize) -> Result<Held<LockedHeap>, Stop>
         requires seats { HasSeatsIn self.now (heap ∷ []) pass.old }
         requires heap { heap < heaps_of self.now }
         ensures held { IfOk result (IsHeldAt self.now heap) }
@@ -90,7 +90,7 @@ impl Site {
     {
         let seat = self.seat_out(pass, heap);
         seat.has_seen();
-        match self.rooms[heap].lock.try_lock(seat) {
+        match self.slots[heap].lock.try_lock(seat) {
             Ok(held) => Ok(held),
             Err((fault, seat)) => {
                 self.seat_in(pass, heap, seat);
@@ -100,7 +100,7 @@ impl Site {
     }
 
     /// Puts a heap home as it was found.
-    pub(crate) fn let_go(&self, pass: &mut Pass, heap: usize, held: Held<Kept>)
+    pub(crate) fn let_go(&self, pass: &mut Pass, heap: usize, held: Held<LockedHeap>)
         requires number { length pass.old.seats.items ≡ heaps_of self.now }
         requires heap { heap < heaps_of self.now }
         requires held { IsHeldAt self.now heap held }
@@ -109,7 +109,7 @@ impl Site {
         ensures turn { HasTurn (value_of held) (value_of held) (turns_at pass.new heap) (held_logged held) }
         ensures outside { IsSameOutside (heap ∷ []) pass.old pass.new }
     {
-        let seat = self.rooms[heap].lock.unlock(held);
+        let seat = self.slots[heap].lock.unlock(held);
         self.seat_in(pass, heap, seat);
     }
 }

@@ -1,15 +1,15 @@
 //! How a site is made.
 ghost use Rattle.std.specs.Prelude.{◌≡◌, ◌↔◌, List, IfErr, IfOk, IsErrAnd, IsErrOf, IsTrue, length};
 ghost use Rattle.zq_dots.specs.Rule.{rule_of};
-ghost use Rattle.zq_history.specs.Books.{Book as Books};
+ghost use Rattle.zq_model.specs.Books.{Book as Books};
 ghost use Rattle.zq_model.specs.Rule.{Greatest};
 ghost use Rattle.zq_model.specs.Sets.{IsHeaps};
 ghost use Rattle.zq_spread.specs.Makers.{AreEmptyBooks, AreOfHeaps, IsInBounds, IsMade};
 
 use crate::faults::SiteFault;
-use crate::ground::Ground;
 use crate::pass::Pass;
 use crate::site::Site;
+use crate::site_builder::SiteBuilder;
 use std::alloc::{AllocError, Global};
 use zq_dots::{Rule, SiteNo};
 use zq_journal::Book;
@@ -110,14 +110,14 @@ impl Site {
             return Err((SiteFault::Bounds, books));
         }
         let rule = books[0].shard().rule();
-        let Ok(ground) = Ground::new(alloc, books.len() as u8, passes, rule) else {
+        let Ok(builder) = SiteBuilder::new(alloc, books.len() as u8, passes, rule) else {
             return Err((SiteFault::NoMemory, books));
         };
-        let (rooms, passes) = ground.settle(books);
+        let (slots, passes) = builder.build(books);
         let site = Site {
             number,
             rule,
-            rooms,
+            slots,
         };
         Ok((site, passes))
     }

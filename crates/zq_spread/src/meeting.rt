@@ -1,7 +1,7 @@
 //! How two passes meet.
 ghost use Rattle.std.specs.Prelude.{◌≡◌, ◌<◌, ◌≤◌, Some, IfErr, IfOk, IfSome, OnErr, OnOk, length, ℕ};
 ghost use Rattle.zq_spread.specs.Companies.{IsSameBut};
-ghost use Rattle.zq_spread.specs.Kept.{Follows};
+ghost use Rattle.zq_spread.specs.LockedHeaps.{Follows};
 ghost use Rattle.zq_spread.specs.Meetings.{HaveLeft, HaveMet, HaveParted};
 ghost use Rattle.zq_spread.specs.Passes.{IsPassOf, IsSeatOf, seen_at};
 ghost use Rattle.zq_spread.specs.Turns.{turns_at};
@@ -9,21 +9,21 @@ ghost use Rattle.zq_spread.specs.Worn.{reached_at};
 ghost use Rattle.zq_ticketlock.specs.Limits.{last_ticket};
 ghost use Rattle.zq_ticketlock.specs.Seats.{lock_of, logged, reached, seen};
 
-use crate::kept::Kept;
+use crate::heap_slot::HeapSlot;
+use crate::locked_heap::LockedHeap;
 use crate::pass::Pass;
-use crate::room::Room;
 use crate::site::Site;
 use std::sync::Wait;
 use zq_ticketlock::{Seat, Worn};
 
-impl Room {
+impl HeapSlot {
     /// Locks the heap with the first seat after both have met, and unlocks it. Both seats come back in either case.
     fn meet<R: Wait>(
         &self,
         rt: &R,
-        first: Seat<Kept>,
-        second: Seat<Kept>,
-    ) -> Result<(Seat<Kept>, Seat<Kept>), (Seat<Kept>, Seat<Kept>)>
+        first: Seat<LockedHeap>,
+        second: Seat<LockedHeap>,
+    ) -> Result<(Seat<LockedHeap>, Seat<LockedHeap>), (Seat<LockedHeap>, Seat<LockedHeap>)>
         requires first { IsSeatOf self.now (Some (Some first)) }
         requires second { IsSeatOf self.now (Some (Some second)) }
         ensures seats { IfOk result (λ seats. IsSeatOf self.now (Some (Some seats.0)) × IsSeatOf self.now (Some (Some seats.1))) }
@@ -56,7 +56,7 @@ impl Site {
     ) -> Result<(), Worn>
         requires first { IsPassOf self.now first.old }
         requires second { IsPassOf self.now second.old }
-        requires heap { heap < length self.now.rooms.items }
+        requires heap { heap < length self.now.slots.items }
         ensures first { IsPassOf self.now first.new × IsSameBut heap first.old first.new }
         ensures second { IsPassOf self.now second.new × IsSameBut heap second.old second.new }
         ensures met { OnOk result (HaveMet (seen_at first.old heap) (seen_at second.old heap) (seen_at first.new heap) (seen_at second.new heap)) }
@@ -67,7 +67,7 @@ impl Site {
         let heap = usize::from(heap);
         let one = self.take_seat(first, heap);
         let other = self.take_seat(second, heap);
-        match self.rooms[heap].meet(rt, one, other) {
+        match self.slots[heap].meet(rt, one, other) {
             Ok((one, other)) => {
                 self.put_seat(first, heap, one);
                 self.put_seat(second, heap, other);

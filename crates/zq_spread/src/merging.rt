@@ -36,7 +36,7 @@ impl Site {
         ensures called { IsLikeSite self.now other.now →
             IsCall (IsMerged pass.new.stamp other.now result) pass.old pass.new (other.now.heap ∷ []) ⊎ (IsErrOf result MergeFault.Worn × IsWornIn (other.now.heap ∷ []) pass.old pass.new) }
     {
-        if usize::from(other.heaps()) != self.rooms.len() {
+        if usize::from(other.heaps()) != self.slots.len() {
             return Err(MergeFault::WrongHeap);
         }
         if other.rule() != self.rule {

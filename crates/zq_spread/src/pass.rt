@@ -2,7 +2,7 @@
 ghost use Rattle.std.specs.Prelude.{◌≡◌};
 ghost use Rattle.zq_spread.specs.Passes.{steps_at};
 
-use crate::kept::Kept;
+use crate::locked_heap::LockedHeap;
 use zq_tally::Count;
 use zq_ticketlock::Seat;
 
@@ -11,7 +11,7 @@ use zq_ticketlock::Seat;
 #[derive(Drop)]
 pub struct Pass {
     // A seat and a count are out while a call works in their heap.
-    pub(crate) seats: Vec<Option<Seat<Kept>>>,
+    pub(crate) seats: Vec<Option<Seat<LockedHeap>>>,
     pub(crate) counts: Vec<Option<Count>>,
     pub(crate) stamp: u64,
 }

@@ -1,5 +1,6 @@
 //! What a site shows of a heap.
 ghost use Rattle.std.specs.Prelude.{◌≡◌, ◌<◌, ◌⊎◌, ◌∷◌, [], IfOk, IsErrOf, OnErr};
+ghost use Rattle.zq_model.specs.Sets.{IsHeaps};
 ghost use Rattle.zq_spread.specs.Answers.{IsAsked, IsCopied, IsShown, IsSince};
 ghost use Rattle.zq_spread.specs.Calls.{HasSeenBook, IsCall, heaps_of};
 ghost use Rattle.zq_spread.specs.Passes.{IsPassOf};
@@ -10,12 +11,34 @@ use crate::pass::Pass;
 use crate::site::Site;
 use std::alloc::Global;
 use std::sync::Wait;
-use zq_dots::Vector;
+use zq_dots::{Rule, SiteNo, Vector};
 use zq_journal::Since;
 use zq_shard::Shard;
 use zq_ticketlock::Worn;
 
 impl Site {
+    /// Its number.
+    pub fn number(&self) -> SiteNo
+        ensures { result ≡ self.now.number }
+    {
+        self.number
+    }
+
+    /// How many heaps it has, from 2 to 16.
+    pub fn heaps(&self) -> u8
+        ensures number { result ≡ heaps_of self.now }
+        ensures bounds { IsHeaps result }
+    {
+        self.slots.len() as u8
+    }
+
+    /// Which of a member's values is its score.
+    pub fn rule(&self) -> Rule
+        ensures { result ≡ self.now.rule }
+    {
+        self.rule
+    }
+
     /// Which operations of a heap the site has taken. `Worn` where the heap's lock or the stamp is at its last value, and
     /// then no image, book or stamp has changed.
     pub fn vector<R: Wait>(&self, rt: &R, pass: &mut Pass, heap: u8) -> Result<Vector, Worn>

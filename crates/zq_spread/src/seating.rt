@@ -4,21 +4,21 @@ ghost use Rattle.zq_spread.specs.Companies.{IsSameBut};
 ghost use Rattle.zq_spread.specs.Passes.{IsPassBut, IsPassOf, IsSeatOf, seen_at};
 ghost use Rattle.zq_spread.specs.Turns.{turns_at};
 ghost use Rattle.zq_spread.specs.Worn.{reached_at, served_at};
-ghost use Rattle.zq_spread.specs.declared.room.Room.{Room};
+ghost use Rattle.zq_spread.specs.declared.heap_slot.HeapSlot.{HeapSlot};
 ghost use Rattle.zq_ticketlock.specs.Seats.{logged, reached, seen, served};
 
-use crate::kept::Kept;
+use crate::locked_heap::LockedHeap;
 use crate::pass::Pass;
 use crate::site::Site;
 use zq_ticketlock::Seat;
 
 impl Site {
     /// Takes the seat out.
-    pub(crate) fn take_seat(&self, pass: &mut Pass, heap: usize) -> Seat<Kept>
+    pub(crate) fn take_seat(&self, pass: &mut Pass, heap: usize) -> Seat<LockedHeap>
         requires pass { IsPassOf self.now pass.old }
-        requires heap { heap < length self.now.rooms.items }
+        requires heap { heap < length self.now.slots.items }
         ensures pass { IsPassBut self.now (heap ∷ []) pass.new }
-        ensures seat { (room : Room) → slice_get self.now.rooms.items heap ≡ Some room → IsSeatOf room (Some (Some result)) }
+        ensures seat { (slot : HeapSlot) → slice_get self.now.slots.items heap ≡ Some slot → IsSeatOf slot (Some (Some result)) }
         ensures seen { seen result ≡ seen_at pass.old heap }
         ensures turns { logged result ≡ turns_at pass.old heap }
         ensures stays { IsSameBut heap pass.old pass.new }
@@ -31,10 +31,10 @@ impl Site {
     }
 
     /// Puts a seat back.
-    pub(crate) fn put_seat(&self, pass: &mut Pass, heap: usize, seat: Seat<Kept>)
+    pub(crate) fn put_seat(&self, pass: &mut Pass, heap: usize, seat: Seat<LockedHeap>)
         requires pass { IsPassBut self.now (heap ∷ []) pass.old }
-        requires heap { heap < length self.now.rooms.items }
-        requires seat { (room : Room) → slice_get self.now.rooms.items heap ≡ Some room → IsSeatOf room (Some (Some seat)) }
+        requires heap { heap < length self.now.slots.items }
+        requires seat { (slot : HeapSlot) → slice_get self.now.slots.items heap ≡ Some slot → IsSeatOf slot (Some (Some seat)) }
         ensures pass { IsPassOf self.now pass.new }
         ensures seen { seen_at pass.new heap ≡ seen seat }
         ensures turns { turns_at pass.new heap ≡ logged seat }

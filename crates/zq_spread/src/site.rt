@@ -1,7 +1,7 @@
 //! A site, its type.
 ghost use Rattle.std.specs.Prelude.{length, ◌≤◌};
 
-use crate::room::Room;
+use crate::heap_slot::HeapSlot;
 use zq_dots::{Rule, SiteNo};
 
 /// A site of several heaps. Threads use it side by side, each by a pass of its own.
@@ -9,7 +9,7 @@ use zq_dots::{Rule, SiteNo};
 pub struct Site {
     pub(crate) number: SiteNo,
     pub(crate) rule: Rule,
-    pub(crate) rooms: Vec<Room>,
-    ghost some: { 2 ≤ length rooms.items },
-    ghost most: { length rooms.items ≤ 16 },
+    pub(crate) slots: Vec<HeapSlot>,
+    ghost some: { 2 ≤ length slots.items },
+    ghost most: { length slots.items ≤ 16 },
 }

@@ -4,13 +4,13 @@ ghost use Rattle.zq_journal.specs.Books.{LAST_STAMP};
 ghost use Rattle.zq_spread.specs.Several.{IsBegunFrom, helds_of};
 ghost use Rattle.zq_ticketlock.specs.Seats.{value_of};
 
-use crate::holds::Holds;
-use crate::kept::Kept;
+use crate::locked_heap::LockedHeap;
+use crate::locked_heaps::LockedHeaps;
 use std::alloc::{AllocError, Global};
 use zq_ticketlock::Held;
 
 /// Begins a call of this stamp in a heap that is held.
-pub(crate) fn begun(mut held: Held<Kept>, stamp: u64) -> Held<Kept>
+pub(crate) fn begun(mut held: Held<LockedHeap>, stamp: u64) -> Held<LockedHeap>
     requires stamp { (value_of held).book.stamp ≤ stamp }
     requires bounded { stamp ≤ LAST_STAMP }
     ensures { IsBegunFrom stamp held result }
@@ -21,30 +21,30 @@ pub(crate) fn begun(mut held: Held<Kept>, stamp: u64) -> Held<Kept>
     held
 }
 
-impl Holds {
+impl LockedHeaps {
     /// An empty stack with room for so many heaps.
-    pub(crate) fn with_room(alloc: Global, heaps: usize) -> Result<Holds, AllocError>
+    pub(crate) fn with_room(alloc: Global, heaps: usize) -> Result<LockedHeaps, AllocError>
         ensures empty { IfOk result (λ holds. helds_of holds ≡ []) }
-        ensures room { IfOk result (λ holds. heaps ≤ vec_capacity holds.helds) }
+        ensures slot { IfOk result (λ holds. heaps ≤ vec_capacity holds.helds) }
     {
         let helds = Vec::with_capacity(alloc, heaps)?;
-        Ok(Holds { helds })
+        Ok(LockedHeaps { helds })
     }
 
     /// Puts a heap onto the stack.
-    pub(crate) fn push(&mut self, held: Held<Kept>)
-        requires room { length (helds_of self.old) < vec_capacity self.old.helds }
+    pub(crate) fn push(&mut self, held: Held<LockedHeap>)
+        requires slot { length (helds_of self.old) < vec_capacity self.old.helds }
         ensures pushed { helds_of self.new ≡ held ∷ helds_of self.old }
-        ensures room { vec_capacity self.new.helds ≡ vec_capacity self.old.helds }
+        ensures slot { vec_capacity self.new.helds ≡ vec_capacity self.old.helds }
     {
         self.helds.push_reserved(held);
     }
 
     /// Takes the heap from the top.
-    pub(crate) fn pop(&mut self) -> Held<Kept>
+    pub(crate) fn pop(&mut self) -> Held<LockedHeap>
         requires some { 0 < length (helds_of self.old) }
         ensures popped { helds_of self.old ≡ result ∷ helds_of self.new }
-        ensures room { vec_capacity self.new.helds ≡ vec_capacity self.old.helds }
+        ensures slot { vec_capacity self.new.helds ≡ vec_capacity self.old.helds }
     {
         self.helds.take_last()
     }
@@ -53,7 +53,7 @@ impl Holds {
     pub(crate) fn end(self)
         requires { helds_of self ≡ [] }
     {
-        let Holds { helds } = self;
+        let LockedHeaps { helds } = self;
         helds.destroy_empty();
     }
 }

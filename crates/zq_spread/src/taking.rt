@@ -18,7 +18,7 @@ impl Site {
     fn has_place(&self, op: &Op) -> bool
         ensures { (result ≡ true) ↔ IsOfSite self.now op.now }
     {
-        usize::from(op.heaps()) == self.rooms.len()
+        usize::from(op.heaps()) == self.slots.len()
             && heap_of(op.key(), op.member(), op.heaps()) == op.heap()
     }
 

@@ -2,7 +2,7 @@
 ghost use Rattle.std.specs.Prelude.{◌≡◌, ◌<◌, ◌≤◌, ◌⊎◌, [], IfErr, IfOk, IsTrue, List, OnErr, length, vec_capacity};
 ghost use Rattle.zq_commands.specs.Commands.{HasBooks};
 ghost use Rattle.zq_commands.specs.VecBooks.{lending_of};
-ghost use Rattle.zq_history.specs.Books.{Book as Books};
+ghost use Rattle.zq_model.specs.Books.{Book as Books};
 ghost use Rattle.zq_resp.specs.Reply.{is_writable, reply_bytes};
 ghost use Rattle.zq_spread.specs.Calls.{heaps_of};
 ghost use Rattle.zq_spread.specs.Dispatch.{HasAnswered, HasHeldEach, IsCommand, IsNear, IsTurnedAway, IsWornOut, all_heaps};
@@ -15,10 +15,10 @@ ghost use Rattle.zq_words.specs.Command.{Zpopnear};
 use crate::calling::{short, worn};
 use crate::calling_all::every;
 use crate::faults::Busy;
-use crate::holds::Holds;
+use crate::lock_scan::{LockScan, Stop};
+use crate::locked_heaps::LockedHeaps;
 use crate::pass::Pass;
 use crate::site::Site;
-use crate::sought::{Sought, Stop};
 use std::alloc::Global;
 use zq_resp::Reply;
 use zq_words::Command;
@@ -32,7 +32,7 @@ impl Site {
         heaps: &[u8],
         key: &[u8],
         is_enough: bool,
-        holds: &mut Holds,
+        holds: &mut LockedHeaps,
         command: &Command,
     ) -> Result<Reply, Stop>
         requires pass { IsPassOf self.now pass.old }
@@ -40,7 +40,7 @@ impl Site {
         requires heaps { AreHeapsOf self.now heaps.now }
         requires homes { (books : List Books) → AreBooksAt self.now heaps.now books → HasBooks command.now (lending_of books) }
         requires empty { helds_of holds.old ≡ [] }
-        requires room { length heaps.now ≤ vec_capacity holds.old.helds }
+        requires slot { length heaps.now ≤ vec_capacity holds.old.helds }
         ensures pass { IsPassOf self.now pass.new }
         ensures called { IfOk result (λ reply. HasAnswered self.now command.now key.now is_enough (reply_bytes reply) pass.old pass.new heaps.now) }
         ensures stopped { OnErr result (IsStopped pass.old pass.new) }
@@ -49,11 +49,11 @@ impl Site {
         ensures empty { helds_of holds.new ≡ [] }
         ensures stays { OnErr result (vec_capacity holds.new.helds ≡ vec_capacity holds.old.helds) }
     {
-        let sought = Sought {
+        let scan = LockScan {
             stamp: pass.stamp,
             is_enough,
         };
-        match self.try_begin_all(pass, heaps, key, sought, holds) {
+        match self.try_begin_all(pass, heaps, key, scan, holds) {
             Ok(stamp) => Ok(self.work_all(alloc, pass, heaps, holds, stamp, command)),
             Err(stop) => Err(stop),
         }
@@ -64,12 +64,12 @@ impl Site {
         &self,
         alloc: Global,
         pass: &mut Pass,
-        holds: &mut Holds,
+        holds: &mut LockedHeaps,
         command: &Command,
     ) -> Result<Reply, Busy>
         requires pass { IsPassOf self.now pass.old }
         requires empty { helds_of holds.old ≡ [] }
-        requires room { heaps_of self.now ≤ vec_capacity holds.old.helds }
+        requires slot { heaps_of self.now ≤ vec_capacity holds.old.helds }
         ensures pass { IsPassOf self.now pass.new }
         ensures called { IfOk result (λ reply. (IsCommand self.now command.now (reply_bytes reply) pass.old pass.new (all_heaps self.now) × HasHeldEach pass.old pass.new (all_heaps self.now))
             ⊎ IsWornOut (all_heaps self.now) (reply_bytes reply) pass.old pass.new) }
@@ -77,7 +77,7 @@ impl Site {
         ensures writable { IfOk result (λ reply. IsTrue (is_writable reply)) }
         ensures empty { helds_of holds.new ≡ [] }
     {
-        let heaps = every(self.rooms.len());
+        let heaps = every(self.slots.len());
         match self.try_call_in(alloc, pass, heaps, &[], true, holds, command) {
             Ok(reply) => Ok(reply),
             Err(Stop::Busy) => Err(Busy),
@@ -95,7 +95,7 @@ impl Site {
         pass: &mut Pass,
         drawn: &[u8],
         key: &[u8],
-        holds: &mut Holds,
+        holds: &mut LockedHeaps,
         command: &Command,
     ) -> Result<Reply, Busy>
         requires pass { IsPassOf self.now pass.old }
@@ -104,7 +104,7 @@ impl Site {
         requires few { length drawn.now ≤ heaps_of self.now }
         requires near { command.now ≡ Zpopnear key.now }
         requires empty { helds_of holds.old ≡ [] }
-        requires room { heaps_of self.now ≤ vec_capacity holds.old.helds }
+        requires slot { heaps_of self.now ≤ vec_capacity holds.old.helds }
         ensures pass { IsPassOf self.now pass.new }
         ensures called { IfOk result (λ reply. IsNear self.now command.now (reply_bytes reply) pass.old pass.new drawn.now) }
         ensures busy { OnErr result (IsBusyIn (all_heaps self.now) pass.old pass.new) }
@@ -133,7 +133,7 @@ impl Site {
         ensures busy { OnErr result (IsBusyIn (all_heaps self.now) pass.old pass.new) }
         ensures writable { IfOk result (λ reply. IsTrue (is_writable reply)) }
     {
-        let Ok(mut holds) = Holds::with_room(alloc, self.rooms.len()) else {
+        let Ok(mut holds) = LockedHeaps::with_room(alloc, self.slots.len()) else {
             return Ok(short());
         };
         let reply = self.try_answer_all(alloc, pass, &mut holds, command);
@@ -158,7 +158,7 @@ impl Site {
         ensures busy { OnErr result (IsBusyIn (all_heaps self.now) pass.old pass.new) }
         ensures writable { IfOk result (λ reply. IsTrue (is_writable reply)) }
     {
-        let Ok(mut holds) = Holds::with_room(alloc, self.rooms.len()) else {
+        let Ok(mut holds) = LockedHeaps::with_room(alloc, self.slots.len()) else {
             return Ok(short());
         };
         let (low, high) = self.draw(w1, w2);

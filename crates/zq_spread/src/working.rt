@@ -9,10 +9,10 @@ ghost use Rattle.zq_spread.specs.Calls.{greatest_stamp};
 ghost use Rattle.zq_spread.specs.Dispatch.{IsCommandOver};
 ghost use Rattle.zq_spread.specs.Passes.{IsPassBut, IsPassOf};
 ghost use Rattle.zq_spread.specs.Several.{AreBegunAt, AreHeapsOf, IsSameOutside, books_of, helds_of};
-ghost use Rattle.zq_spread.specs.declared.kept.Kept.{Kept as Value};
+ghost use Rattle.zq_spread.specs.declared.locked_heap.LockedHeap.{LockedHeap as Value};
 ghost use Rattle.zq_spread.specs.declared.pass.Pass.{Pass as Passes};
 
-use crate::holds::Holds;
+use crate::locked_heaps::LockedHeaps;
 use crate::pass::Pass;
 use crate::site::Site;
 use std::alloc::Global;
@@ -27,7 +27,7 @@ impl Site {
         alloc: Global,
         pass: &mut Pass,
         heaps: &[u8],
-        holds: &mut Holds,
+        holds: &mut LockedHeaps,
         stamp: u64,
         command: &Command,
     ) -> Reply

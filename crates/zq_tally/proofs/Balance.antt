@@ -4,7 +4,7 @@ use Rattle.std.specs.Prelude.{sum, sum_by}
 use mathlib.Core.Option.{some}
 use lib.ListN.{get_elem?}
 use Rattle.zq_tally.specs.declared.view.View.{View}
-use Rattle.zq_tally.specs.declared.view.TheConstants.{PARTS}
+use Rattle.zq_tally.specs.Limits.{ALL_PARTS}
 use Rattle.zq_tally.specs.Views.{nothing, parts, steps, totals, total, one_of, value_of}
 use Rattle.zq_tally.specs.Rule.{AreTallied}
 use Rattle.zq_tally.proofs.Sums.{sum_by-replace, sum_by-split, sum_by-join, sum_by-nothing}
@@ -56,7 +56,7 @@ no_total_left v none = of_option v.total none
 
 -- the total is the steps of its own view and those of all others, of which there are none where it has all parts
 pub total_is : (views : List View) (seat : ℕ) (v : View) → AreTallied views → get_elem? views seat ≡ some v → totals v ≡ 1
-    → (steps v ≤ total v) × (parts v ≡ PARTS → total v ≡ steps v)
+    → (steps v ≤ total v) × (parts v ≡ ALL_PARTS → total v ≡ steps v)
 total_is views seat v rule here keeps =
     let others : List View = set views seat nothing in
     let a : sum_by parts others + parts v ≡ sum_by parts views + 0 = sum_by-replace parts views seat v nothing here in

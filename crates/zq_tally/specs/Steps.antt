@@ -2,7 +2,7 @@
 use Rattle.std.specs.Prelude.{◌≡◌, ℕ, ◌+◌, ◌-◌, ◌≤◌, None, IfSome, [], ◌∷◌, ◌++◌, map, option_map, take, drop, sum}
 use Rattle.atomic_table.specs.Table.{Step, Me}
 use Rattle.zq_tally.specs.declared.view.View.{View}
-use Rattle.zq_tally.specs.declared.view.TheConstants.{PARTS}
+use Rattle.zq_tally.specs.Limits.{ALL_PARTS}
 use Rattle.zq_tally.specs.Views.{view, parts}
 
 -- a view with the passes and the parts of another, whose passes come first
@@ -32,7 +32,7 @@ one_less v = view v.steps (v.kept - 1) v.total
 
 -- the total is no less than the steps of these passes, and it is their sum where no part is elsewhere
 abbrev pub IsBound : View → ℕ → Type 0
-IsBound v total = (sum v.steps ≤ total) × (parts v ≡ PARTS → total ≡ sum v.steps)
+IsBound v total = (sum v.steps ≤ total) × (parts v ≡ ALL_PARTS → total ≡ sum v.steps)
 
 -- a look tells what the rule says of the view, and changes nothing
 abbrev pub Learned : {S : Type 0} → Step S → Me S View → ℕ → Me S View → Type 0

@@ -1,7 +1,7 @@
 -- Views: what a seat knows of its table.
 use Rattle.std.specs.Prelude.{ℕ, ◌+◌, Option, Some, None, List, [], length, sum}
 use Rattle.zq_tally.specs.declared.view.View.{View}
-use Rattle.zq_tally.specs.declared.view.TheConstants.{PARTS}
+use Rattle.zq_tally.specs.Limits.{ALL_PARTS}
 
 abbrev pub view : List ℕ → ℕ → Option ℕ → View
 view steps kept total = record { steps = steps; kept = kept; total = total }
@@ -12,7 +12,7 @@ nothing = view [] 0 None
 
 -- of the first seat: all parts, and the total of no step
 abbrev pub untouched : View
-untouched = view [] PARTS (Some 0)
+untouched = view [] ALL_PARTS (Some 0)
 
 -- its parts: one for each pass, and those that are kept
 abbrev pub parts : View → ℕ

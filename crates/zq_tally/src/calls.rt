@@ -1,6 +1,6 @@
 //! Counting a step, and the tally of all passes.
 ghost use Rattle.std.specs.Prelude.{◌≡◌, ◌+◌, ◌<◌, [], sum, length};
-ghost use Rattle.zq_tally.specs.declared.view.TheConstants.{PARTS};
+ghost use Rattle.zq_tally.specs.Limits.{ALL_PARTS};
 ghost use Rattle.zq_tally.specs.Words.{id_of, count_table, steps_of, total_table, total_of, kept_of, passes_of, parts_of, AreOf, all_steps, AreSameCounts, IsSameTotal};
 
 use crate::count::Count;
@@ -36,7 +36,7 @@ impl Tally {
     /// Joins these counts with the total, looks, and splits them again as they were.
     fn tally_with(&self, total: &mut Total, first: &mut Count, others: &mut [Count])
         requires own { (total_table total.old ≡ id_of self.now) × (count_table first.old ≡ id_of self.now) × AreOf (id_of self.now) others.old }
-        requires all { 1 + length others.old + parts_of total.old ≡ PARTS }
+        requires all { 1 + length others.old + parts_of total.old ≡ ALL_PARTS }
         ensures sum { total_of total.old ≡ steps_of first.old + all_steps others.old + sum (passes_of total.old) }
         ensures first { (steps_of first.new ≡ steps_of first.old) × (count_table first.new ≡ count_table first.old) }
         ensures others { AreSameCounts others.new others.old }
@@ -59,7 +59,7 @@ impl Tally {
     pub fn tally(&self, total: &mut Total, counts: &mut [Count]) -> u64
         requires own { (total_table total.old ≡ id_of self.now) × AreOf (id_of self.now) counts.old }
         requires alone { passes_of total.old ≡ [] }
-        requires all { length counts.old + kept_of total.old ≡ PARTS }
+        requires all { length counts.old + kept_of total.old ≡ ALL_PARTS }
         ensures total { result ≡ total_of total.old }
         ensures sum { result ≡ all_steps counts.old }
         ensures counts { AreSameCounts counts.new counts.old }

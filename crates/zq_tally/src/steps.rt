@@ -1,6 +1,6 @@
 //! The steps. Each is one load of the word.
 ghost use Rattle.std.specs.Prelude.{◌≡◌, ℕ, ◌+◌, ◌<◌, ◌≤◌, Some, [], ◌∷◌, sum, slice_get};
-ghost use Rattle.zq_tally.specs.declared.view.TheConstants.{PARTS};
+ghost use Rattle.zq_tally.specs.Limits.{ALL_PARTS};
 ghost use Rattle.zq_tally.specs.Words.{id_of, count_table, steps_of, total_table, total_of, kept_of, passes_of, parts_of, IsSameTotal};
 
 use crate::count::Count;
@@ -53,7 +53,7 @@ impl Tally {
     pub fn look(&self, total: &mut Total)
         requires own { total_table total.old ≡ id_of self.now }
         ensures at_least { sum (passes_of total.old) ≤ total_of total.old }
-        ensures all { parts_of total.old ≡ PARTS → total_of total.old ≡ sum (passes_of total.old) }
+        ensures all { parts_of total.old ≡ ALL_PARTS → total_of total.old ≡ sum (passes_of total.old) }
         ensures stays { IsSameTotal total.new total.old }
     {
         self.table.shared.load::<Look>(&mut total.place, WORD);

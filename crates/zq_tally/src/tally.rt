@@ -21,6 +21,7 @@ pub struct Tally {
 
 impl Tally {
     ghost use Rattle.std.specs.Prelude.{◌≡◌, [], IfOk};
+    ghost use Rattle.zq_tally.specs.Limits.{ALL_PARTS};
     ghost use Rattle.zq_tally.specs.declared.view.TheConstants.{PARTS};
     ghost use Rattle.zq_tally.specs.Words.{id_of, total_table, total_of, kept_of, passes_of};
 
@@ -28,7 +29,8 @@ impl Tally {
     pub fn new(alloc: Global) -> Result<(Tally, Total), NoMemory>
         ensures table { IfOk result (λ made. total_table made.1 ≡ id_of made.0) }
         ensures zero { IfOk result (λ made. total_of made.1 ≡ 0) }
-        ensures parts { IfOk result (λ made. (kept_of made.1 ≡ PARTS) × (passes_of made.1 ≡ [])) }
+        ensures number { PARTS ≡ ALL_PARTS }
+        ensures parts { IfOk result (λ made. (kept_of made.1 ≡ ALL_PARTS) × (passes_of made.1 ≡ [])) }
     {
         match Table::of_words(alloc, &[0], &()) {
             Ok((table, place)) => Ok((Tally { table }, Total { place, steps: 0 })),

@@ -1,7 +1,7 @@
 //! 128 passes; what was joined last is split first.
 
 ghost use Rattle.std.specs.Prelude.{◌≡◌, ◌+◌, ◌≤◌, [], IfOk, length, vec_len};
-ghost use Rattle.zq_tally.specs.declared.view.TheConstants.{PARTS};
+ghost use Rattle.zq_tally.specs.Limits.{ALL_PARTS};
 ghost use Rattle.zq_tally.specs.Words.{id_of, total_table, total_of, kept_of, passes_of, AreOf};
 
 use crate::{Count, Tally, Total};
@@ -12,7 +12,7 @@ use std::test::Fail;
 fn opened(alloc: Global) -> Result<(Tally, Total), Fail>
     ensures table { IfOk result (λ made. total_table made.1 ≡ id_of made.0) }
     ensures zero { IfOk result (λ made. total_of made.1 ≡ 0) }
-    ensures parts { IfOk result (λ made. (kept_of made.1 ≡ PARTS) × (passes_of made.1 ≡ [])) }
+    ensures parts { IfOk result (λ made. (kept_of made.1 ≡ ALL_PARTS) × (passes_of made.1 ≡ [])) }
 {
     match Tally::new(alloc) {
         Ok(made) => Ok(made),
@@ -23,7 +23,7 @@ fn opened(alloc: Global) -> Result<(Tally, Total), Fail>
 /// As many passes as a table has.
 fn all_passes(alloc: Global, tally: &Tally, total: &mut Total) -> Result<Vec<Count>, Fail>
     requires own { total_table total.old ≡ id_of tally.now }
-    requires new { (kept_of total.old ≡ PARTS) × (passes_of total.old ≡ []) × (total_of total.old ≡ 0) }
+    requires new { (kept_of total.old ≡ ALL_PARTS) × (passes_of total.old ≡ []) × (total_of total.old ≡ 0) }
     ensures table { total_table total.new ≡ id_of tally.now }
     ensures own { IfOk result (λ counts. AreOf (id_of tally.now) counts.items) }
     ensures all { IfOk result (λ counts. (vec_len counts ≡ 128) × (kept_of total.new ≡ 1) × (passes_of total.new ≡ []) × (total_of total.new ≡ 0)) }

@@ -102,8 +102,8 @@ impl<T: Keeps> TicketLock<T> {
     }
 
     /// Takes the value out if nobody holds the lock or waits with a ticket. It never sleeps, nor waits at the door.
-    /// Or else the seat comes back: worn where it found that all tickets were served, and else busy, where it found that
-    /// somebody else had drawn the ticket which is served.
+    /// Or else the seat comes back: exhausted where it found that all tickets were served, and else busy, where it found
+    /// that somebody else had drawn the ticket which is served.
     pub fn try_lock(&self, mut seat: Seat<T>) -> Result<Held<T>, (TryFault, Seat<T>)>
         requires own { lock_of seat ≡ id_of self.now }
         ensures lock { IfOk result (λ held. held_lock held ≡ lock_of seat) }

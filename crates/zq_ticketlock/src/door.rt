@@ -10,8 +10,8 @@
 //!   after the thread was counted, and that release finds that somebody waits, and calls.
 //! - A call sets `called`, and nobody falls asleep while it is set. So after a call either somebody sleeps, and is woken,
 //!   or all who wait are awake. In both cases one who waits will leave.
-//! - Who leaves clears `called` and draws a ticket, and looks at the door again when it releases. Where the lock is worn
-//!   and refuses it, it calls the next one.
+//! - Who leaves clears `called` and draws a ticket, and looks at the door again when it releases. Where the lock is
+//!   exhausted and refuses it, it calls the next one.
 //!
 //! No clause speaks of waiting. `tools/search-the-door` walks all orders of these steps for three and four threads.
 

@@ -14,7 +14,7 @@ use atomic_table::Table;
 use std::alloc::Global;
 use std::sync::atomic::AtomicU64;
 
-/// The last value of both words, at which no ticket is drawn: there the lock is worn.
+/// The last value of both words, at which no ticket is drawn: there the lock is exhausted.
 pub const LAST_TICKET: u64 = 4_611_686_018_427_387_904;
 
 /// The word that says which ticket is served.

@@ -6,7 +6,7 @@ use crate::sites::opened;
 use crate::streams::{Pieces, Taken};
 use std::alloc::Global;
 use std::sync::Wait;
-use zq_server::{End, Passing, SessionFault, session};
+use zq_session::{End, Passing, SessionFault, session};
 use zq_spread::{Draws, Pass, Site};
 
 /// So many bytes of a stream are answered by so many bytes in all.

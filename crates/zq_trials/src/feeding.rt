@@ -4,7 +4,7 @@ use crate::ended::{Ended, Tried, judge};
 use crate::streams::{Pieces, Taken};
 use std::alloc::Global;
 use zq_resp::{FeedFault, Reader, Reply, Request};
-use zq_server::{Answers, End, SessionFault, session};
+use zq_session::{Answers, End, SessionFault, session};
 
 /// Three requests, of which the second has words past those that take no memory of their own.
 const STREAM: &[u8] =

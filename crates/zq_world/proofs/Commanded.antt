@@ -12,26 +12,26 @@ use Rattle.zq_commands.specs.Running.{EndsOver}
 use Rattle.zq_commands.specs.SiteBooks.{AreOfSite}
 use Rattle.zq_commands.specs.VecBooks.{heaps_in, lending_of, rule_in}
 use Rattle.zq_dots.specs.Placed.{Placed}
-use Rattle.zq_history.specs.Books.{Book}
+use Rattle.zq_model.specs.Books.{Book}
 use Rattle.zq_model.specs.Bounded.{HasShortNames}
 use Rattle.zq_model.specs.Operation.{Operation}
 use Rattle.zq_model.specs.Rule.{Rule}
 use Rattle.zq_model.specs.Sets.{IsIn, IsWorld, SITES}
-use Rattle.zq_moves.specs.Lent.{queues_of}
-use Rattle.zq_moves.specs.Moves.{Queues}
-use Rattle.zq_plans.specs.Plan.{Plan, plan_of}
-use Rattle.zq_plans.specs.Replies.{bytes_of}
-use Rattle.zq_plans.specs.Run.{ForCopies, LAST_COUNT, Number, cut_error, cut_reply}
+use Rattle.zq_model.specs.Lent.{queues_of}
+use Rattle.zq_model.specs.Moves.{Queues}
+use Rattle.zq_semantics.specs.Plan.{Plan, plan_of}
+use Rattle.zq_semantics.specs.Replies.{bytes_of}
+use Rattle.zq_semantics.specs.Run.{ForCopies, LAST_COUNT, Number, cut_error, cut_reply}
 use Rattle.zq_resp.specs.Reply.{reply_bytes}
 use Rattle.zq_resp.specs.declared.reply.Reply.{Reply}
-use Rattle.zq_runs.proofs.InRange.{moves_sound}
-use Rattle.zq_runs.proofs.Kept.{IsKept, world_of}
-use Rattle.zq_runs.proofs.KeptRuns.{kept_always, short_over}
-use Rattle.zq_runs.proofs.NearBooks.{same_plan}
-use Rattle.zq_runs.specs.Books.{AreBooksOf, AreSound, AreUnworn, greatest_stamp}
-use Rattle.zq_runs.specs.Doing.{Done, done_by, done_command, is_ping, queues_for, unchanged}
-use Rattle.zq_runs.specs.Reading.{heaps_in as heaps_of_all, queues_over}
-use Rattle.zq_runs.specs.State.{State, is_worn, next_stamp}
+use Rattle.zq_semantics.proofs.InRange.{moves_sound}
+use Rattle.zq_semantics.proofs.Kept.{IsKept, world_of}
+use Rattle.zq_semantics.proofs.KeptRuns.{kept_always, short_over}
+use Rattle.zq_semantics.proofs.NearBooks.{same_plan}
+use Rattle.zq_semantics.specs.Books.{AreBooksOf, AreSound, AreUnworn, greatest_stamp}
+use Rattle.zq_semantics.specs.Doing.{Done, done_by, done_command, is_ping, queues_for, unchanged}
+use Rattle.zq_semantics.specs.Reading.{heaps_in as heaps_of_all, queues_over}
+use Rattle.zq_semantics.specs.State.{State, is_worn, next_stamp}
 use Rattle.zq_words.specs.Command.{Command, Zpopnear}
 use Rattle.zq_words.specs.Limits.{IsWithinLimits}
 use Rattle.zq_words.specs.Shown.{shown}

@@ -8,25 +8,25 @@ use Rattle.zq_commands.specs.Lending.{Lending}
 use Rattle.zq_commands.specs.Running.{EndsOver, part, told_after, whole}
 use Rattle.zq_commands.specs.VecBooks.{rule_in}
 use Rattle.zq_dots.specs.Placed.{Placed}
-use Rattle.zq_history.specs.Books.{Book}
+use Rattle.zq_model.specs.Books.{Book}
 use Rattle.zq_model.proofs.Membership.{in_left}
 use Rattle.zq_model.specs.Bounded.{HasShortNames}
 use Rattle.zq_model.specs.Operation.{Operation}
 use Rattle.zq_model.specs.Rule.{Rule}
 use Rattle.zq_model.specs.Sets.{IsClosed, IsHeaps, IsIn, IsWorld, SITES}
-use Rattle.zq_moves.specs.Lent.{books_after, queues_of}
-use Rattle.zq_moves.specs.Moves.{Move, Queues}
-use Rattle.zq_plans.specs.Plan.{Plan, plan_of}
-use Rattle.zq_plans.specs.Replies.{Reply}
-use Rattle.zq_plans.specs.Run.{Memory, Number, Takes, Want, cut_reply, takes_of}
-use Rattle.zq_runs.proofs.InRange.{moves_sound}
-use Rattle.zq_runs.proofs.KeptRuns.{short_over}
-use Rattle.zq_runs.proofs.MovedBooks.{all_stand, done_part, done_whole, others_stay, some_stand, why_some}
-use Rattle.zq_runs.proofs.SiteBooks.{queues_are}
-use Rattle.zq_runs.specs.Books.{AreBooksOf, AreSound, AreUnworn}
-use Rattle.zq_runs.specs.Doing.{Done, done_by}
-use Rattle.zq_runs.specs.Reading.{heaps_in, queues_over}
-use Rattle.zq_runs.specs.State.{State, after_moves}
+use Rattle.zq_model.specs.Lent.{books_after, queues_of}
+use Rattle.zq_model.specs.Moves.{Move, Queues}
+use Rattle.zq_semantics.specs.Plan.{Plan, plan_of}
+use Rattle.zq_semantics.specs.Replies.{Reply}
+use Rattle.zq_semantics.specs.Run.{Memory, Number, Takes, Want, cut_reply, takes_of}
+use Rattle.zq_semantics.proofs.InRange.{moves_sound}
+use Rattle.zq_semantics.proofs.KeptRuns.{short_over}
+use Rattle.zq_semantics.proofs.MovedBooks.{all_stand, done_part, done_whole, others_stay, some_stand, why_some}
+use Rattle.zq_semantics.proofs.SiteBooks.{queues_are}
+use Rattle.zq_semantics.specs.Books.{AreBooksOf, AreSound, AreUnworn}
+use Rattle.zq_semantics.specs.Doing.{Done, done_by}
+use Rattle.zq_semantics.specs.Reading.{heaps_in, queues_over}
+use Rattle.zq_semantics.specs.State.{State, after_moves}
 use Rattle.zq_words.specs.Command.{Command}
 use Rattle.zq_words.specs.Limits.{IsWithinLimits}
 use Rattle.zq_words.specs.Words.{Word}

@@ -3,18 +3,18 @@
 use Rattle.std.proofs.Common.{List, None, Some, ◌+◌, arith, false, le-leb, leb-true, refl, subst, sym, true, ℕ, ◌∷◌, ◌≡◌, ◌<◌}
 use Rattle.std.proofs.lemmas.Bool.{cond-false, cond-true, false_from_ne_true, or_left, or_right}
 use Rattle.std.specs.Prelude.{nat_le, slice_get, slice_set, ◌||◌}
-use Rattle.zq_history.specs.Books.{Book, Took, recorded}
+use Rattle.zq_model.specs.Books.{Book, Took, recorded}
 use Rattle.zq_journal.specs.Books.{book_when}
 use Rattle.zq_model.specs.Operation.{Operation}
 use Rattle.zq_model.specs.Rule.{Rule}
 use Rattle.zq_model.specs.Sets.{Early, IsClosed, IsWorld, Known, New, Taken}
-use Rattle.zq_plans.specs.Run.{LAST_COUNT}
+use Rattle.zq_semantics.specs.Run.{LAST_COUNT}
 use Rattle.zq_posheap.proofs.Lists.{set_again}
-use Rattle.zq_runs.proofs.BooksOf.{books_taken}
-use Rattle.zq_runs.proofs.SiteBooks.{stamps_are}
-use Rattle.zq_runs.specs.Books.{AreBooksOf, greatest_stamp}
-use Rattle.zq_runs.specs.Events.{after_taken, answer_taken, is_blocked, judged}
-use Rattle.zq_runs.specs.State.{State, counted, greatest, is_worn, next_stamp}
+use Rattle.zq_semantics.proofs.BooksOf.{books_taken}
+use Rattle.zq_semantics.proofs.SiteBooks.{stamps_are}
+use Rattle.zq_semantics.specs.Books.{AreBooksOf, greatest_stamp}
+use Rattle.zq_semantics.specs.Events.{after_taken, answer_taken, is_blocked, judged}
+use Rattle.zq_semantics.specs.State.{State, counted, greatest, is_worn, next_stamp}
 
 not_above : (n : ℕ) → n < LAST_COUNT → nat_le LAST_COUNT n ≡ false
 not_above n below = false_from_ne_true (nat_le LAST_COUNT n) (λ e. let above = leb-true LAST_COUNT n e in omega (arith, above, below))

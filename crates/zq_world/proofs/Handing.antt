@@ -3,20 +3,20 @@
 use Rattle.std.proofs.Common.{List, Some, ap, arith, false, refl, subst, sym, true, ℕ, ◌<◌, ◌==◌, ◌∙◌, ◌∷◌, ◌≡◌}
 use Rattle.std.specs.Prelude.{if◌then◌else◌, slice_get}
 use Rattle.zq_dots.specs.Placed.{Placed}
-use Rattle.zq_history.specs.Books.{Book}
+use Rattle.zq_model.specs.Books.{Book}
 use Rattle.zq_journal.specs.Books.{state_of}
 use Rattle.zq_model.proofs.Worlds.{world_part}
 use Rattle.zq_model.specs.Heaps.{heap_of}
 use Rattle.zq_model.specs.Operation.{Operation}
 use Rattle.zq_model.specs.Rule.{Rule}
 use Rattle.zq_model.specs.Sets.{Early, IsClosed, IsIn, IsWorld, Known, New, Taken}
-use Rattle.zq_runs.proofs.BooksOf.{books_of_others}
-use Rattle.zq_runs.proofs.Kept.{IsKept}
-use Rattle.zq_runs.proofs.KeptRuns.{heap_below_key, kept_always}
-use Rattle.zq_runs.proofs.MovedBooks.{read_within}
-use Rattle.zq_runs.specs.Books.{AreBooksOf}
-use Rattle.zq_runs.specs.Events.{after_taken, is_blocked}
-use Rattle.zq_runs.specs.State.{State, counted, next_stamp}
+use Rattle.zq_semantics.proofs.BooksOf.{books_of_others}
+use Rattle.zq_semantics.proofs.Kept.{IsKept}
+use Rattle.zq_semantics.proofs.KeptRuns.{heap_below_key, kept_always}
+use Rattle.zq_semantics.proofs.MovedBooks.{read_within}
+use Rattle.zq_semantics.specs.Books.{AreBooksOf}
+use Rattle.zq_semantics.specs.Events.{after_taken, is_blocked}
+use Rattle.zq_semantics.specs.State.{State, counted, next_stamp}
 use Rattle.zq_shard.specs.Shard.{IsOfHeap}
 use Rattle.zq_world.specs.Frames.{placed}
 use Rattle.zq_world.specs.Play.{Holds, Played, run_of}

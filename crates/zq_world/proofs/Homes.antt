@@ -9,13 +9,13 @@ use Rattle.zq_commands.proofs.BookMoves.{home_heap, set_lent_after}
 use Rattle.zq_commands.specs.Lending.{IsLending, lent_after, operations_by}
 use Rattle.zq_commands.specs.VecBooks.{heaps_in, lending_of}
 use Rattle.zq_dots.specs.Placed.{Placed}
-use Rattle.zq_history.specs.Books.{Book}
+use Rattle.zq_model.specs.Books.{Book}
 use Rattle.zq_model.specs.Operation.{Operation}
 use Rattle.zq_model.specs.Sets.{IsIn}
-use Rattle.zq_moves.proofs.Homes.{lent_each}
-use Rattle.zq_moves.proofs.Read.{in_place}
-use Rattle.zq_moves.specs.Lent.{AreLent, IsLent, is_home, made_in, operation_in}
-use Rattle.zq_moves.specs.Moves.{Move}
+use Rattle.zq_model.proofs.Homes.{lent_each}
+use Rattle.zq_model.proofs.Read.{in_place}
+use Rattle.zq_model.specs.Lent.{AreLent, IsLent, is_home, made_in, operation_in}
+use Rattle.zq_model.specs.Moves.{Move}
 use Rattle.zq_world.specs.Told.{lending_told, operations_in, told_in}
 
 module _ (site stamp : ℕ) (move : Move) where

@@ -11,10 +11,10 @@ use Rattle.zq_model.proofs.Membership.{in_or_not, in_union}
 use Rattle.zq_model.specs.Operation.{Operation}
 use Rattle.zq_model.specs.Sets.{IsIn}
 use Rattle.zq_posheap.proofs.Lists.{behind, mapped_at, slice_get-set_other, slice_get-set_same}
-use Rattle.zq_runs.proofs.Moments.{moments_are}
-use Rattle.zq_runs.proofs.MovedBooks.{read_within}
-use Rattle.zq_runs.specs.Events.{Do, Event, Merge, Take, set_at}
-use Rattle.zq_runs.specs.Runs.{run}
+use Rattle.zq_semantics.proofs.Moments.{moments_are}
+use Rattle.zq_semantics.proofs.MovedBooks.{read_within}
+use Rattle.zq_semantics.specs.Events.{Do, Event, Merge, Take, set_at}
+use Rattle.zq_semantics.specs.Runs.{run}
 use Rattle.zq_shard.specs.Shard.{HeapImage}
 use Rattle.zq_world.specs.Frames.{heap_at}
 use Rattle.zq_world.specs.Keeping.{AreReady, IsReady}

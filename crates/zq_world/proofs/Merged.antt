@@ -3,16 +3,16 @@
 use Rattle.std.proofs.Common.{List, Some, subst, sym, true, ℕ, ◌++◌, ◌+◌, ◌<◌, ◌≡◌}
 use Rattle.std.proofs.lemmas.Bool.{cond-false, cond-true}
 use Rattle.std.specs.Prelude.{slice_get, slice_set}
-use Rattle.zq_history.specs.Books.{Book, merged}
+use Rattle.zq_model.specs.Books.{Book, merged}
 use Rattle.zq_model.specs.Image.{Image, image_of}
 use Rattle.zq_model.specs.Operation.{Operation}
 use Rattle.zq_model.specs.Rule.{Rule}
 use Rattle.zq_model.specs.Sets.{IsClosed, IsWorld, in_heap}
-use Rattle.zq_plans.specs.Run.{LAST_COUNT}
-use Rattle.zq_runs.proofs.BooksOf.{books_merged}
-use Rattle.zq_runs.specs.Books.{AreBooksOf, greatest_stamp}
-use Rattle.zq_runs.specs.Events.{is_blocked}
-use Rattle.zq_runs.specs.State.{State, counted, next_stamp}
+use Rattle.zq_semantics.specs.Run.{LAST_COUNT}
+use Rattle.zq_semantics.proofs.BooksOf.{books_merged}
+use Rattle.zq_semantics.specs.Books.{AreBooksOf, greatest_stamp}
+use Rattle.zq_semantics.specs.Events.{is_blocked}
+use Rattle.zq_semantics.specs.State.{State, counted, next_stamp}
 use Rattle.zq_world.proofs.Handed.{stamp_next, unblocked}
 use Rattle.zq_world.specs.Steps.{merged_state}
 

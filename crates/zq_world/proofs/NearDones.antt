@@ -9,7 +9,7 @@ use Rattle.zq_commands.specs.Lending.{IsLending, Lending, told_by}
 use Rattle.zq_commands.specs.Running.{EndsOver, lent_after_all, part, told_after, whole}
 use Rattle.zq_commands.specs.VecBooks.{heaps_in, lending_of, rule_in}
 use Rattle.zq_dots.specs.Placed.{Placed}
-use Rattle.zq_history.specs.Books.{Book}
+use Rattle.zq_model.specs.Books.{Book}
 use Rattle.zq_model.proofs.Membership.{any_in, any_some}
 use Rattle.zq_model.specs.Bounded.{IsBounded}
 use Rattle.zq_model.specs.Meaning.{Scored}
@@ -17,20 +17,20 @@ use Rattle.zq_model.specs.Operation.{Drop, Operation}
 use Rattle.zq_model.specs.Queue.{queue_of}
 use Rattle.zq_model.specs.Rule.{Rule}
 use Rattle.zq_model.specs.Sets.{IsIn, IsWorld}
-use Rattle.zq_moves.proofs.Homes.{lent_each}
-use Rattle.zq_moves.proofs.Read.{in_place}
-use Rattle.zq_moves.specs.Lent.{is_home, queues_of}
-use Rattle.zq_moves.specs.Moves.{Move, Queue, Queues}
-use Rattle.zq_plans.specs.Plan.{Plan, drops, is_there, plan_of}
-use Rattle.zq_plans.specs.Replies.{bytes_of}
-use Rattle.zq_plans.specs.Run.{ForCopies, IsWhy, Memory, Number, cut_reply, is_worn}
-use Rattle.zq_runs.proofs.MovedBooks.{read_within, why_some}
-use Rattle.zq_runs.proofs.NearBooks.{alone_is, same_plan}
-use Rattle.zq_runs.proofs.SiteBooks.{queues_are}
-use Rattle.zq_runs.specs.Books.{AreBooksOf}
-use Rattle.zq_runs.specs.Doing.{drawn, first_drawn, queues_for, second_drawn}
-use Rattle.zq_runs.specs.Reading.{heaps_in as heaps_of_all, queues_over}
-use Rattle.zq_runs.specs.State.{State}
+use Rattle.zq_model.proofs.Homes.{lent_each}
+use Rattle.zq_model.proofs.Read.{in_place}
+use Rattle.zq_model.specs.Lent.{is_home, queues_of}
+use Rattle.zq_model.specs.Moves.{Move, Queue, Queues}
+use Rattle.zq_semantics.specs.Plan.{Plan, drops, is_there, plan_of}
+use Rattle.zq_semantics.specs.Replies.{bytes_of}
+use Rattle.zq_semantics.specs.Run.{ForCopies, IsWhy, Memory, Number, cut_reply, is_worn}
+use Rattle.zq_semantics.proofs.MovedBooks.{read_within, why_some}
+use Rattle.zq_semantics.proofs.NearBooks.{alone_is, same_plan}
+use Rattle.zq_semantics.proofs.SiteBooks.{queues_are}
+use Rattle.zq_semantics.specs.Books.{AreBooksOf}
+use Rattle.zq_semantics.specs.Doing.{drawn, first_drawn, queues_for, second_drawn}
+use Rattle.zq_semantics.specs.Reading.{heaps_in as heaps_of_all, queues_over}
+use Rattle.zq_semantics.specs.State.{State}
 use Rattle.zq_words.specs.Command.{Zpopnear}
 use Rattle.zq_words.specs.Words.{Word}
 use Rattle.zq_world.proofs.Homes.{only_told}

@@ -5,9 +5,9 @@ use Rattle.std.proofs.lemmas.Bool.{cond-false, cond-true}
 use Rattle.std.specs.Ordering.{is_lt}
 use Rattle.std.specs.Prelude.{is_some, slice_get}
 use Rattle.zq_model.specs.Meaning.{Scored, scored_cmp}
-use Rattle.zq_moves.specs.Merging.{least}
-use Rattle.zq_moves.specs.Moves.{Queue}
-use Rattle.zq_plans.specs.Plan.{is_there}
+use Rattle.zq_model.specs.Merging.{least}
+use Rattle.zq_model.specs.Moves.{Queue}
+use Rattle.zq_semantics.specs.Plan.{is_there}
 use Rattle.zq_world.specs.Near.{is_least}
 
 pub least_if : (p q : Option Scored) → is_least p q ≡ true → p ≡ least p q

@@ -10,8 +10,8 @@ use Rattle.zq_merge.specs.State.{state_at}
 use Rattle.zq_model.specs.Operation.{Operation}
 use Rattle.zq_model.specs.Rule.{Rule}
 use Rattle.zq_posheap.proofs.Lists.{behind, mapped_at, slice_get-set_other}
-use Rattle.zq_runs.specs.Events.{Do, Event, Merge, Take, is_possible}
-use Rattle.zq_runs.specs.Runs.{first_missing}
+use Rattle.zq_semantics.specs.Events.{Do, Event, Merge, Take, is_possible}
+use Rattle.zq_semantics.specs.Runs.{first_missing}
 use Rattle.zq_world.proofs.Prefixes.{missing_at, moments_of, set_stays}
 use Rattle.zq_world.specs.Frames.{heap_at, placed}
 use Rattle.zq_world.specs.Keeping.{AreReady, IsReady}

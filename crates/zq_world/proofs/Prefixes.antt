@@ -7,9 +7,9 @@ use Rattle.std.proofs.lemmas.Option.{none-some}
 use Rattle.std.specs.Prelude.{if◌then◌else◌}
 use Rattle.zq_model.specs.Rule.{Rule}
 use Rattle.zq_posheap.proofs.Lists.{slice_get-append_left}
-use Rattle.zq_runs.specs.Events.{Event, Run, is_possible, set_at, set_in, state_after}
-use Rattle.zq_runs.specs.Runs.{AreEvents, IsEvent, IsPlayable, after_event, missing_from, run, run_on, start}
-use Rattle.zq_runs.specs.State.{Sets}
+use Rattle.zq_semantics.specs.Events.{Event, Run, is_possible, set_at, set_in, state_after}
+use Rattle.zq_semantics.specs.Runs.{AreEvents, IsEvent, IsPlayable, after_event, missing_from, run, run_on, start}
+use Rattle.zq_semantics.specs.State.{Sets}
 
 module _ (rule : Rule) (K : ℕ) where
   run_on-append : (xs ys : List Event) (r : Run) → run_on rule K (xs ++ ys) r ≡ run_on rule K ys (run_on rule K xs r)

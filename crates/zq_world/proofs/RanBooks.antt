@@ -5,12 +5,12 @@ use Rattle.std.proofs.lemmas.List.{length-map}
 use Rattle.std.specs.Prelude.{if◌then◌else◌, take}
 use Rattle.zq_commands.specs.Lending.{Lending}
 use Rattle.zq_commands.specs.Running.{EndsOver, part, whole}
-use Rattle.zq_history.specs.Books.{Book}
-use Rattle.zq_moves.specs.Lent.{books_after, is_home, made, made_in}
-use Rattle.zq_moves.specs.Moves.{Move}
-use Rattle.zq_plans.specs.Plan.{Plan}
-use Rattle.zq_plans.specs.Replies.{Reply}
-use Rattle.zq_plans.specs.Run.{Takes, Want}
+use Rattle.zq_model.specs.Books.{Book}
+use Rattle.zq_model.specs.Lent.{books_after, is_home, made, made_in}
+use Rattle.zq_model.specs.Moves.{Move}
+use Rattle.zq_semantics.specs.Plan.{Plan}
+use Rattle.zq_semantics.specs.Replies.{Reply}
+use Rattle.zq_semantics.specs.Run.{Takes, Want}
 use Rattle.zq_words.specs.Words.{Word}
 
 number_after : (site stamp : ℕ) (moves : List Move) (books : List Book) → length (books_after site stamp moves books) ≡ length books

@@ -2,8 +2,8 @@
 
 use Rattle.std.proofs.Common.{List, Ok, refl, sym, true, true≢false, ◌≡◌}
 use Rattle.zq_commands.specs.Commands as commands
-use Rattle.zq_runs.proofs.Questions.{questions_read}
-use Rattle.zq_runs.specs.Reading.{is_question, is_reading}
+use Rattle.zq_semantics.proofs.Questions.{questions_read}
+use Rattle.zq_semantics.specs.Reading.{is_question, is_reading}
 use Rattle.zq_words.specs.Command.{Command, Del, Ping, Zadd, ZaddIncr, Zcard, Zcount, Zincrby, Zpopmin, Zpopnear, Zrange, Zrank, Zrem, Zrevrank, Zscore, command_of}
 use Rattle.zq_words.specs.Words.{Word}
 

@@ -4,9 +4,9 @@ use Rattle.std.proofs.Common.{List, Some, [], ap, arith, inl, inr, subst, sym, �
 use Rattle.std.proofs.lemmas.Bool.{cases_eq}
 use Rattle.std.proofs.lemmas.Option.{same_Some}
 use Rattle.std.specs.Prelude.{slice_get}
-use Rattle.zq_history.specs.Books.{Book}
+use Rattle.zq_model.specs.Books.{Book}
 use Rattle.zq_model.specs.Sets.{IsIn}
-use Rattle.zq_runs.specs.Books.{greatest_stamp}
+use Rattle.zq_semantics.specs.Books.{greatest_stamp}
 
 pub stamp_above : (books : List Book) (b : Book) → IsIn b books → b.stamp ≤ greatest_stamp books
 stamp_above [] b here = absurd here

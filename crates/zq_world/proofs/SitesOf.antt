@@ -4,15 +4,15 @@ use Rattle.std.proofs.Common.{List, Some, [], arith, length, refl, subst, sym, �
 use Rattle.std.specs.Prelude.{slice_get}
 use Rattle.zq_commands.specs.SiteBooks.{AreOfSite}
 use Rattle.zq_commands.specs.VecBooks.{rule_in}
-use Rattle.zq_history.specs.Books.{Book}
+use Rattle.zq_model.specs.Books.{Book}
 use Rattle.zq_model.proofs.BoundedImages.{bounded_set}
 use Rattle.zq_model.specs.Bounded.{HasShortNames, IsBounded}
 use Rattle.zq_model.specs.Image.{Image}
 use Rattle.zq_model.specs.Operation.{Operation}
 use Rattle.zq_model.specs.Rule.{Rule}
 use Rattle.zq_model.specs.Sets.{IsHeaps, IsIn, IsWorld}
-use Rattle.zq_runs.specs.Books.{AreBooksOf}
-use Rattle.zq_runs.specs.State.{State}
+use Rattle.zq_semantics.specs.Books.{AreBooksOf}
+use Rattle.zq_semantics.specs.State.{State}
 
 first_rule : (rule : Rule) (books : List Book) → 1 ≤ length books → ((b : Book) → slice_get books 0 ≡ Some b → b.rule ≡ rule) → rule_in books ≡ rule
 first_rule rule [] some is = absurd (omega (arith, some))

@@ -7,13 +7,13 @@ use Rattle.std.proofs.lemmas.Option.{same_Some}
 use Rattle.std.specs.Prelude.{slice_get}
 use Rattle.std.specs.declared.alloc.Global.{Global}
 use Rattle.zq_dots.specs.Placed.{Placed}
-use Rattle.zq_history.specs.Books.{Book}
+use Rattle.zq_model.specs.Books.{Book}
 use Rattle.zq_model.specs.Rule.{Rule}
 use Rattle.zq_posheap.proofs.Lists.{slice_get-set_other, slice_get-set_same}
-use Rattle.zq_runs.specs.Books.{AreBooksOf}
-use Rattle.zq_runs.specs.Events.{Event, Run, answer_to, is_possible, state_after}
-use Rattle.zq_runs.specs.Runs.{IsEvent}
-use Rattle.zq_runs.specs.State.{State}
+use Rattle.zq_semantics.specs.Books.{AreBooksOf}
+use Rattle.zq_semantics.specs.Events.{Event, Run, answer_to, is_possible, state_after}
+use Rattle.zq_semantics.specs.Runs.{IsEvent}
+use Rattle.zq_semantics.specs.State.{State}
 use Rattle.zq_world.proofs.Prefixes.{playable_next, run_next}
 use Rattle.zq_world.specs.Frames.{placed}
 use Rattle.zq_world.specs.Play.{Holds, Played, Stands, after, answer_in, run_of}

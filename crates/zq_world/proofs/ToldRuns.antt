@@ -7,18 +7,18 @@ use Rattle.std.specs.Prelude.{filter, slice_get}
 use Rattle.zq_commands.specs.Lending.{operations_by}
 use Rattle.zq_commands.specs.Running.{told_after}
 use Rattle.zq_dots.specs.Placed.{Placed}
-use Rattle.zq_history.specs.Books.{Book}
+use Rattle.zq_model.specs.Books.{Book}
 use Rattle.zq_model.specs.Heaps.{heap_of}
 use Rattle.zq_model.specs.Operation.{Operation, operation_over}
 use Rattle.zq_model.specs.Rule.{Rule}
 use Rattle.zq_model.specs.Sets.{IsClosed, IsHeaps, IsWorld, SITES}
-use Rattle.zq_moves.specs.Lent.{is_home, made, operation_in}
-use Rattle.zq_moves.specs.Moves.{Move}
-use Rattle.zq_runs.proofs.KeptRuns.{heap_below}
-use Rattle.zq_runs.proofs.MovedBooks.{books_then, closed_then, more_stand, read_within, world_then}
-use Rattle.zq_runs.proofs.NearBooks.{ArePlaced, IsPlaced, placed_rest}
-use Rattle.zq_runs.specs.Books.{AreBooksOf, AreSound}
-use Rattle.zq_runs.specs.State.{State, after_move, after_moves, home_of, operation_by, standing}
+use Rattle.zq_model.specs.Lent.{is_home, made, operation_in}
+use Rattle.zq_model.specs.Moves.{Move}
+use Rattle.zq_semantics.proofs.KeptRuns.{heap_below}
+use Rattle.zq_semantics.proofs.MovedBooks.{books_then, closed_then, more_stand, read_within, world_then}
+use Rattle.zq_semantics.proofs.NearBooks.{ArePlaced, IsPlaced, placed_rest}
+use Rattle.zq_semantics.specs.Books.{AreBooksOf, AreSound}
+use Rattle.zq_semantics.specs.State.{State, after_move, after_moves, home_of, operation_by, standing}
 use Rattle.zq_world.specs.Frames.{placed}
 use Rattle.zq_world.specs.Told.{AreAmong, operations_in}
 

@@ -9,8 +9,8 @@ use Rattle.std.specs.declared.alloc.Global.{Global}
 use Rattle.zq_model.proofs.Membership.{in_left, in_right, in_union}
 use Rattle.zq_model.specs.Sets.{IsIn}
 use Rattle.zq_posheap.proofs.Lists.{behind, mapped_at, slice_get-set_other, slice_get-set_same}
-use Rattle.zq_runs.proofs.MovedBooks.{read_within}
-use Rattle.zq_runs.specs.Events.{Do, Event, Merge, Take}
+use Rattle.zq_semantics.proofs.MovedBooks.{read_within}
+use Rattle.zq_semantics.specs.Events.{Do, Event, Merge, Take}
 use Rattle.zq_world.proofs.Keepings.{only}
 use Rattle.zq_world.specs.Play.{event_of}
 use Rattle.zq_world.specs.Wanted.{AreWanted, IsWith, places_in}

@@ -6,14 +6,14 @@ use Rattle.std.specs.Prelude.{slice_get}
 use Rattle.std.specs.declared.alloc.Global.{Global}
 use Rattle.zq_commands.specs.SiteBooks.{AreOfSite}
 use Rattle.zq_commands.specs.VecBooks.{rule_in}
-use Rattle.zq_history.specs.Books.{Book}
+use Rattle.zq_model.specs.Books.{Book}
 use Rattle.zq_model.specs.Rule.{Rule}
 use Rattle.zq_model.specs.Sets.{IsHeaps}
-use Rattle.zq_moves.specs.Lent.{queues_of}
-use Rattle.zq_runs.proofs.SiteBooks.{queues_are}
-use Rattle.zq_runs.specs.Books.{AreBooksOf}
-use Rattle.zq_runs.specs.Reading.{answer_of, answer_over}
-use Rattle.zq_runs.specs.State.{State}
+use Rattle.zq_model.specs.Lent.{queues_of}
+use Rattle.zq_semantics.proofs.SiteBooks.{queues_are}
+use Rattle.zq_semantics.specs.Books.{AreBooksOf}
+use Rattle.zq_semantics.specs.Reading.{answer_of, answer_over}
+use Rattle.zq_semantics.specs.State.{State}
 use Rattle.zq_words.specs.Command.{command_of}
 use Rattle.zq_words.specs.Words.{Word}
 use Rattle.zq_world.proofs.SitesOf.{rule_of_site}

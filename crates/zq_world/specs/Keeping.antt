@@ -2,7 +2,7 @@
 
 use Rattle.std.specs.Prelude.{List, Ok, Some, slice_get, true, ℕ, ◌<◌, ◌≡◌, ◌≤◌}
 use Rattle.zq_merge.specs.State.{state_at}
-use Rattle.zq_runs.specs.Events.{Do, Event, Merge, Take, is_possible, set_at}
+use Rattle.zq_semantics.specs.Events.{Do, Event, Merge, Take, is_possible, set_at}
 use Rattle.zq_world.specs.Frames.{heap_at}
 use Rattle.zq_world.specs.Play.{Holds, Played, run_of}
 use Rattle.zq_world.specs.declared.player.Player.{Player}

@@ -2,12 +2,12 @@
 
 use Rattle.std.specs.Ordering.{is_lt}
 use Rattle.std.specs.Prelude.{Bool, List, None, Option, Some, [], false, if◌then◌else◌, true, ℕ, ◌∷◌}
-use Rattle.zq_history.specs.Books.{Book}
+use Rattle.zq_model.specs.Books.{Book}
 use Rattle.zq_model.specs.Meaning.{Scored, scored_cmp}
 use Rattle.zq_model.specs.Rule.{Rule}
-use Rattle.zq_moves.specs.Lent.{queues_of}
-use Rattle.zq_moves.specs.Moves.{Queue}
-use Rattle.zq_plans.specs.Plan.{is_there}
+use Rattle.zq_model.specs.Lent.{queues_of}
+use Rattle.zq_model.specs.Moves.{Queue}
+use Rattle.zq_semantics.specs.Plan.{is_there}
 
 -- over two of the books where one of them has a member of the key, and else over all
 abbrev pub near_queue : Rule → Book → Book → List Book → List ℕ → Queue

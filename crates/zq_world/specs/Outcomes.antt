@@ -4,10 +4,10 @@ use Rattle.std.specs.Prelude.{List, Some, [], false, length, max, min, slice_get
 use Rattle.zq_commands.specs.Commands.{IsRunOver}
 use Rattle.zq_commands.specs.VecBooks.{rule_in}
 use Rattle.zq_dots.specs.Placed.{Placed}
-use Rattle.zq_history.specs.Books.{Book}
-use Rattle.zq_moves.specs.Lent.{queues_of}
+use Rattle.zq_model.specs.Books.{Book}
+use Rattle.zq_model.specs.Lent.{queues_of}
 use Rattle.zq_resp.specs.Reply.{reply_bytes}
-use Rattle.zq_runs.specs.Doing.{first_drawn, second_drawn}
+use Rattle.zq_semantics.specs.Doing.{first_drawn, second_drawn}
 use Rattle.zq_words.specs.Command.{Command, Zpopnear}
 use Rattle.zq_world.specs.Near.{near_queue}
 use Rattle.zq_world.specs.Told.{KeepsHeaps, lending_told}

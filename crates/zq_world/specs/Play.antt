@@ -3,15 +3,15 @@
 use Rattle.std.specs.Prelude.{List, Some, Vec, [], length, map, option_map, slice_get, ℕ, ◌++◌, ◌∷◌, ◌≡◌, ◌≤◌}
 use Rattle.std.specs.declared.alloc.Global.{Global}
 use Rattle.zq_dots.specs.Placed.{Placed}
-use Rattle.zq_history.specs.Books.{Book}
+use Rattle.zq_model.specs.Books.{Book}
 use Rattle.zq_model.specs.Rule.{Rule}
 use Rattle.zq_resp.specs.Reply.{reply_bytes}
 use Rattle.zq_resp.specs.declared.reply.Reply.{Reply}
-use Rattle.zq_runs.specs.Books.{AreBooksOf}
-use Rattle.zq_runs.specs.Doing.{Done}
-use Rattle.zq_runs.specs.Events as runs
-use Rattle.zq_runs.specs.Runs.{IsPlayable, run}
-use Rattle.zq_runs.specs.State.{State}
+use Rattle.zq_semantics.specs.Books.{AreBooksOf}
+use Rattle.zq_semantics.specs.Doing.{Done}
+use Rattle.zq_semantics.specs.Events as runs
+use Rattle.zq_semantics.specs.Runs.{IsPlayable, run}
+use Rattle.zq_semantics.specs.State.{State}
 use Rattle.zq_shard.specs.Taken.{answer_of}
 use Rattle.zq_world.specs.Frames.{placed}
 use Rattle.zq_world.specs.declared.answer.Answer.{Answer}

@@ -2,15 +2,15 @@
 
 use Rattle.std.specs.Prelude.{List, Ok, Option, Some, Vec, if◌then◌else◌, option_map, slice_get, ℕ, ◌++◌, ◌∷◌, ◌≡◌}
 use Rattle.std.specs.declared.alloc.Global.{Global}
-use Rattle.zq_history.specs.Books.{Book}
+use Rattle.zq_model.specs.Books.{Book}
 use Rattle.zq_journal.specs.Books.{state_of}
 use Rattle.zq_merge.specs.State.{state_at}
 use Rattle.zq_model.specs.Operation.{Operation}
 use Rattle.zq_model.specs.Rule.{Rule}
 use Rattle.zq_model.specs.Sets.{IsClosed, IsWorld, in_heap}
-use Rattle.zq_runs.specs.Books.{AreBooksOf}
-use Rattle.zq_runs.specs.Events.{Do, Event, Merge, Take, after_taken, answer_taken, is_blocked, judged}
-use Rattle.zq_runs.specs.State.{State, counted, next_stamp}
+use Rattle.zq_semantics.specs.Books.{AreBooksOf}
+use Rattle.zq_semantics.specs.Events.{Do, Event, Merge, Take, after_taken, answer_taken, is_blocked, judged}
+use Rattle.zq_semantics.specs.State.{State, counted, next_stamp}
 use Rattle.zq_shard.specs.Shard.{HeapImage}
 use Rattle.zq_shard.specs.Taken.{answer_of}
 use Rattle.zq_shard.specs.declared.taken.Taken.{Taken}

@@ -4,11 +4,11 @@ use Rattle.std.specs.Prelude.{List, Some, map, ℕ, ◌≡◌}
 use Rattle.zq_commands.specs.Lending.{Lending}
 use Rattle.zq_commands.specs.VecBooks.{heaps_in, lending_of}
 use Rattle.zq_dots.specs.Placed.{Placed}
-use Rattle.zq_history.specs.Books.{Book}
+use Rattle.zq_model.specs.Books.{Book}
 use Rattle.zq_model.specs.Operation.{Operation}
 use Rattle.zq_model.specs.Sets.{IsIn}
-use Rattle.zq_moves.specs.Lent.{operation_in}
-use Rattle.zq_moves.specs.Moves.{Move}
+use Rattle.zq_model.specs.Lent.{operation_in}
+use Rattle.zq_model.specs.Moves.{Move}
 
 abbrev pub operations_in : List Placed → List Operation
 operations_in made = map (λ p. p.operation) made

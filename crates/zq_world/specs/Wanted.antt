@@ -3,7 +3,7 @@
 use Rattle.std.specs.Prelude.{List, Some, Vec, [], length, map, slice_get, ℕ, ◌++◌, ◌<◌, ◌∷◌, ◌≡◌}
 use Rattle.std.specs.declared.alloc.Global.{Global}
 use Rattle.zq_model.specs.Sets.{IsIn}
-use Rattle.zq_runs.specs.Events.{Event, Merge}
+use Rattle.zq_semantics.specs.Events.{Event, Merge}
 
 abbrev pub places_in : List (Vec ℕ Global) → List (List ℕ)
 places_in wanted = map (λ places. places.items) wanted

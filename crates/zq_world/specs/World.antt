@@ -4,15 +4,15 @@ use Rattle.std.proofs.Common.{inl, inr}
 use Rattle.std.specs.Coded.{Coded, code_by, coded_list, coded_option, coded×, coded⊎, coded_ℕ}
 use Rattle.std.specs.Prelude.{List, None, Option, Some, length, map, refl, slice_get, suc, zero, ℕ, ◌≡◌, ◌≤◌, ◌⊎◌}
 use Rattle.zq_dots.specs.Placed.{Placed}
-use Rattle.zq_history.specs.Books.{Book}
+use Rattle.zq_model.specs.Books.{Book}
 use Rattle.zq_journal.specs.Codes.{book_code}
 use Rattle.zq_model.specs.Codes.{bytes_code, operation_code}
 use Rattle.zq_model.specs.Operation.{Operation}
 use Rattle.zq_model.specs.Rule.{Rule}
 use Rattle.zq_model.specs.Sets.{Early, Known, New, Taken}
-use Rattle.zq_runs.specs.Books.{AreBooksOf}
-use Rattle.zq_runs.specs.Events.{Answer, Event, Handed, Merged, Replied}
-use Rattle.zq_runs.specs.Runs.{IsPlayable, run}
+use Rattle.zq_semantics.specs.Books.{AreBooksOf}
+use Rattle.zq_semantics.specs.Events.{Answer, Event, Handed, Merged, Replied}
+use Rattle.zq_semantics.specs.Runs.{IsPlayable, run}
 use Rattle.zq_words.specs.Words.{Word}
 use Rattle.zq_world.specs.Frames.{placed}
 

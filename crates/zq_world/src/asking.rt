@@ -2,8 +2,8 @@
 
 ghost use Rattle.std.specs.Prelude.{IfErr, IfOk, IsTrue, OnOk, length, ◌<◌, ◌≡◌};
 ghost use Rattle.zq_resp.specs.Reply.{is_writable, reply_bytes};
-ghost use Rattle.zq_runs.specs.Doing.{done, done_command, queues_for};
-ghost use Rattle.zq_runs.specs.Events as runs;
+ghost use Rattle.zq_semantics.specs.Doing.{done, done_command, queues_for};
+ghost use Rattle.zq_semantics.specs.Events as runs;
 ghost use Rattle.zq_words.specs.Command.{command_of};
 ghost use Rattle.zq_world.specs.Play.{Holds, IsDone, Played, after, run_of};
 
@@ -16,7 +16,7 @@ use crate::running::{read_over, run_by};
 use crate::stamps::{greatest_stamp, look_at};
 use std::alloc::Global;
 use std::mem;
-use zq_commands::{Cut, cut_reply};
+use zq_commands::{Stopped, cut_reply};
 use zq_dots::SiteNo;
 use zq_resp::{Reply, Request, write_reply};
 use zq_words::{Command, Kind, Refused};
@@ -90,7 +90,7 @@ fn do_command(
     }
     let stamp = greatest_stamp(&player.sites[place]);
     if stamp == LAST {
-        return Ok(cut_reply(Cut::Worn, 0));
+        return Ok(cut_reply(Stopped::Worn, 0));
     }
     let Some(site) = SiteNo::new(site) else {
         unreachable!();

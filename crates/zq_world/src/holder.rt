@@ -5,12 +5,12 @@ ghost use Rattle.std.specs.Prelude.{IfOk, IsErrOf, OnErr, OnOk, [], is_some, len
 ghost use Rattle.zq_dots.specs.Act.{act_of};
 ghost use Rattle.zq_model.specs.Bounded.{IsBounded};
 ghost use Rattle.zq_model.specs.Operation.{LONGEST};
-ghost use Rattle.zq_moves.specs.Lent.{is_home_of, made_in};
-ghost use Rattle.zq_plans.specs.Run.{LAST_COUNT, is_worn};
+ghost use Rattle.zq_model.specs.Lent.{is_home_of, made_in};
+ghost use Rattle.zq_semantics.specs.Run.{LAST_COUNT, is_worn};
 ghost use Rattle.zq_world.specs.Told.{told_in};
 
 use std::alloc::{AllocError, Global};
-use zq_commands::{Books, Cut};
+use zq_commands::{Books, Stopped};
 use zq_dots::{Act, Op, SiteNo};
 use zq_journal::Book;
 use zq_shard::MakeFault;
@@ -90,7 +90,7 @@ impl Books for Holder {
         key: &[u8],
         member: &[u8],
         act: Act,
-    ) -> Result<bool, Cut> {
+    ) -> Result<bool, Stopped> {
         make_in(
             &mut self.books[place],
             &mut self.made,
@@ -119,7 +119,7 @@ fn make_in(
     key: &[u8],
     member: &[u8],
     act: Act,
-) -> Result<bool, Cut>
+) -> Result<bool, Stopped>
     requires home { is_home_of key.now member.now book.old ≡ true }
     requires stamp { book.old.stamp ≤ stamp }
     requires bounded { stamp ≤ LAST_COUNT }
@@ -129,7 +129,7 @@ fn make_in(
     ensures listed { OnOk result (made.new.items ≡ made.old.items ++ told_in site (record { key = key.now; member = member.now; act = act_of act }) book.old ∷ []) }
     ensures stood { IfOk result (λ stood. stood ≡ is_some (get book.old.state.members (key.now, member.now))) }
     ensures bounded { OnOk result (IsBounded book.new.heaps book.new.heap book.new.state) }
-    ensures worn { IsErrOf result Cut.Worn ↔ (is_worn site book.old ≡ true) }
+    ensures worn { IsErrOf result Stopped.Worn ↔ (is_worn site book.old ≡ true) }
     ensures refused { OnErr result (book.new ≡ book.old) }
     ensures unlisted { OnErr result (made.new.items ≡ made.old.items) }
 {
@@ -137,11 +137,11 @@ fn make_in(
     let op = draft_in(book, alloc, site, key, member, drafted)?;
     if made.reserve(1).is_err() {
         drop(op);
-        return Err(Cut::NoMemory);
+        return Err(Stopped::NoMemory);
     }
     let Ok(stood) = book.make(alloc, site, stamp, key, member, act) else {
         drop(op);
-        return Err(Cut::NoMemory);
+        return Err(Stopped::NoMemory);
     };
     let _vector = book.shard().vector();
     made.push_reserved(op);
@@ -156,20 +156,20 @@ fn draft_in(
     key: &[u8],
     member: &[u8],
     act: Act,
-) -> Result<Op, Cut>
+) -> Result<Op, Stopped>
     requires home { is_home_of key.now member.now book.now ≡ true }
     requires key { length key.now ≤ LONGEST }
     requires member { length member.now ≤ LONGEST }
     ensures drafted { IfOk result (λ op. op ≡ told_in site (record { key = key.now; member = member.now; act = act_of act }) book.now) }
-    ensures worn { IsErrOf result Cut.Worn ↔ (is_worn site book.now ≡ true) }
+    ensures worn { IsErrOf result Stopped.Worn ↔ (is_worn site book.now ≡ true) }
 {
     if book.count() == LAST {
-        return Err(Cut::Worn);
+        return Err(Stopped::Worn);
     }
     match book.shard().draft(alloc, site, key, member, act) {
         Ok(op) => Ok(op),
-        Err(MakeFault::Worn) => Err(Cut::Worn),
-        Err(MakeFault::NoMemory) => Err(Cut::NoMemory),
+        Err(MakeFault::Worn) => Err(Stopped::Worn),
+        Err(MakeFault::NoMemory) => Err(Stopped::NoMemory),
         Err(MakeFault::WrongHeap) => unreachable!(),
     }
 }

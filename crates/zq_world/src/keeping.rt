@@ -2,7 +2,7 @@
 
 ghost use Rattle.std.specs.Prelude.{IfErr, IfOk, IfSome, None, Ok, OnOk, Some, length, map, slice_get, ◌+◌, ◌<◌, ◌≡◌, ℕ};
 ghost use Rattle.zq_model.specs.Sets.{IsIn};
-ghost use Rattle.zq_runs.specs.Events as runs;
+ghost use Rattle.zq_semantics.specs.Events as runs;
 ghost use Rattle.zq_world.specs.Keeping.{AreReady};
 ghost use Rattle.zq_world.specs.Steps.{IsElsewhere, IsFrame};
 ghost use Rattle.zq_world.specs.Play.{Holds, Played, event_of};

@@ -1,8 +1,8 @@
 //! Sites that merge an image.
 
 ghost use Rattle.std.specs.Prelude.{IfErr, OnOk, Some, slice_get, ◌≡◌, ℕ};
-ghost use Rattle.zq_history.specs.Books as history;
-ghost use Rattle.zq_runs.specs.Events as runs;
+ghost use Rattle.zq_model.specs.Books as history;
+ghost use Rattle.zq_semantics.specs.Events as runs;
 ghost use Rattle.zq_shard.specs.Shard.{IsSameHeap};
 ghost use Rattle.zq_journal.specs.Books.{state_of};
 ghost use Rattle.zq_world.specs.Play.{Holds, Played, after};

@@ -4,17 +4,17 @@ ghost use Rattle.std.specs.Prelude.{List, Some, [], length, max, min, option_map
 ghost use Rattle.zq_commands.specs.FirstPairs.{lent_pair};
 ghost use Rattle.zq_commands.specs.Lending.{IsLending};
 ghost use Rattle.zq_commands.specs.VecBooks.{lending_of, rule_in};
-ghost use Rattle.zq_history.specs.Books as history;
+ghost use Rattle.zq_model.specs.Books as history;
 ghost use Rattle.zq_model.specs.Meaning.{scored_cmp};
-ghost use Rattle.zq_moves.specs.Lent.{queues_of};
-ghost use Rattle.zq_moves.specs.Merging.{least};
-ghost use Rattle.zq_runs.specs.Doing.{first_drawn, second_drawn};
+ghost use Rattle.zq_model.specs.Lent.{queues_of};
+ghost use Rattle.zq_model.specs.Merging.{least};
+ghost use Rattle.zq_semantics.specs.Doing.{first_drawn, second_drawn};
 ghost use Rattle.zq_world.specs.Near.{is_least, near_queue};
 
 use std::cmp::Ordering;
 use zq_commands::Books;
 use zq_journal::Book;
-use zq_moves::heading;
+use zq_model::heading;
 
 /// The place of the book that ZPOPNEAR pops by two words: of the two that they draw, the one whose first pair of the key is
 /// less, and where both have none, the one of all whose first pair is the least.

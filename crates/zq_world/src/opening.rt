@@ -3,8 +3,8 @@
 ghost use Rattle.std.specs.Prelude.{IfErr, IfOk, [], length, ◌<◌, ◌≡◌, ◌≤◌, ℕ};
 ghost use Rattle.zq_dots.specs.Rule.{rule_of};
 ghost use Rattle.zq_model.specs.Sets.{IsHeaps};
-ghost use Rattle.zq_runs.specs.Books.{AreBooksOf};
-ghost use Rattle.zq_runs.specs.Runs as runs;
+ghost use Rattle.zq_semantics.specs.Books.{AreBooksOf};
+ghost use Rattle.zq_semantics.specs.Runs as runs;
 ghost use Rattle.zq_world.specs.Play.{Holds};
 
 use crate::faults::PlayFault;

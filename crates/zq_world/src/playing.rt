@@ -3,8 +3,8 @@
 ghost use Rattle.std.specs.Prelude.{IfErr, IfOk, IsErrOf, OnOk, Some, length, map, true, ◌+◌, ◌↔◌, ◌≡◌, ℕ};
 ghost use Rattle.zq_dots.specs.Rule.{rule_of};
 ghost use Rattle.zq_model.specs.Rule as model;
-ghost use Rattle.zq_runs.specs.Events.{Run, is_possible};
-ghost use Rattle.zq_runs.specs.Runs.{first_missing};
+ghost use Rattle.zq_semantics.specs.Events.{Run, is_possible};
+ghost use Rattle.zq_semantics.specs.Runs.{first_missing};
 ghost use Rattle.zq_world.specs.Keeping.{IsReady};
 ghost use Rattle.zq_world.specs.Play.{Holds, Played, after, event_of, run_of};
 ghost use Rattle.zq_world.specs.World.{IsPlayed, IsSized};

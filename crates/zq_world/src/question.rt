@@ -1,7 +1,7 @@
 //! Requests that only read.
 
 ghost use Rattle.std.specs.Prelude.{map, ◌≡◌};
-ghost use Rattle.zq_runs.specs.Reading as reading;
+ghost use Rattle.zq_semantics.specs.Reading as reading;
 ghost use Rattle.zq_words.specs.Command.{name_of};
 ghost use Rattle.zq_words.specs.Words as words;
 

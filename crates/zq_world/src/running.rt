@@ -4,9 +4,9 @@ ghost use Rattle.std.specs.Prelude.{IfErr, IfOk, IsTrue, [], length, ◌<◌, �
 ghost use Rattle.zq_commands.specs.Commands.{HasBooks, is_reading};
 ghost use Rattle.zq_commands.specs.Lending.{IsDated, IsLending};
 ghost use Rattle.zq_commands.specs.VecBooks.{lending_of, rule_in};
-ghost use Rattle.zq_moves.specs.Lent.{queues_of};
-ghost use Rattle.zq_plans.specs.Plan.{plan_of};
-ghost use Rattle.zq_plans.specs.Replies.{bytes_of};
+ghost use Rattle.zq_model.specs.Lent.{queues_of};
+ghost use Rattle.zq_semantics.specs.Plan.{plan_of};
+ghost use Rattle.zq_semantics.specs.Replies.{bytes_of};
 ghost use Rattle.zq_resp.specs.Reply.{is_writable, reply_bytes};
 ghost use Rattle.zq_words.specs.Command as words;
 ghost use Rattle.zq_world.specs.Outcomes.{Ran, RanBy, RanNear};

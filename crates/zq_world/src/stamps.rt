@@ -1,8 +1,8 @@
 //! The stamps and the numbers of some books.
 
 ghost use Rattle.std.specs.Prelude.{◌≡◌, ◌≤◌};
-ghost use Rattle.zq_plans.specs.Run.{LAST_COUNT};
-ghost use Rattle.zq_runs.specs.Books as site;
+ghost use Rattle.zq_semantics.specs.Run.{LAST_COUNT};
+ghost use Rattle.zq_semantics.specs.Books as site;
 
 use zq_journal::Book;
 

@@ -1,9 +1,9 @@
 //! Sites that are handed an operation.
 
 ghost use Rattle.std.specs.Prelude.{IfErr, IfOk, OnOk, Some, length, slice_get, ◌<◌, ◌≡◌, ℕ};
-ghost use Rattle.zq_history.specs.Books as history;
+ghost use Rattle.zq_model.specs.Books as history;
 ghost use Rattle.zq_journal.specs.Books.{state_of};
-ghost use Rattle.zq_runs.specs.Events as runs;
+ghost use Rattle.zq_semantics.specs.Events as runs;
 ghost use Rattle.zq_shard.specs.Shard.{IsOfHeap};
 ghost use Rattle.zq_world.specs.Play.{Holds, Played, after};
 ghost use Rattle.zq_world.specs.Steps.{IsHanded};

@@ -2,13 +2,13 @@
 
 ghost use Rattle.std.specs.Prelude.{IfErr, IfOk, IsErrOf, List, Some, false, length, option_map, slice_get, true, ◌<◌, ◌↔◌, ◌≡◌, ◌≤◌, ℕ};
 ghost use Rattle.zq_commands.specs.SiteBooks.{AreOfSite};
-ghost use Rattle.zq_history.specs.Books.{Book as history};
+ghost use Rattle.zq_model.specs.Books.{Book as history};
 ghost use Rattle.zq_commands.specs.VecBooks.{rule_in};
 ghost use Rattle.zq_model.specs.Rule.{Rule};
-ghost use Rattle.zq_moves.specs.Lent.{queues_of};
-ghost use Rattle.zq_runs.specs.Books.{AreBooksOf};
-ghost use Rattle.zq_runs.specs.Reading as reading;
-ghost use Rattle.zq_runs.specs.State.{State};
+ghost use Rattle.zq_model.specs.Lent.{queues_of};
+ghost use Rattle.zq_semantics.specs.Books.{AreBooksOf};
+ghost use Rattle.zq_semantics.specs.Reading as reading;
+ghost use Rattle.zq_semantics.specs.State.{State};
 ghost use Rattle.zq_shard.specs.Taken.{answer_of};
 ghost use Rattle.zq_words.specs.Command.{command_of};
 ghost use Rattle.zq_world.specs.World.{book_in, reply_to, taken_by};
@@ -38,7 +38,7 @@ impl Model for World {
     ghost use Rattle.std.specs.Prelude.{Some, Vec, map, slice_get, ℕ, ◌≡◌};
     ghost use Rattle.std.specs.declared.alloc.Global.{Global};
     ghost use Rattle.zq_commands.specs.SiteBooks.{AreOfSite};
-    ghost use Rattle.zq_history.specs.Books.{Book};
+    ghost use Rattle.zq_model.specs.Books.{Book};
     ghost use Rattle.zq_world.specs.Play.{answer_in};
     ghost use Rattle.zq_world.specs.World.{Left, left_code};
 

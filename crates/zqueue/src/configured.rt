@@ -6,7 +6,7 @@ ghost use Rattle.zqueue.specs.Configured.{IsSiteUnsettled, IsUnsettled};
 
 use std::alloc::Global;
 use std::{fmt, str};
-use zq_settings::{Settings, SettingsFault, SiteSettings, settings, site_settings};
+use zq_server::{Settings, SettingsFault, SiteSettings, settings, site_settings};
 
 /// Why bytes give no settings.
 #[derive(Debug, Drop)]

@@ -10,7 +10,7 @@ use std::alloc::Global;
 use std::io::Write;
 use std::sync::Wait;
 use std::thread::Threads;
-use zq_drill::{DrillFault, drill};
+use zq_server::{DrillFault, drill};
 
 /// Drills three sites, each called so many times, and answers the program's status: 0 whether or not they end equal.
 /// What they end with is written. A fault has a line of its own, and its status.

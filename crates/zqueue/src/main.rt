@@ -21,8 +21,11 @@ use std::alloc::AllocError;
 use std::io;
 use std::process::ExitCode;
 
-/// What standard error says to a command line that names no command.
-const HELP: &str = "zqueue has these commands:
+/// The version of the program: the newest one of `CHANGELOG.md`.
+const VERSION: &str = "0.3.0";
+
+/// What standard error says, below the version, to a command line that names no command.
+const HELP: &str = "usage:
   zqueue pipe         reads requests on standard input and writes their replies on standard output
   zqueue serve FILE   serves the sites of a settings file, each on a port of its own on loopback
   zqueue site FILE    serves the one site of a settings file, and links it to its peers in other processes
@@ -45,7 +48,7 @@ fn main(rt: HostRuntime) -> ExitCode {
             drill_out(&rt, rt.alloc(), seed, rounds, &mut io::writer(&rt))
         }
         Ok(None) => {
-            let _ = eprintln!(rt; "{HELP}");
+            let _ = eprintln!(rt; "zqueue {VERSION}\n{HELP}");
             refuse(Refusal::Usage, &mut io::writer(&rt))
         }
         Err(AllocError) => DEVICE,

@@ -2,7 +2,7 @@
 
 ghost use Rattle.std.specs.Io.KnownBytes.{Appends, Consumes, IsAtEnd};
 ghost use Rattle.std.specs.Prelude.{List, ℕ, ◌≡◌};
-ghost use Rattle.zq_server.specs.Piped.{IsPiped};
+ghost use Rattle.zq_session.specs.Piped.{IsPiped};
 
 use std::alloc::Global;
 use std::io::{Read, Write};

@@ -16,8 +16,7 @@ use std::rt::Files;
 use std::sync::Wait;
 use std::thread::Threads;
 use std::time::Clock;
-use zq_apart::serve_site;
-use zq_serve::{ServeFault, serve};
+use zq_server::{ServeFault, serve, serve_site};
 
 /// Serves the sites of the settings file of this name, and returns when all connections are done. Warnings go to
 /// standard output. Where the settings break a rule, standard error names the rule.

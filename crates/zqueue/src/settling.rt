@@ -11,7 +11,7 @@ use std::alloc::Global;
 use std::fs;
 use std::io::ErrorKind;
 use std::rt::Files;
-use zq_settings::SettingsFault;
+use zq_server::SettingsFault;
 
 /// The bytes of the file. A file that is not there or cannot be read is a device that failed.
 pub fn read_file<R: Files + Alloc<A = Global>>(rt: &R, path: &str) -> Result<Vec<u8>, Refusal>

@@ -8,7 +8,7 @@ use crate::refusal::{Refusal, finish, refuse};
 use crate::serving::{serve_file, serve_site_file};
 use std::env::{Env, FillError};
 use std::test::Fail;
-use zq_settings::{SettingsFault, Why};
+use zq_server::{SettingsFault, Why};
 
 // A command line of these words.
 #[derive(Drop)]

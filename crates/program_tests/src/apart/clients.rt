@@ -12,8 +12,8 @@ use std::test::Fail;
 use std::thread;
 use std::thread::Threads;
 use std::time::Clock;
-use zq_apart::serve_site;
 use zq_settings::SiteSettings;
+use zq_site::serve_site;
 
 /// A step of the sites' clients, each of which has one connection.
 #[derive(Drop)]

@@ -12,8 +12,8 @@ use std::test::Fail;
 use std::thread::Threads;
 use std::time::{Clock, Duration, Instant};
 use std::{str, thread};
-use zq_apart::serve_site;
 use zq_settings::SiteSettings;
+use zq_site::serve_site;
 
 /// The greeting of a site of so many heaps with the rule of this byte, which has no secret.
 pub fn greeting(site: u8, heaps: u8, rule: u8) -> [u8; 13] {

@@ -7,7 +7,7 @@ use std::alloc::Global;
 use std::sync::Wait;
 use std::test::Fail;
 use zq_dots::SiteNo;
-use zq_server::{End, Passing, session};
+use zq_session::{End, Passing, session};
 use zq_spread::{Draws, Pass, Site};
 
 /// Site 0 of two heaps, with so many passes.

@@ -10,7 +10,7 @@ use std::test::Fail;
 use zq_commands::SiteBooks;
 use zq_dots::Rule;
 use zq_posheap::Seeded;
-use zq_server::{End, Plain, session};
+use zq_session::{End, Plain, session};
 
 /// What is done.
 #[derive(Clone, Copy)]

@@ -6,7 +6,7 @@ use std::alloc::Global;
 use std::io;
 use std::io::{ErrorKind, Read, Write};
 use zq_resp::{Reply, Request};
-use zq_server::{Answers, End, Ends, SessionFault, converse, session, status};
+use zq_session::{Answers, End, Ends, SessionFault, converse, session, status};
 
 // Answers PONG to every request.
 #[derive(Drop)]

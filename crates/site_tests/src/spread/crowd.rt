@@ -113,7 +113,7 @@ fn call_in_crowd<R: Threads + Wait + Abort + Sync>(
 
 /// Whether these passes, which are all, are tallied in each of two heaps.
 fn are_tallied<R: Wait>(rt: &R, site: &Site, passes: &mut [Pass]) -> bool
-    requires heaps { 2 ≤ length site.now.rooms.items }
+    requires heaps { 2 ≤ length site.now.slots.items }
     requires passes { AreAllPasses site.now passes.old }
     ensures passes { AreAllPasses site.now passes.new }
 {
@@ -123,7 +123,7 @@ fn are_tallied<R: Wait>(rt: &R, site: &Site, passes: &mut [Pass]) -> bool
 
 /// Whether two passes meet in each of two heaps.
 fn have_met<R: Wait>(rt: &R, site: &Site, first: &mut Pass, second: &mut Pass) -> bool
-    requires heaps { 2 ≤ length site.now.rooms.items }
+    requires heaps { 2 ≤ length site.now.slots.items }
     requires first { IsPassOf site.now first.old }
     requires second { IsPassOf site.now second.old }
     ensures first { IsPassOf site.now first.new }
@@ -135,7 +135,7 @@ fn have_met<R: Wait>(rt: &R, site: &Site, first: &mut Pass, second: &mut Pass) -
 
 /// The audit of a heap's book, while it is held. `None` where the heap was not free.
 fn audited(alloc: Global, site: &Site, pass: Pass, heap: u8) -> Option<(bool, Pass)>
-    requires heap { heap < length site.now.rooms.items }
+    requires heap { heap < length site.now.slots.items }
     requires pass { IsPassOf site.now pass }
     ensures pass { IfSome result (λ audited. IsPassOf site.now audited.1) }
 {
@@ -149,7 +149,7 @@ fn audited(alloc: Global, site: &Site, pass: Pass, heap: u8) -> Option<(bool, Pa
 
 /// Whether both books are sound, as an audit says. `None` where a heap was not free.
 fn are_sound(alloc: Global, site: &Site, pass: Pass) -> Option<bool>
-    requires heaps { 2 ≤ length site.now.rooms.items }
+    requires heaps { 2 ≤ length site.now.slots.items }
     requires pass { IsPassOf site.now pass }
 {
     let (first, pass) = audited(alloc, site, pass, 0)?;
@@ -167,7 +167,7 @@ fn is_merged<R: Wait>(
     guest: &mut Pass,
     heap: u8,
 ) -> Option<bool>
-    requires heap { (heap < length site.now.rooms.items) × (heap < length other.now.rooms.items) }
+    requires heap { (heap < length site.now.slots.items) × (heap < length other.now.slots.items) }
     requires pass { IsPassOf site.now pass.old }
     requires guest { IsPassOf other.now guest.old }
     ensures pass { IsPassOf site.now pass.new }

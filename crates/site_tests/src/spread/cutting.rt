@@ -38,7 +38,7 @@ fn put_up_to<R: Wait + Abort>(rt: &R, alloc: Global, site: &Site, pass: &mut Pas
 /// The records of heap 0, as a pass sees them that holds it, and whether they are sound, as an audit says. `None` where the
 /// heap was not free.
 fn tail_of(alloc: Global, site: &Site, pass: Pass) -> Option<(usize, bool, Pass)>
-    requires heaps { 0 < length site.now.rooms.items }
+    requires heaps { 0 < length site.now.slots.items }
     requires pass { IsPassOf site.now pass }
     ensures pass { IfSome result (λ seen. IsPassOf site.now seen.2) }
 {
@@ -76,7 +76,7 @@ fn given<R: Wait>(
     pass: &mut Pass,
     operations: u64,
 ) -> Option<Answer>
-    requires heaps { 0 < length site.now.rooms.items }
+    requires heaps { 0 < length site.now.slots.items }
     requires pass { IsPassOf site.now pass.old }
     ensures pass { IsPassOf site.now pass.new }
 {
@@ -96,7 +96,7 @@ const GIVEN: [(u64, Answer); 4] = [
 
 /// Looks at what each peer is given.
 fn look_at_given<R: Wait + Abort>(rt: &R, alloc: Global, site: &Site, pass: &mut Pass)
-    requires heaps { 0 < length site.now.rooms.items }
+    requires heaps { 0 < length site.now.slots.items }
     requires pass { IsPassOf site.now pass.old }
     ensures pass { IsPassOf site.now pass.new }
 {

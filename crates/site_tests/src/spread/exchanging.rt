@@ -140,7 +140,7 @@ fn lacking<R: Wait>(
     taker: &mut Pass,
     heap: u8,
 ) -> Option<Vec<Op>>
-    requires heap { (heap < length from.now.rooms.items) × (heap < length to.now.rooms.items) }
+    requires heap { (heap < length from.now.slots.items) × (heap < length to.now.slots.items) }
     requires giver { IsPassOf from.now giver.old }
     requires taker { IsPassOf to.now taker.old }
     ensures giver { IsPassOf from.now giver.new }
@@ -162,7 +162,7 @@ fn give<R: Wait + Abort>(
     to: &Site,
     taker: &mut Pass,
 )
-    requires heaps { (2 ≤ length from.now.rooms.items) × (2 ≤ length to.now.rooms.items) }
+    requires heaps { (2 ≤ length from.now.slots.items) × (2 ≤ length to.now.slots.items) }
     requires giver { IsPassOf from.now giver.old }
     requires taker { IsPassOf to.now taker.old }
     ensures giver { IsPassOf from.now giver.new }
@@ -186,7 +186,7 @@ fn is_merged<R: Wait>(
     taker: &mut Pass,
     heap: u8,
 ) -> bool
-    requires heap { heap < length from.now.rooms.items }
+    requires heap { heap < length from.now.slots.items }
     requires giver { IsPassOf from.now giver.old }
     requires taker { IsPassOf to.now taker.old }
     ensures giver { IsPassOf from.now giver.new }
@@ -207,7 +207,7 @@ fn merge<R: Wait + Abort>(
     to: &Site,
     taker: &mut Pass,
 )
-    requires heaps { 2 ≤ length from.now.rooms.items }
+    requires heaps { 2 ≤ length from.now.slots.items }
     requires giver { IsPassOf from.now giver.old }
     requires taker { IsPassOf to.now taker.old }
     ensures giver { IsPassOf from.now giver.new }
@@ -231,7 +231,7 @@ fn take_step<R: Wait + Abort>(
     second: &mut Pass,
     step: Step,
 )
-    requires heaps { (2 ≤ length a.now.rooms.items) × (2 ≤ length b.now.rooms.items) }
+    requires heaps { (2 ≤ length a.now.slots.items) × (2 ≤ length b.now.slots.items) }
     requires first { IsPassOf a.now first.old }
     requires second { IsPassOf b.now second.old }
     ensures first { IsPassOf a.now first.new }

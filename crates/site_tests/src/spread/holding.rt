@@ -64,7 +64,7 @@ fn hold_while_tried<R: Abort>(
     first: Pass,
     second: &mut Pass,
 ) -> Option<Pass>
-    requires heaps { 0 < length site.now.rooms.items }
+    requires heaps { 0 < length site.now.slots.items }
     requires first { IsPassOf site.now first }
     requires second { IsPassOf site.now second.old }
     ensures first { IfSome result (IsPassOf site.now) }
@@ -90,7 +90,7 @@ fn a_heap_that_is_held_leaves_the_others_free(rt: HostRuntime) -> Result<(), Fai
 
 /// Why the pass does not hold heap 0, if it does not.
 fn fault_of(site: &Site, pass: Pass) -> Option<HoldFault>
-    requires heaps { 0 < length site.now.rooms.items }
+    requires heaps { 0 < length site.now.slots.items }
     requires pass { IsPassOf site.now pass }
 {
     match site.hold(pass, 0) {
@@ -104,7 +104,7 @@ fn fault_of(site: &Site, pass: Pass) -> Option<HoldFault>
 
 /// Why the second pass does not hold heap 0 while the first one does.
 fn fault_while_held(site: &Site, first: Pass, second: Pass) -> Option<HoldFault>
-    requires heaps { 0 < length site.now.rooms.items }
+    requires heaps { 0 < length site.now.slots.items }
     requires first { IsPassOf site.now first }
     requires second { IsPassOf site.now second }
 {

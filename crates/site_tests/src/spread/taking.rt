@@ -84,7 +84,7 @@ pub fn both_take<R: Wait>(
     second: &mut Pass,
     ops: &[Op],
 ) -> Result<[u64; 2], Fail>
-    requires heaps { 2 ≤ length site.now.rooms.items }
+    requires heaps { 2 ≤ length site.now.slots.items }
     requires first { IsPassOf site.now first.old }
     requires second { IsPassOf site.now second.old }
 {
@@ -111,7 +111,7 @@ pub fn two_take<R: Wait>(
     passes: &mut [Pass],
     ops: &[Op],
 ) -> Result<[u64; 2], Fail>
-    requires heaps { 2 ≤ length site.now.rooms.items }
+    requires heaps { 2 ≤ length site.now.slots.items }
     requires passes { All (IsPassOf site.now) passes.old }
 {
     let Some((first, others)) = passes.split_first_mut() else {
@@ -129,7 +129,7 @@ const LAST: u64 = 4_611_686_018_427_387_904;
 /// A site of which heap 0 has its last stamp, with one pass.
 #[tactic(auto, unfolding(zq_journal::specs::Books::LAST_STAMP))]
 fn opened_at_last(alloc: Global) -> Result<(Site, Vec<Pass>), Fail>
-    ensures heaps { IfOk result (λ made. length made.0.rooms.items ≡ 2) }
+    ensures heaps { IfOk result (λ made. length made.0.slots.items ≡ 2) }
     ensures passes { IfOk result (λ made. All (IsPassOf made.0) made.1.items) }
 {
     let number = SiteNo::new(0).ok_or("a site")?;

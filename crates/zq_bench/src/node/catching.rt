@@ -1,13 +1,13 @@
 //! How one node catches up with another one.
 ghost use Rattle.std.specs.Prelude.{All, IfSome};
-ghost use Rattle.zq_frames.specs.Frame.{IsWritable};
+ghost use Rattle.zq_links.specs.Frame.{IsWritable};
 ghost use Rattle.zq_node.specs.Node.{IsNode, IsSameHome};
 
 use crate::node::traffic::Traffic;
 use std::alloc::Global;
 use std::sync::Wait;
 use zq_dots::{SiteNo, Vector};
-use zq_frames::Frame;
+use zq_links::Frame;
 use zq_node::Node;
 
 /// How often a node asks, where it does not catch up.

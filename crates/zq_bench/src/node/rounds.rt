@@ -132,8 +132,8 @@ pub fn catch_up_in_rounds<R: Wait + Clock>(rt: &R, alloc: Global, plan: Plan) ->
     let numbers = [SiteNo::new(0)?, SiteNo::new(1)?];
     let (zero, zero_pass, mut maker) = opened(alloc, numbers[0])?;
     let (one, one_pass, mut reader) = opened(alloc, numbers[1])?;
-    let mut asked = Node::new(alloc, &zero, numbers[0], HEAPS, Rule::High, zero_pass);
-    let mut asker = Node::new(alloc, &one, numbers[1], HEAPS, Rule::High, one_pass);
+    let mut asked = Node::new(alloc, &zero, zero_pass);
+    let mut asker = Node::new(alloc, &one, one_pass);
     let met = meet(rt, alloc, plan, &zero, &mut maker, &mut asked, &mut asker);
     let first = members_at(rt, alloc, &zero, &mut maker);
     let second = members_at(rt, alloc, &one, &mut reader);

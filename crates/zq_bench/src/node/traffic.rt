@@ -1,8 +1,8 @@
 //! Frames that go from one node to another as bytes.
-ghost use Rattle.zq_frames.specs.Frame.{IsWritable};
+ghost use Rattle.zq_links.specs.Frame.{IsWritable};
 
 use std::alloc::Global;
-use zq_frames::{Frame, read_frame, write_frame};
+use zq_links::{Frame, read_frame, write_frame};
 use zq_posheap::Seeded;
 
 /// How many frames went over, and their bytes.

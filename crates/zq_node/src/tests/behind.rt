@@ -10,7 +10,7 @@ use std::process::Abort;
 use std::sync::Wait;
 use std::test::Fail;
 use zq_dots::SiteNo;
-use zq_frames::Frame;
+use zq_links::Frame;
 
 /// How often member a of queue q is put. At the last one the tail is cut to 2,048 records, and then has one more.
 const PUTS: u32 = 4097;

@@ -3,7 +3,7 @@
 use std::alloc::Global;
 use std::test::Fail;
 use zq_dots::{Act, Op, Rule, Score, SiteNo, Vector};
-use zq_frames::{Frame, Have};
+use zq_links::{Frame, Have};
 use zq_shard::Shard;
 
 /// The site that makes what other sites hear.

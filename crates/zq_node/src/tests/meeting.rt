@@ -8,7 +8,7 @@ use std::process::Abort;
 use std::sync::Wait;
 use std::test::Fail;
 use zq_dots::SiteNo;
-use zq_frames::Frame;
+use zq_links::Frame;
 
 /// What a frame tells.
 #[derive(Clone, Copy, Debug, PartialEq, Eq)]

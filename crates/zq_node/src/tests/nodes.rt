@@ -12,7 +12,7 @@ use std::process::Abort;
 use std::sync::Wait;
 use std::test::Fail;
 use zq_dots::SiteNo;
-use zq_frames::Frame;
+use zq_links::Frame;
 use zq_resp::{Reader, Request};
 use zq_shard::Shard;
 use zq_spread::{Pass, Site};

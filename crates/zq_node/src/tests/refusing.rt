@@ -9,7 +9,7 @@ use std::process::Abort;
 use std::sync::Wait;
 use std::test::Fail;
 use zq_dots::{Act, Dot, Op, Rule, SiteNo, Vector};
-use zq_frames::{Frame, Have};
+use zq_links::{Frame, Have};
 use zq_posheap::Seeded;
 use zq_shard::Shard;
 
@@ -175,6 +175,6 @@ fn a_frame_that_is_refused_changes_nothing(rt: HostRuntime) -> Result<(), Fail> 
     ops.push(third)?;
     let outer = Frame::Ops(ops);
     let (site, pass) = opened(rt.alloc(), number)?;
-    let mut node = Node::new(rt.alloc(), &site, number, 2, Rule::High, pass);
+    let mut node = Node::new(rt.alloc(), &site, pass);
     check_between(&rt, rt.alloc(), &mut node, &outer, &second)
 }

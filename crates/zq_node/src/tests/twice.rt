@@ -8,7 +8,7 @@ use std::alloc::Global;
 use std::process::Abort;
 use std::sync::Wait;
 use std::test::Fail;
-use zq_frames::Frame;
+use zq_links::Frame;
 
 /// How many frames there are.
 const FRAMES: u8 = 100;

@@ -9,7 +9,7 @@ use std::process::Abort;
 use std::sync::Wait;
 use std::test::Fail;
 use zq_dots::{Rule, SiteNo};
-use zq_frames::Frame;
+use zq_links::Frame;
 
 /// What is heard: the first of two operations, the second, or the heap that has both.
 #[derive(Clone, Copy)]
@@ -92,7 +92,7 @@ fn check_all<R: Wait + Abort>(rt: &R, alloc: Global, steps: &[(Heard, Has)]) -> 
     let number = SiteNo::new(2).ok_or("a site")?;
     let frames = frames_to_hear(alloc)?;
     let (site, pass) = opened(alloc, number)?;
-    let mut node = Node::new(alloc, &site, number, 2, Rule::High, pass);
+    let mut node = Node::new(alloc, &site, pass);
     check_steps(rt, alloc, &mut node, &frames, steps)
 }
 
@@ -150,7 +150,7 @@ fn a_full_node_drops_one_more_and_takes_the_others_in_the_end(rt: HostRuntime) -
     let number = SiteNo::new(2).ok_or("a site")?;
     let (first, others, last) = crowd(rt.alloc())?;
     let (site, pass) = opened(rt.alloc(), number)?;
-    let mut node = Node::new(rt.alloc(), &site, number, 2, Rule::High, pass);
+    let mut node = Node::new(rt.alloc(), &site, pass);
     check_crowd(&rt, rt.alloc(), &mut node, &first, &others, &last)
 }
 
@@ -159,7 +159,7 @@ fn a_frame_of_more_than_may_be_parked_is_heard_whole(rt: HostRuntime) -> Result<
     let number = SiteNo::new(2).ok_or("a site")?;
     let (_, ops) = made(rt.alloc(), 2049)?;
     let (site, pass) = opened(rt.alloc(), number)?;
-    let mut node = Node::new(rt.alloc(), &site, number, 2, Rule::High, pass);
+    let mut node = Node::new(rt.alloc(), &site, pass);
     let all = Has {
         parked: 0,
         members: 2,

@@ -6,7 +6,7 @@ use Rattle.zq_commands.proofs.Stood.{stood_in}
 use Rattle.zq_commands.specs.Lending.{HasBook, lent_after}
 use Rattle.zq_dots.specs.Act.{act_of}
 use Rattle.zq_model.specs.Sets.{SITES}
-use Rattle.zq_moves.specs.Moves.{Move}
+use Rattle.zq_model.specs.Moves.{Move}
 use Rattle.zq_commands.proofs.making.make_at.Goals as goal
 
 pub returns-clause-queues : goal.returns-clause-queues

@@ -2,8 +2,8 @@ use Rattle.std.proofs.Common.{Err, [], ap, arith, refl, subst, sym, ◌++◌, �
 use Rattle.std.proofs.lemmas.Bool.{eqb-true}
 use Rattle.zq_commands.proofs.VecBooks.{worn_from, worn_of}
 use Rattle.zq_dots.specs.Act.{act_of}
-use Rattle.zq_history.specs.Books.{Book, Made}
-use Rattle.zq_history.specs.Reach.{IsWorked}
+use Rattle.zq_model.specs.Books.{Book, Made}
+use Rattle.zq_model.specs.Reach.{IsWorked}
 use Rattle.zq_journal.specs.Books.{LAST_STAMP, state_of, step_of}
 use Rattle.zq_shard.specs.Shard.{next_operation}
 use Rattle.zq_commands.specs.RecordedBooks.{recorded_itself}

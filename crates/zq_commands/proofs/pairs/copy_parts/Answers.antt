@@ -6,7 +6,7 @@ use Rattle.std.specs.Option.{option_map}
 use Rattle.std.specs.Prelude.{slice_range}
 use Rattle.zq_commands.proofs.InTurn.{take_next}
 use Rattle.zq_commands.specs.FirstPairs.{lent_pair}
-use Rattle.zq_plans.specs.Replies as plan
+use Rattle.zq_semantics.specs.Replies as plan
 use Rattle.zq_resp.specs.Reply.{bulk}
 use Rattle.zq_words.specs.Words.{Word}
 use Rattle.zq_commands.proofs.pairs.copy_parts.Goals as goal

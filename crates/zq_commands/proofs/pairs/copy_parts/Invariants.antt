@@ -2,7 +2,7 @@ use Rattle.std.proofs.Common.{IsTrue, flat_map, map, ◌≡◌}
 use Rattle.std.specs.Prelude.{slice_range}
 use Rattle.zq_commands.specs.Arrays.{are_writable}
 use Rattle.zq_commands.specs.FirstPairs.{lent_pair}
-use Rattle.zq_plans.specs.Replies as plan
+use Rattle.zq_semantics.specs.Replies as plan
 use Rattle.zq_resp.specs.Reply.{bulk, reply_bytes}
 use Rattle.zq_commands.proofs.pairs.copy_parts.Given as goal
 

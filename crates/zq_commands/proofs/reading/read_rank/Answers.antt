@@ -5,9 +5,9 @@ use Rattle.std.specs.Prelude.{count_by}
 use mir.Val.{SFits}
 use Rattle.zq_commands.proofs.Ranks.{rank_read}
 use Rattle.zq_commands.specs.Lending.{queues_in}
-use Rattle.zq_moves.specs.Moves.{score_in}
-use Rattle.zq_moves.specs.Readings.{is_before}
-use Rattle.zq_plans.specs.Run.{ForReply}
+use Rattle.zq_model.specs.Moves.{score_in}
+use Rattle.zq_model.specs.Readings.{is_before}
+use Rattle.zq_semantics.specs.Run.{ForReply}
 use Rattle.zq_commands.proofs.reading.read_rank.Goals as goal
 
 pub returns-in-Some-total_before-clause-read : goal.returns-in-Some-total_before-clause-read

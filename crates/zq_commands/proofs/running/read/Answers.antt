@@ -2,8 +2,8 @@ use Rattle.std.proofs.Common.{subst, sym}
 use Rattle.zq_commands.specs.Commands.{HasBooks}
 use Rattle.zq_commands.specs.Lending.{queues_in}
 use Rattle.zq_commands.specs.Running.{IsRead}
-use Rattle.zq_plans.specs.Plan.{plan_of}
-use Rattle.zq_plans.specs.Run.{takes_of}
+use Rattle.zq_semantics.specs.Plan.{plan_of}
+use Rattle.zq_semantics.specs.Run.{takes_of}
 use Rattle.zq_resp.specs.Reply.{reply_bytes}
 use Rattle.zq_words.specs.Limits.{IsWithinLimits}
 use Rattle.zq_words.specs.Shown.{shown}

@@ -2,8 +2,8 @@ use Rattle.std.proofs.Common.{subst, sym, true, ◌≡◌}
 use Rattle.zq_commands.proofs.RanPlans.{read_whole}
 use Rattle.zq_commands.specs.Commands.{HasBooks, is_reading}
 use Rattle.zq_commands.specs.Lending.{queues_in}
-use Rattle.zq_plans.specs.Plan.{plan_of}
-use Rattle.zq_plans.specs.Replies.{bytes_of}
+use Rattle.zq_semantics.specs.Plan.{plan_of}
+use Rattle.zq_semantics.specs.Replies.{bytes_of}
 use Rattle.zq_resp.specs.Reply.{reply_bytes}
 use Rattle.zq_words.specs.Command.{Command}
 use Rattle.zq_words.specs.Shown.{shown}

@@ -3,8 +3,8 @@ use Rattle.zq_commands.proofs.RanPlans.{ran_read}
 use Rattle.zq_commands.specs.Commands.{HasBooks, IsRunOver, is_reading}
 use Rattle.zq_commands.specs.Lending.{HasBook, queues_in}
 use Rattle.zq_commands.specs.Running.{RunsOver}
-use Rattle.zq_plans.specs.Plan as plan
-use Rattle.zq_plans.specs.Run.{ForMoves, cut_error}
+use Rattle.zq_semantics.specs.Plan as plan
+use Rattle.zq_semantics.specs.Run.{ForMoves, cut_error}
 use Rattle.zq_resp.specs.Reply.{reply_bytes}
 use Rattle.zq_words.specs.Shown.{pair_shown, shown}
 use Rattle.zq_commands.proofs.running.reply_to.Goals as goal

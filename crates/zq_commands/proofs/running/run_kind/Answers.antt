@@ -4,9 +4,9 @@ use Rattle.zq_commands.proofs.RanPlans.{ends_shorter, run_told}
 use Rattle.zq_commands.specs.Commands.{IsRunOver}
 use Rattle.zq_commands.specs.Lending.{queues_in}
 use Rattle.zq_commands.specs.Running.{EndsOver}
-use Rattle.zq_plans.specs.Plan as plan
-use Rattle.zq_plans.specs.Ranges.{from_zero}
-use Rattle.zq_plans.specs.Run.{ForCopies, cut_pop, popped_of}
+use Rattle.zq_semantics.specs.Plan as plan
+use Rattle.zq_semantics.specs.Ranges.{from_zero}
+use Rattle.zq_semantics.specs.Run.{ForCopies, cut_pop, popped_of}
 use Rattle.zq_resp.specs.Reply.{reply_bytes}
 use Rattle.zq_words.specs.Shown.{shown}
 use Rattle.zq_commands.proofs.running.run_kind.Goals as goal

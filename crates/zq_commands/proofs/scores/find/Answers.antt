@@ -1,6 +1,6 @@
 use Rattle.std.proofs.Common.{sym, ◌∙◌}
 use Rattle.zq_commands.proofs.Widths.{score_wide}
-use Rattle.zq_moves.proofs.Read.{in_place, read_score}
+use Rattle.zq_model.proofs.Read.{in_place, read_score}
 use Rattle.zq_posheap.proofs.Lists.{there_is}
 use Rattle.zq_commands.proofs.scores.find.Goals as goal
 

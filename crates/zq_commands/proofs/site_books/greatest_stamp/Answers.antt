@@ -2,8 +2,8 @@ use Rattle.std.proofs.Common.{List, Some, ap, arith, inl, inr, length, refl, sym
 use Rattle.std.proofs.lemmas.Bool.{cases_eq}
 use Rattle.std.proofs.lemmas.Option.{same_Some, slice_get_read, slice_get_within}
 use Rattle.std.specs.Prelude.{slice_get}
-use Rattle.zq_history.specs.Books.{Book}
-use Rattle.zq_moves.proofs.Read.{in_place}
+use Rattle.zq_model.specs.Books.{Book}
+use Rattle.zq_model.proofs.Read.{in_place}
 use Rattle.zq_commands.proofs.site_books.greatest_stamp.Goals as goal
 use Rattle.zq_commands.proofs.site_books.greatest_stamp.Goals.{else-greatest-stamp, then-greatest-stamp}
 

@@ -1,6 +1,6 @@
 use Rattle.std.proofs.Common.{Some, ℕ, ◌<◌, ◌≡◌, ◌≤◌}
 use Rattle.std.specs.Prelude.{slice_get}
-use Rattle.zq_history.specs.Books.{Book}
+use Rattle.zq_model.specs.Books.{Book}
 use Rattle.zq_journal.specs.Books.{LAST_STAMP}
 use Rattle.zq_model.specs.Sets.{IsIn}
 use Rattle.zq_commands.proofs.site_books.greatest_stamp.Given as goal

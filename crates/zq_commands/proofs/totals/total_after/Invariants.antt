@@ -1,6 +1,6 @@
 use Rattle.std.specs.Prelude.{◌<◌, ◌^◌, ◌≡◌}
 use Rattle.zq_commands.proofs.Counts.{pairs_in, upto}
-use Rattle.zq_moves.specs.Readings.{is_before}
+use Rattle.zq_model.specs.Readings.{is_before}
 use Rattle.zq_commands.proofs.totals.total_after.Given as goal
 
 abbrev pub invariant-loop-place : goal.invariant-loop-place

@@ -1,7 +1,7 @@
 use Rattle.std.proofs.Common.{Bool, arith, length, refl, ◌+◌, ◌∙◌, ◌≡◌}
 use Rattle.zq_commands.proofs.Counts.{pairs_all, pairs_in, pairs_most, upto_next}
 use Rattle.zq_model.specs.Meaning.{Scored}
-use Rattle.zq_moves.specs.Readings.{is_before}
+use Rattle.zq_model.specs.Readings.{is_before}
 use Rattle.zq_commands.proofs.totals.total_before.Goals as goal
 
 pub loop-place-preserved : goal.loop-place-preserved

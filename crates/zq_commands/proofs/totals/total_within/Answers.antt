@@ -1,7 +1,7 @@
 use Rattle.std.proofs.Common.{Bool, arith, length, refl, ◌+◌, ◌∙◌, ◌≡◌}
 use Rattle.zq_commands.proofs.Counts.{pairs_all, pairs_in, pairs_most, upto_next}
 use Rattle.zq_model.specs.Meaning.{Scored}
-use Rattle.zq_plans.specs.Ranges.{is_within}
+use Rattle.zq_semantics.specs.Ranges.{is_within}
 use Rattle.zq_commands.proofs.totals.total_within.Goals as goal
 
 pub loop-place-preserved : goal.loop-place-preserved

@@ -1,6 +1,6 @@
 use Rattle.std.specs.Prelude.{◌<◌, ◌^◌, ◌≡◌}
 use Rattle.zq_commands.proofs.Counts.{pairs_in, upto}
-use Rattle.zq_plans.specs.Ranges.{is_within}
+use Rattle.zq_semantics.specs.Ranges.{is_within}
 use Rattle.zq_commands.proofs.totals.total_within.Given as goal
 
 abbrev pub invariant-loop-place : goal.invariant-loop-place

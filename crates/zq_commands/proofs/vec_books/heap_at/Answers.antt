@@ -1,7 +1,7 @@
 use Rattle.std.proofs.Common.{ap, length, refl, sym, ◌∙◌, ◌≡◌}
 use Rattle.std.proofs.lemmas.Option.{same_Some, slice_get_read}
 use Rattle.zq_journal.specs.Books.{state_of}
-use Rattle.zq_moves.proofs.Read.{in_place}
+use Rattle.zq_model.proofs.Read.{in_place}
 use Rattle.zq_commands.proofs.vec_books.heap_at.Goals as goal
 
 pub returns : goal.returns

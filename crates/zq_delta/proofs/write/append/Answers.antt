@@ -1,6 +1,6 @@
 use Rattle.std.proofs.Common.{ap, length, refl, take, ◌∙◌, ◌≡◌}
 use Rattle.std.proofs.lemmas.List.{take_at}
-use Rattle.zq_parts.proofs.Written.{kept_more}
+use Rattle.zq_fields.proofs.Written.{kept_more}
 use Rattle.zq_delta.proofs.write.append.Goals as goal
 
 pub returns-clause-kept : goal.returns-clause-kept

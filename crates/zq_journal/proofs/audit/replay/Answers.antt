@@ -1,6 +1,6 @@
 use Rattle.std.proofs.Common.{ap, arith, length, ◌≤◌, ◌∙◌}
 use Rattle.std.proofs.lemmas.List.{take_all}
-use Rattle.zq_history.specs.Books.{replayed}
+use Rattle.zq_model.specs.Books.{replayed}
 use Rattle.zq_journal.proofs.Replaying.{image_here, new_here, own_here, rest_here}
 use Rattle.zq_journal.proofs.Wholes.{length_over}
 use Rattle.zq_journal.specs.Records.{records_in, written_in}

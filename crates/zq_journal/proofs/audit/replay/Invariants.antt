@@ -1,5 +1,5 @@
 use Rattle.std.proofs.Common.{drop, take, ◌≡◌}
-use Rattle.zq_history.specs.Books.{replayed}
+use Rattle.zq_model.specs.Books.{replayed}
 use Rattle.zq_journal.specs.Records.{records_in, written_in}
 use Rattle.zq_journal.proofs.audit.replay.Given as goal
 

@@ -10,7 +10,7 @@ use Rattle.zq_merge.proofs.SumLists.{first_fails, first_found, first_more, first
 use Rattle.zq_merge.specs.Reading.{sum_in}
 use Rattle.zq_model.proofs.Bounds.{within_more}
 use Rattle.zq_model.specs.Operation.{IsWithin, MOST}
-use Rattle.zq_parts.proofs.Counters.{dense_sites_is}
+use Rattle.zq_fields.proofs.Counters.{dense_sites_is}
 use Rattle.zq_merge.proofs.sums.read_each_sum.Goals as goal
 
 pub site_of-site-requires : goal.site_of-site-requires

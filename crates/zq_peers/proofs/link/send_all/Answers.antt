@@ -1,6 +1,6 @@
 use Rattle.std.proofs.Common.{ap, subst, ◌∙◌, map}
 use Rattle.std.proofs.lemmas.List.{take_all}
-use Rattle.zq_frames.specs.Frame.{frame_of}
+use Rattle.zq_links.specs.Frame.{frame_of}
 use Rattle.zq_peers.proofs.Sent.{sent_next, to_one}
 use Rattle.zq_peers.specs.Carried.{AreSent}
 use Rattle.zq_peers.proofs.link.send_all.Goals as goal

@@ -1,5 +1,5 @@
 use Rattle.std.proofs.Common.{map, take}
-use Rattle.zq_frames.specs.Frame.{frame_of}
+use Rattle.zq_links.specs.Frame.{frame_of}
 use Rattle.zq_peers.specs.Carried.{AreSent}
 use Rattle.zq_peers.proofs.link.send_all.Given as goal
 

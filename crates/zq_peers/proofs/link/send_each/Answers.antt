@@ -1,4 +1,4 @@
-use Rattle.zq_frames.specs.Frame.{frame_of}
+use Rattle.zq_links.specs.Frame.{frame_of}
 use Rattle.zq_peers.proofs.Sent.{sent_next}
 use Rattle.zq_peers.proofs.link.send_each.Goals as goal
 

@@ -1,5 +1,5 @@
 use Rattle.std.proofs.Common.{map, subst}
-use Rattle.zq_frames.specs.Frame.{frame_of}
+use Rattle.zq_links.specs.Frame.{frame_of}
 use Rattle.zq_node.specs.Hearing.{sent_to}
 use Rattle.zq_peers.proofs.Sent.{sent_more}
 use Rattle.zq_peers.specs.Carried.{AreSent}

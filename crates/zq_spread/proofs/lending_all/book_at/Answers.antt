@@ -2,7 +2,7 @@ use Rattle.std.proofs.Common.{Some, ap, arith, length, sym, ◌<◌, ◌∙◌}
 use Rattle.std.proofs.lemmas.List.{length-reverse}
 use Rattle.zq_spread.proofs.Turned.{book_stands}
 use Rattle.zq_spread.proofs.lending_all.book_at.Goals as goal
-use Rattle.zq_spread.specs.declared.kept.Kept.{Kept}
+use Rattle.zq_spread.specs.declared.locked_heap.LockedHeap.{LockedHeap}
 
 pub returns : goal.returns
 returns c =
@@ -10,4 +10,4 @@ returns c =
     let low = c.requires in
     let long = length-reverse items in
     let within : c.args.place < length items = omega (arith, low, long) in
-    book_stands items c.args.place (length c.as_slice.result.now) c.index.result.now (ap length c.as_slice.ensures.value) within c.index.ensures ∙ ap (λ (v : Kept). Some v.book) (sym c.value.ensures)
+    book_stands items c.args.place (length c.as_slice.result.now) c.index.result.now (ap length c.as_slice.ensures.value) within c.index.ensures ∙ ap (λ (v : LockedHeap). Some v.book) (sym c.value.ensures)

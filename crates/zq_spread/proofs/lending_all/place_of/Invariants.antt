@@ -1,6 +1,6 @@
 use Rattle.std.proofs.Common.{Some, ℕ, ◌<◌, ◌≡◌, ◌≢◌}
 use Rattle.std.specs.Prelude.{slice_get}
-use Rattle.zq_history.specs.Books.{Book}
+use Rattle.zq_model.specs.Books.{Book}
 use Rattle.zq_spread.proofs.lending_all.place_of.Given as goal
 use Rattle.zq_spread.specs.Several.{books_of, helds_of}
 

@@ -1,7 +1,7 @@
 use Rattle.std.proofs.Common.{ap, sym, ◌∙◌, ◌≡◌}
 use Rattle.std.proofs.lemmas.Option.{same_Some}
 use Rattle.zq_journal.specs.Books.{state_of}
-use Rattle.zq_moves.proofs.Read.{in_place}
+use Rattle.zq_model.proofs.Read.{in_place}
 use Rattle.zq_spread.proofs.lending_all.shard_at.Goals as goal
 use Rattle.zq_spread.specs.Several.{books_of, helds_of}
 

@@ -1,7 +1,7 @@
 use Rattle.std.proofs.Common.{Some, length, ℕ, ◌≡◌}
 use Rattle.std.specs.Prelude.{slice_get}
 use Rattle.zq_dots.specs.Rule.{rule_of}
-use Rattle.zq_history.specs.Books.{Book}
+use Rattle.zq_model.specs.Books.{Book}
 use Rattle.zq_journal.specs.Books.{opened}
 use Rattle.zq_model.specs.Image.{empty_image}
 use Rattle.zq_spread.proofs.makers.empty_books.Given as goal

@@ -1,7 +1,7 @@
 use Rattle.std.proofs.Common.{List, [], ap, arith, lt-ltb, map, ◌++◌, ◌∙◌, ◌∷◌}
 use Rattle.std.proofs.lemmas.List.{map-append}
 use Rattle.zq_resp.specs.Reply.{reply_bytes}
-use Rattle.zq_runs.specs.Events.{Do, Replied}
+use Rattle.zq_semantics.specs.Events.{Do, Replied}
 use Rattle.zq_words.specs.Words.{Word}
 use Rattle.zq_world.proofs.Standing.{held_next}
 use Rattle.zq_world.specs.Play.{answer_in}

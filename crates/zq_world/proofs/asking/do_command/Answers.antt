@@ -5,9 +5,9 @@ use Rattle.std.specs.Prelude.{slice_get}
 use Rattle.std.specs.declared.alloc.Global.{Global}
 use Rattle.zq_commands.proofs.SitePlaces.{site_homes, site_lending}
 use Rattle.zq_dots.specs.Placed.{Placed}
-use Rattle.zq_history.specs.Books.{Book}
-use Rattle.zq_runs.specs.Books.{AreUnworn, greatest_stamp}
-use Rattle.zq_runs.specs.Doing.{is_ping, queues_for}
+use Rattle.zq_model.specs.Books.{Book}
+use Rattle.zq_semantics.specs.Books.{AreUnworn, greatest_stamp}
+use Rattle.zq_semantics.specs.Doing.{is_ping, queues_for}
 use Rattle.zq_world.proofs.Commanded.{commanded, dated, many, no_ping, not_commanded, of_its}
 use Rattle.zq_world.specs.Outcomes.{RanBy}
 use Rattle.zq_world.specs.Play.{run_of}

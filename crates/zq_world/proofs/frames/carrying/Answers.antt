@@ -8,9 +8,9 @@ use Rattle.zq_delta.specs.declared.version.Version.TheVariants as delta
 use Rattle.zq_merge.proofs.AgainStates.{state_again}
 use Rattle.zq_merge.specs.declared.version.Version.TheVariants as merge
 use Rattle.zq_model.proofs.BoundedImages.{bounded_set}
-use Rattle.zq_runs.proofs.KeptRuns.{heap_below_key, kept_always, within_at, world_at}
-use Rattle.zq_runs.specs.Events.{set_at}
-use Rattle.zq_runs.specs.Runs.{run}
+use Rattle.zq_semantics.proofs.KeptRuns.{heap_below_key, kept_always, within_at, world_at}
+use Rattle.zq_semantics.specs.Events.{set_at}
+use Rattle.zq_semantics.specs.Runs.{run}
 use Rattle.zq_dots.specs.Placed.{IsRanged}
 use Rattle.zq_world.specs.Frames.{heap_at, placed}
 use Rattle.zq_world.proofs.FewRows.{few_rows}

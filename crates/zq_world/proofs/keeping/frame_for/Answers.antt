@@ -1,7 +1,7 @@
 use Rattle.std.proofs.Common.{List, Ok, ap, arith, length, refl, sym, ◌∙◌}
 use Rattle.std.proofs.lemmas.Option.{slice_get_read}
 use Rattle.std.specs.Prelude.{slice_get}
-use Rattle.zq_history.specs.Books.{Book}
+use Rattle.zq_model.specs.Books.{Book}
 use Rattle.zq_world.proofs.keeping.frame_for.Goals as goal
 
 pub returns-clause-some : goal.returns-clause-some

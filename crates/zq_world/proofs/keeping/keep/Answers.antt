@@ -6,9 +6,9 @@ use Rattle.std.specs.Vec.{vec_len}
 use Rattle.std.specs.declared.alloc.Global.{Global}
 use Rattle.zq_commands.proofs.InTurn.{take_next}
 use Rattle.zq_model.specs.Sets.{IsIn}
-use Rattle.zq_moves.proofs.Read.{in_place}
+use Rattle.zq_model.proofs.Read.{in_place}
 use Rattle.zq_posheap.proofs.Lists.{mapped_at}
-use Rattle.zq_runs.specs.Events.{Event}
+use Rattle.zq_semantics.specs.Events.{Event}
 use Rattle.zq_world.proofs.Keepings.{AreSoFar, far_last, far_same, far_set, ready_else, ready_now}
 use Rattle.zq_world.specs.Play.{event_of}
 use Rattle.zq_world.specs.Steps.{IsElsewhere, IsFrame}

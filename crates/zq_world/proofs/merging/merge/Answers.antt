@@ -3,8 +3,8 @@ use Rattle.std.proofs.lemmas.Bool.{and_parts}
 use Rattle.std.proofs.lemmas.List.{map-append}
 use Rattle.std.proofs.lemmas.Option.{slice_get_read}
 use Rattle.std.specs.Prelude.{slice_get}
-use Rattle.zq_runs.specs.Books.{AreBooksOf}
-use Rattle.zq_runs.specs.Events.{Merge, is_possible, set_at}
+use Rattle.zq_semantics.specs.Books.{AreBooksOf}
+use Rattle.zq_semantics.specs.Events.{Merge, is_possible, set_at}
 use Rattle.zq_shard.specs.Shard.{HeapImage}
 use Rattle.zq_world.proofs.Mergings.{closed_here, closed_there, made_merged, others_merged, same_book, world_both}
 use Rattle.zq_world.proofs.Standing.{held_next, stands_set}

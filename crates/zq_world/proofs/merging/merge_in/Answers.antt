@@ -1,13 +1,13 @@
 use Rattle.std.proofs.Common.{Err, Some, ap, arith, length, refl, subst, sym, ◌+◌, ◌<◌, ◌∙◌, ◌≡◌}
 use Rattle.std.proofs.lemmas.Option.{same_Some, slice_get_read, slice_get_within}
 use Rattle.std.specs.Prelude.{List, slice_get, slice_set}
-use Rattle.zq_history.specs.Books.{Book, merged}
+use Rattle.zq_model.specs.Books.{Book, merged}
 use Rattle.zq_journal.specs.Books.{LAST_STAMP, state_of}
 use Rattle.zq_model.specs.Sets.{IsIn}
-use Rattle.zq_moves.proofs.Read.{in_place}
-use Rattle.zq_plans.specs.Run.{LAST_COUNT}
+use Rattle.zq_model.proofs.Read.{in_place}
+use Rattle.zq_semantics.specs.Run.{LAST_COUNT}
 use Rattle.zq_posheap.proofs.Lists.{set_again}
-use Rattle.zq_runs.specs.Books.{AreBooksOf, greatest_stamp}
+use Rattle.zq_semantics.specs.Books.{AreBooksOf, greatest_stamp}
 use Rattle.zq_shard.specs.Shard.{HeapImage, IsSameHeap}
 use Rattle.zq_world.proofs.Handed.{blocked_count, blocked_stamp}
 use Rattle.zq_world.proofs.Merged.{merged_into, merged_not}

@@ -3,9 +3,9 @@ use Rattle.std.proofs.lemmas.List.{drop_all}
 use Rattle.std.specs.Prelude.{slice_get}
 use Rattle.zq_commands.proofs.RanPlans.{drop_at}
 use Rattle.zq_commands.specs.VecBooks.{rule_in}
-use Rattle.zq_history.specs.Books.{Book}
-use Rattle.zq_moves.specs.Lent.{queues_of}
-use Rattle.zq_moves.specs.Merging.{least}
+use Rattle.zq_model.specs.Books.{Book}
+use Rattle.zq_model.specs.Lent.{queues_of}
+use Rattle.zq_model.specs.Merging.{least}
 use Rattle.zq_posheap.proofs.Lists.{there_is}
 use Rattle.zq_world.proofs.near.least_of.Goals as goal
 

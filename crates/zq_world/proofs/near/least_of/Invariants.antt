@@ -1,8 +1,8 @@
 use Rattle.std.proofs.Common.{Some, drop, length, ◌<◌, ◌≡◌, ◌∷◌, []}
 use Rattle.std.specs.Prelude.{slice_get}
 use Rattle.zq_commands.specs.VecBooks.{rule_in}
-use Rattle.zq_history.specs.Books.{Book}
-use Rattle.zq_moves.specs.Lent.{queues_of}
+use Rattle.zq_model.specs.Books.{Book}
+use Rattle.zq_model.specs.Lent.{queues_of}
 use Rattle.zq_world.proofs.near.least_of.Given as goal
 
 abbrev pub invariant-loop-place : goal.invariant-loop-place

@@ -3,12 +3,12 @@ use Rattle.std.proofs.lemmas.Bool.{cond-false, cond-true}
 use Rattle.std.specs.Prelude.{is_some, slice_get}
 use Rattle.zq_commands.specs.FirstPairs.{lent_pair}
 use Rattle.zq_commands.specs.VecBooks.{rule_in}
-use Rattle.zq_history.specs.Books.{Book}
-use Rattle.zq_moves.specs.Lent.{queues_of}
-use Rattle.zq_moves.specs.Moves.{Queue}
-use Rattle.zq_plans.specs.Plan.{is_there}
+use Rattle.zq_model.specs.Books.{Book}
+use Rattle.zq_model.specs.Lent.{queues_of}
+use Rattle.zq_model.specs.Moves.{Queue}
+use Rattle.zq_semantics.specs.Plan.{is_there}
 use Rattle.zq_posheap.proofs.Lists.{is_some-map, there_is}
-use Rattle.zq_runs.specs.Doing.{first_drawn, second_drawn}
+use Rattle.zq_semantics.specs.Doing.{first_drawn, second_drawn}
 use Rattle.zq_world.proofs.Nearest.{first_there}
 use Rattle.zq_world.proofs.near.nearest.Goals as goal
 use Rattle.zq_world.proofs.near.nearest.Goals.{After-top}

@@ -3,10 +3,10 @@ use Rattle.std.proofs.lemmas.List.{length_push}
 use Rattle.std.specs.Prelude.{slice_get}
 use Rattle.zq_commands.proofs.SitePlaces.{get_behind}
 use Rattle.zq_dots.specs.Rule.{rule_of}
-use Rattle.zq_history.specs.Books.{Book}
+use Rattle.zq_model.specs.Books.{Book}
 use Rattle.zq_model.specs.Image.{image_of}
-use Rattle.zq_runs.specs.Books.{IsBookOf}
-use Rattle.zq_runs.specs.Runs as runs
+use Rattle.zq_semantics.specs.Books.{IsBookOf}
+use Rattle.zq_semantics.specs.Runs as runs
 use Rattle.zq_world.proofs.opening.empty_books.Goals as goal
 
 none_in : (h : ℕ) (b : Book) → slice_get [] h ≡ Some b → ⊥

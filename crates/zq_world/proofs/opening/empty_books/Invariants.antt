@@ -1,9 +1,9 @@
 use Rattle.std.proofs.Common.{Some, length, ℕ, ◌≡◌}
 use Rattle.std.specs.Prelude.{slice_get}
 use Rattle.zq_dots.specs.Rule.{rule_of}
-use Rattle.zq_history.specs.Books.{Book}
-use Rattle.zq_runs.specs.Books.{IsBookOf}
-use Rattle.zq_runs.specs.Runs as runs
+use Rattle.zq_model.specs.Books.{Book}
+use Rattle.zq_semantics.specs.Books.{IsBookOf}
+use Rattle.zq_semantics.specs.Runs as runs
 use Rattle.zq_world.proofs.opening.empty_books.Given as goal
 
 abbrev pub invariant-loop-heap : goal.invariant-loop-heap

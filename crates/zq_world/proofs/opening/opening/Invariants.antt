@@ -2,9 +2,9 @@ use Rattle.std.proofs.Common.{Some, Vec, length, ℕ, ◌≡◌}
 use Rattle.std.specs.Prelude.{slice_get}
 use Rattle.std.specs.declared.alloc.Global.{Global}
 use Rattle.zq_dots.specs.Rule.{rule_of}
-use Rattle.zq_history.specs.Books.{Book}
-use Rattle.zq_runs.specs.Books.{AreBooksOf}
-use Rattle.zq_runs.specs.Runs as runs
+use Rattle.zq_model.specs.Books.{Book}
+use Rattle.zq_semantics.specs.Books.{AreBooksOf}
+use Rattle.zq_semantics.specs.Runs as runs
 use Rattle.zq_world.proofs.opening.opening.Given as goal
 
 abbrev pub invariant-loop-site : goal.invariant-loop-site

@@ -1,9 +1,9 @@
 use Rattle.std.proofs.Common.{List, subst, ◌∙◌}
 use Rattle.std.proofs.lemmas.List.{length-map}
-use Rattle.zq_history.specs.Books.{Book}
-use Rattle.zq_runs.proofs.Kept.{world_of}
-use Rattle.zq_runs.proofs.KeptRuns.{kept_always}
-use Rattle.zq_runs.specs.Books.{AreBooksOf}
+use Rattle.zq_model.specs.Books.{Book}
+use Rattle.zq_semantics.proofs.Kept.{world_of}
+use Rattle.zq_semantics.proofs.KeptRuns.{kept_always}
+use Rattle.zq_semantics.specs.Books.{AreBooksOf}
 use Rattle.zq_world.proofs.SitesOf.{of_site}
 use Rattle.zq_world.proofs.WorldBooks.{items_at}
 use Rattle.zq_world.specs.Play.{run_of}

@@ -6,7 +6,7 @@ use Rattle.std.specs.declared.alloc.Global.{Global}
 use Rattle.zq_dots.specs.Rule.{rule_of}
 use Rattle.zq_model.specs.Sets.{IsIn}
 use Rattle.zq_posheap.proofs.Lists.{mapped_at}
-use Rattle.zq_runs.specs.Events.{Event, Merge, is_possible}
+use Rattle.zq_semantics.specs.Events.{Event, Merge, is_possible}
 use Rattle.zq_world.proofs.Plays.{at_last, at_next, before, made_at, missing_here, moments_at, so_many}
 use Rattle.zq_world.specs.Keeping.{AreReady, IsReady}
 use Rattle.zq_world.specs.Play.{Played, event_of, run_of}

@@ -4,11 +4,11 @@ use Rattle.std.proofs.lemmas.Option.{slice_get_read}
 use Rattle.std.specs.Prelude.{slice_get}
 use Rattle.zq_commands.specs.Commands.{IsRunOver}
 use Rattle.zq_commands.specs.Lending.{queues_in}
-use Rattle.zq_history.specs.Books.{Book}
+use Rattle.zq_model.specs.Books.{Book}
 use Rattle.zq_model.specs.Sets.{IsIn}
-use Rattle.zq_moves.proofs.Read.{in_place}
-use Rattle.zq_plans.specs.Plan.{plan_of}
-use Rattle.zq_plans.specs.Run.{cut_reply, takes_of}
+use Rattle.zq_model.proofs.Read.{in_place}
+use Rattle.zq_semantics.specs.Plan.{plan_of}
+use Rattle.zq_semantics.specs.Run.{cut_reply, takes_of}
 use Rattle.zq_resp.specs.Reply.{reply_bytes}
 use Rattle.zq_world.proofs.RanBooks.{number_left}
 use Rattle.zq_world.specs.Told.{KeepsHeaps, lending_told}

@@ -3,7 +3,7 @@ use Rattle.std.proofs.lemmas.List.{drop_all}
 use Rattle.std.proofs.lemmas.Option.{slice_get_read}
 use Rattle.zq_commands.proofs.RanPlans.{drop_at}
 use Rattle.zq_journal.specs.Books.{LAST_STAMP}
-use Rattle.zq_runs.specs.Books as site
+use Rattle.zq_semantics.specs.Books as site
 use Rattle.zq_world.proofs.stamps.greatest_stamp.Goals as goal
 
 pub loop-place-init : goal.loop-place-init

@@ -1,6 +1,6 @@
 use Rattle.std.proofs.Common.{drop, length, ◌≡◌, ◌≤◌}
-use Rattle.zq_plans.specs.Run.{LAST_COUNT}
-use Rattle.zq_runs.specs.Books as site
+use Rattle.zq_semantics.specs.Run.{LAST_COUNT}
+use Rattle.zq_semantics.specs.Books as site
 use Rattle.zq_world.proofs.stamps.greatest_stamp.Given as goal
 
 abbrev pub invariant-loop-place : goal.invariant-loop-place

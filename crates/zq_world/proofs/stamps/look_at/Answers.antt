@@ -2,8 +2,8 @@ use Rattle.std.proofs.Common.{arith, length, refl, subst, ◌≤◌}
 use Rattle.std.proofs.lemmas.Option.{slice_get_read, slice_get_within}
 use Rattle.zq_journal.specs.Books.{LAST_STAMP}
 use Rattle.zq_model.specs.Sets.{IsCounters}
-use Rattle.zq_moves.proofs.Read.{placed_in}
-use Rattle.zq_plans.specs.Run.{LAST_COUNT}
+use Rattle.zq_model.proofs.Read.{placed_in}
+use Rattle.zq_semantics.specs.Run.{LAST_COUNT}
 use Rattle.zq_shard.specs.Shard.{HeapImage}
 use Rattle.zq_world.proofs.SeenBooks.{seen_next}
 use Rattle.zq_world.proofs.stamps.look_at.Goals as goal

@@ -1,8 +1,8 @@
 use Rattle.std.proofs.Common.{Some, ℕ, ◌<◌, ◌≡◌, ◌≤◌}
 use Rattle.std.specs.Prelude.{slice_get}
-use Rattle.zq_history.specs.Books.{Book}
+use Rattle.zq_model.specs.Books.{Book}
 use Rattle.zq_model.specs.Sets.{IsCounters}
-use Rattle.zq_plans.specs.Run.{LAST_COUNT}
+use Rattle.zq_semantics.specs.Run.{LAST_COUNT}
 use Rattle.zq_world.proofs.stamps.look_at.Given as goal
 
 abbrev pub invariant-loop-book : goal.invariant-loop-book

@@ -8,9 +8,9 @@ use Rattle.zq_delta.specs.declared.version.Version.TheVariants as delta
 use Rattle.zq_dots.specs.Placed.{Placed}
 use Rattle.zq_model.specs.Operation.{Operation}
 use Rattle.zq_model.specs.Sets.{IsIn, IsWorld, Taken}
-use Rattle.zq_moves.proofs.Read.{in_place}
+use Rattle.zq_model.proofs.Read.{in_place}
 use Rattle.zq_posheap.proofs.Lists.{behind}
-use Rattle.zq_runs.specs.Events.{Handed, Take, after_take, after_taken, answer_taken, answer_to_take, judged}
+use Rattle.zq_semantics.specs.Events.{Handed, Take, after_take, after_taken, answer_taken, answer_to_take, judged}
 use Rattle.zq_world.proofs.Handing.{closed_of, its_book, made_taken, others_taken, world_with}
 use Rattle.zq_world.proofs.Standing.{held_next, stands_set}
 use Rattle.zq_world.specs.Frames.{placed}

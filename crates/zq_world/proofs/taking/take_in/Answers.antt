@@ -1,15 +1,15 @@
 use Rattle.std.proofs.Common.{Err, Some, ap, arith, length, refl, subst, sym, ◌+◌, ◌<◌, ◌∙◌, ◌≡◌}
 use Rattle.std.proofs.lemmas.Option.{same_Some, slice_get_read, slice_get_within}
 use Rattle.std.specs.Prelude.{List, slice_get, slice_set}
-use Rattle.zq_history.specs.Books.{Book}
+use Rattle.zq_model.specs.Books.{Book}
 use Rattle.zq_journal.specs.Books.{LAST_STAMP, book_when, state_of}
 use Rattle.zq_model.specs.Image.{Image}
 use Rattle.zq_model.specs.Sets.{IsIn, New, Taken, taken_of}
-use Rattle.zq_moves.proofs.Read.{in_place}
-use Rattle.zq_plans.specs.Run.{LAST_COUNT}
+use Rattle.zq_model.proofs.Read.{in_place}
+use Rattle.zq_semantics.specs.Run.{LAST_COUNT}
 use Rattle.zq_posheap.proofs.Lists.{set_again}
-use Rattle.zq_runs.specs.Books.{AreBooksOf, greatest_stamp}
-use Rattle.zq_runs.specs.Events.{after_taken, answer_taken, judged}
+use Rattle.zq_semantics.specs.Books.{AreBooksOf, greatest_stamp}
+use Rattle.zq_semantics.specs.Events.{after_taken, answer_taken, judged}
 use Rattle.zq_shard.specs.Shard.{IsOfHeap}
 use Rattle.zq_world.proofs.Handed.{handed_not, handed_to, worn_taken}
 use Rattle.zq_world.proofs.SeenBooks.{stamp_above}

@@ -4,7 +4,7 @@ use Rattle.std.proofs.lemmas.Option.{same_Some, slice_get_read}
 use Rattle.std.specs.Prelude.{slice_get}
 use Rattle.std.specs.declared.alloc.Global.{Global}
 use Rattle.zq_posheap.proofs.Lists.{mapped_at}
-use Rattle.zq_runs.specs.Events.{Merge}
+use Rattle.zq_semantics.specs.Events.{Merge}
 use Rattle.zq_world.proofs.Wanteds.{merge_is, wanted_none, wanted_same, wanted_with}
 use Rattle.zq_world.specs.Play.{event_of}
 use Rattle.zq_world.specs.Wanted.{AreWanted, places_in}

@@ -1,7 +1,7 @@
 use Rattle.std.proofs.Common.{[], inl, inr, refl, subst}
-use Rattle.zq_server.proofs.KnownBytes.{appends-none, consumes-none}
-use Rattle.zq_server.specs.Plain.{AnswersByPlan}
-use Rattle.zq_server.specs.Session.{Serves}
+use Rattle.zq_session.proofs.KnownBytes.{appends-none, consumes-none}
+use Rattle.zq_session.specs.Plain.{AnswersByPlan}
+use Rattle.zq_session.specs.Session.{Serves}
 use Rattle.zqueue.proofs.piping.pipe.Goals as goal
 
 pub returns-in_default-clause-serves : goal.returns-in_default-clause-serves

@@ -1,7 +1,7 @@
 use Rattle.std.proofs.Common.{ap, arith, inl, inr, subst}
-use Rattle.zq_history.specs.Books.{Book}
+use Rattle.zq_model.specs.Books.{Book}
 use Rattle.zq_model.specs.Sets.{IsIn}
-use Rattle.zq_server.proofs.PlainBooks.{begun_ruled, opening, opening_ruled}
+use Rattle.zq_session.proofs.PlainBooks.{begun_ruled, opening, opening_ruled}
 use Rattle.site_tests.proofs.server.plain.stamped.Goals as goal
 
 pub begin-requires : goal.begin-requires

@@ -5,10 +5,10 @@ use Rattle.zq_commands.specs.Beginning.{begun}
 use Rattle.zq_commands.specs.Lending.{IsDated}
 use Rattle.zq_commands.specs.SiteBooks.{AreOfSite}
 use Rattle.zq_commands.specs.VecBooks.{lending_of}
-use Rattle.zq_history.specs.Books.{Book}
+use Rattle.zq_model.specs.Books.{Book}
 use Rattle.zq_journal.specs.Books.{LAST_STAMP}
 use Rattle.zq_model.specs.Sets.{IsIn}
-use Rattle.zq_moves.proofs.Read.{in_place}
+use Rattle.zq_model.proofs.Read.{in_place}
 use Rattle.zq_commands.proofs.site_books.SiteBooks.begin.Goals as goal
 
 -- the elements lent, all of them mapped, are the list then

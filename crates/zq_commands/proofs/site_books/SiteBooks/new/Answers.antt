@@ -2,7 +2,7 @@ use Rattle.std.proofs.Common.{List, [], ap, arith, length, subst, sym, ℕ, ◌+
 use Rattle.zq_commands.proofs.SitePlaces.{AreEmpty, empty_next, empty_site}
 use Rattle.zq_commands.specs.SiteBooks.{empty_book}
 use Rattle.zq_dots.specs.Rule.{rule_of}
-use Rattle.zq_history.specs.Books.{Book}
+use Rattle.zq_model.specs.Books.{Book}
 use Rattle.zq_model.specs.Bounded.{IsBounded}
 use Rattle.zq_commands.proofs.site_books.SiteBooks.new.Goals as goal
 

@@ -3,8 +3,8 @@ use Rattle.zq_commands.proofs.SitePlaces.{site_homes, site_lending}
 use Rattle.zq_commands.proofs.SiteRuns.{of_site_run}
 use Rattle.zq_commands.specs.Lending.{IsDated}
 use Rattle.zq_commands.specs.VecBooks.{lending_of, rule_in}
-use Rattle.zq_history.specs.Books.{Book}
-use Rattle.zq_plans.specs.Run.{IsRun}
+use Rattle.zq_model.specs.Books.{Book}
+use Rattle.zq_semantics.specs.Run.{IsRun}
 use Rattle.zq_resp.specs.Reply.{reply_bytes}
 use Rattle.zq_commands.proofs.site_books.SiteBooks.run.Goals as goal
 

@@ -1,9 +1,9 @@
 use Rattle.std.proofs.Common.{List, ap, arith, length, subst, ◌∙◌}
 use Rattle.std.specs.Prelude.{slice_get}
-use Rattle.zq_history.specs.Books.{Book}
+use Rattle.zq_model.specs.Books.{Book}
 use Rattle.zq_journal.specs.Books.{LAST_STAMP}
 use Rattle.zq_model.specs.Sets.{IsIn}
-use Rattle.zq_moves.proofs.Read.{placed_in}
+use Rattle.zq_model.proofs.Read.{placed_in}
 use Rattle.zq_commands.proofs.site_books.SiteBooks.stamp.Goals as goal
 
 pub greatest_stamp-requires : goal.greatest_stamp-requires

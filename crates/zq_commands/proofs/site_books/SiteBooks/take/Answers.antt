@@ -5,10 +5,10 @@ use Rattle.zq_commands.proofs.SitePlaces.{dated_set, of_site_set}
 use Rattle.zq_commands.specs.Lending.{IsDated}
 use Rattle.zq_commands.specs.SiteBooks.{IsTaken}
 use Rattle.zq_commands.specs.VecBooks.{lending_of}
-use Rattle.zq_history.specs.Books.{Book}
+use Rattle.zq_model.specs.Books.{Book}
 use Rattle.zq_journal.specs.Books.{LAST_STAMP}
 use Rattle.zq_model.specs.Sets.{IsIn}
-use Rattle.zq_moves.proofs.Read.{in_place}
+use Rattle.zq_model.proofs.Read.{in_place}
 use Rattle.zq_commands.proofs.site_books.SiteBooks.take.Goals as goal
 use Rattle.zq_commands.proofs.site_books.SiteBooks.take.Goals.{After-index_mut}
 

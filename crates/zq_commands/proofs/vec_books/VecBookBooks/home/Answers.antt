@@ -3,12 +3,12 @@ use Rattle.std.proofs.lemmas.Bool.{eq-eqb, eqb-true}
 use Rattle.std.proofs.lemmas.Option.{slice_get_read}
 use Rattle.std.specs.Prelude.{map, slice_get}
 use Rattle.zq_commands.specs.VecBooks.{heaps_in}
-use Rattle.zq_history.specs.Books.{Book}
+use Rattle.zq_model.specs.Books.{Book}
 use Rattle.zq_model.proofs.Maps.{in_map}
 use Rattle.zq_model.specs.Heaps.{heap_of}
 use Rattle.zq_model.specs.Sets.{IsIn}
-use Rattle.zq_moves.proofs.Homes.{lent_each}
-use Rattle.zq_moves.proofs.Read.{in_place}
+use Rattle.zq_model.proofs.Homes.{lent_each}
+use Rattle.zq_model.proofs.Read.{in_place}
 use Rattle.zq_shard.specs.Shard.{HeapImage}
 use Rattle.zq_commands.proofs.vec_books.VecBookBooks.home.Goals as goal
 use Rattle.zq_commands.proofs.vec_books.VecBookBooks.home.Goals.{After-heap_of}

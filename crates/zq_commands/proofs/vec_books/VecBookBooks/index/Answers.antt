@@ -5,7 +5,7 @@ use Rattle.std.specs.Prelude.{slice_get}
 use Rattle.zq_commands.proofs.VecBooks.{recorded_at}
 use Rattle.zq_commands.specs.RecordedBooks.{recorded_itself}
 use Rattle.zq_commands.specs.VecBooks.{IsRecordedOn, lending_of}
-use Rattle.zq_history.specs.Books.{Book}
+use Rattle.zq_model.specs.Books.{Book}
 use Rattle.zq_commands.proofs.vec_books.VecBookBooks.index.Goals as goal
 
 pub returns-clause-same : goal.returns-clause-same

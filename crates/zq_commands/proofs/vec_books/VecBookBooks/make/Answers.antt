@@ -9,11 +9,11 @@ use Rattle.zq_commands.proofs.VecBooks.{recorded_at}
 use Rattle.zq_commands.specs.Lending.{IsDated, IsLending}
 use Rattle.zq_commands.specs.VecBooks.{lending_of}
 use Rattle.zq_dots.specs.Act.{act_of}
-use Rattle.zq_history.specs.Books.{Book}
+use Rattle.zq_model.specs.Books.{Book}
 use Rattle.zq_model.specs.Bounded.{IsBounded}
-use Rattle.zq_moves.proofs.Read.{in_place}
-use Rattle.zq_moves.specs.Lent.{made_in}
-use Rattle.zq_moves.specs.Moves.{Move}
+use Rattle.zq_model.proofs.Read.{in_place}
+use Rattle.zq_model.specs.Lent.{made_in}
+use Rattle.zq_model.specs.Moves.{Move}
 use Rattle.zq_commands.proofs.vec_books.VecBookBooks.make.Goals as goal
 use Rattle.zq_commands.proofs.vec_books.VecBookBooks.make.Goals.{After-index_mut}
 

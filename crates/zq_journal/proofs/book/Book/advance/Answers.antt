@@ -1,6 +1,6 @@
 use Rattle.std.proofs.Common.{List, [], ap, arith, drop, length, refl, subst, sym, take, ℕ, ◌∙◌, ◌≡◌}
-use Rattle.zq_history.specs.Books.{Book, advanced, replayed}
-use Rattle.zq_history.specs.Reach.{IsReachedBy}
+use Rattle.zq_model.specs.Books.{Book, advanced, replayed}
+use Rattle.zq_model.specs.Reach.{IsReachedBy}
 use Rattle.zq_journal.specs.Limits.{limits_of}
 use Rattle.zq_journal.proofs.CutOff.{IsMoved, cut_is, cut_stands}
 use Rattle.zq_journal.proofs.Lasts.{length_tail}

@@ -1,6 +1,6 @@
 use Rattle.std.proofs.Common.{ap, sym, ◌∙◌}
-use Rattle.zq_history.specs.Books.{Book}
-use Rattle.zq_history.specs.Reach.{cut_by_bytes}
+use Rattle.zq_model.specs.Books.{Book}
+use Rattle.zq_model.specs.Reach.{cut_by_bytes}
 use Rattle.zq_journal.proofs.Weights.{cut_to_bytes-written}
 use Rattle.zq_journal.specs.BookView.{book_of}
 use Rattle.zq_journal.proofs.book.Book.cut_by_bytes.Goals as goal

@@ -1,5 +1,5 @@
 use Rattle.std.proofs.Common.{None, ap, arith, sym, ◌∙◌, ◌≡◌}
-use Rattle.zq_history.specs.Books.{Book}
+use Rattle.zq_model.specs.Books.{Book}
 use Rattle.zq_journal.proofs.book.Book.cut_len.Goals as goal
 
 pub returns-in-None : goal.returns-in-None

@@ -1,7 +1,7 @@
 use Rattle.std.proofs.Common.{List, [], ap, arith, refl, subst, sym, true, ◌++◌, ◌∙◌, ◌∷◌, ◌≡◌, ◌≤◌}
-use Rattle.zq_history.proofs.NewRecords.{change_is_new}
-use Rattle.zq_history.specs.Books.{Book, is_change_over, recorded}
-use Rattle.zq_history.specs.Reach.{IsWorked}
+use Rattle.zq_model.proofs.NewRecords.{change_is_new}
+use Rattle.zq_model.specs.Books.{Book, is_change_over, recorded}
+use Rattle.zq_model.specs.Reach.{IsWorked}
 use Rattle.zq_journal.specs.Limits.{limits_of}
 use Rattle.zq_journal.proofs.BoundedTails.{bounded_state}
 use Rattle.zq_journal.proofs.Entered.{IsPutIn, entered_is, entered_stands, next_from, record_from}

@@ -2,7 +2,7 @@ use Rattle.std.proofs.Common.{List, ap, subst, sym, ℕ, ◌+◌, ◌∙◌, ◌
 use Rattle.std.specs.Prelude.{slice_index}
 use Rattle.zq_dots.specs.Act.{act_of}
 use Rattle.zq_dots.specs.Placed.{IsRanged}
-use Rattle.zq_history.specs.Books.{Made, is_change_over}
+use Rattle.zq_model.specs.Books.{Made, is_change_over}
 use Rattle.zq_model.specs.Heaps.{heap_of}
 use Rattle.zq_journal.proofs.MadeHere.{next_over}
 use Rattle.zq_journal.specs.Books.{state_of}

@@ -1,6 +1,6 @@
 use Rattle.std.proofs.Common.{List, [], ap, arith, length, subst, sym, ◌++◌, ◌+◌, ◌∙◌, ◌∷◌, ◌≡◌}
-use Rattle.zq_history.specs.Books.{Book, Merged, merged}
-use Rattle.zq_history.specs.Reach.{IsWorked}
+use Rattle.zq_model.specs.Books.{Book, Merged, merged}
+use Rattle.zq_model.specs.Reach.{IsWorked}
 use Rattle.zq_journal.specs.Limits.{limits_of}
 use Rattle.zq_journal.proofs.BoundedTails.{bounded_state}
 use Rattle.zq_journal.proofs.Entered.{merged_is, opened_stands}

@@ -1,7 +1,7 @@
 use Rattle.std.proofs.Common.{List, Some, ap, arith, length, subst, sym, ℕ, ◌-◌, ◌<◌, ◌∙◌, ◌≡◌}
 use Rattle.std.specs.Prelude.{slice_get}
 use Rattle.zq_dots.specs.Placed.{Placed}
-use Rattle.zq_history.specs.Books.{Book, operations_of}
+use Rattle.zq_model.specs.Books.{Book, operations_of}
 use Rattle.zq_journal.specs.Limits.{limits_of}
 use Rattle.zq_journal.proofs.Lasts.{last_lent, length_tail, newest_asked, newest_at, newest_full, newest_recordable, newest_within, vector_before}
 use Rattle.zq_journal.specs.Records.{Change, IsRecordable, Record, placed_at, placed_in, whole}

@@ -1,5 +1,5 @@
 use Rattle.std.proofs.Common.{ap, subst, sym, ◌∙◌}
-use Rattle.zq_history.specs.Books.{IsBook, operations_of}
+use Rattle.zq_model.specs.Books.{IsBook, operations_of}
 use Rattle.zq_model.specs.Image.{image_of}
 use Rattle.zq_model.specs.Tail.{tail_set}
 use Rattle.zq_journal.proofs.book.Book.shard.Goals as goal

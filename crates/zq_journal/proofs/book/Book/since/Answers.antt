@@ -3,7 +3,7 @@ use Rattle.std.specs.List.{All}
 use Rattle.std.proofs.lemmas.List.Elements.{All-filter, All-map, All-same, All-weaker}
 use Rattle.std.specs.Prelude.{not}
 use Rattle.zq_dots.specs.Placed.{Placed}
-use Rattle.zq_history.specs.Books.{Book, IsBook, operations_of}
+use Rattle.zq_model.specs.Books.{Book, IsBook, operations_of}
 use Rattle.zq_journal.proofs.Missing.{missing_is, operations-placed}
 use Rattle.zq_journal.specs.BookView.{book_of, records_of}
 use Rattle.zq_journal.specs.Books.{base_of}

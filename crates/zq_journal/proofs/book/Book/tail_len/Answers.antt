@@ -1,5 +1,5 @@
 use Rattle.std.proofs.Common.{ap, length, subst, sym, ◌∙◌, ◌≤◌}
-use Rattle.zq_history.specs.Books.{Book, IsBook}
+use Rattle.zq_model.specs.Books.{Book, IsBook}
 use Rattle.zq_journal.proofs.Lasts.{length_tail}
 use Rattle.zq_journal.proofs.book.Book.tail_len.Goals as goal
 

@@ -1,10 +1,10 @@
 use Rattle.std.proofs.Common.{[], ap, arith, length, rules, subst, sym, ◌++◌, ◌∙◌, ◌∷◌, ◌≡◌}
 use Rattle.std.proofs.lemmas.List.{append-nil}
-use Rattle.zq_history.specs.Books.{Book, Took, recorded}
+use Rattle.zq_model.specs.Books.{Book, Took, recorded}
 use Rattle.zq_journal.specs.Limits.{limits_of}
 use Rattle.zq_journal.proofs.BoundedTails.{bounded_state}
 use Rattle.zq_journal.specs.BookView.{records_of}
-use Rattle.zq_history.specs.Reach.{IsWorked}
+use Rattle.zq_model.specs.Reach.{IsWorked}
 use Rattle.zq_journal.proofs.MadeHere.{took_over}
 use Rattle.zq_journal.specs.Books.{book_when, state_of, step_of, steps_taken, steps_when}
 use Rattle.zq_dots.specs.Placed.{Placed}

@@ -1,6 +1,6 @@
 use Rattle.std.proofs.Common.{ap, ◌++◌, ◌∙◌}
 use Rattle.std.specs.Prelude.{option_map, option_to_list}
-use Rattle.zq_frames.specs.Frame.{frame_of}
+use Rattle.zq_links.specs.Frame.{frame_of}
 use Rattle.zq_node.proofs.Called.{no_step_on, shown_no_step}
 use Rattle.zq_node.proofs.node.Node.answer.Goals as goal
 use Rattle.zq_node.specs.Hearing.{own_have, sent_to}

@@ -2,7 +2,7 @@ use Rattle.std.proofs.Common.{[], ap, arith, subst, sym, map, ◌++◌, ◌∙�
 use Rattle.std.proofs.lemmas.List.{length-append, map-append}
 use Rattle.std.proofs.lemmas.List.Elements.{All-append, All-cons, All-nil}
 use Rattle.std.specs.Prelude.{All}
-use Rattle.zq_frames.specs.Frame.{IsWritable, OfHave, frame_of}
+use Rattle.zq_links.specs.Frame.{IsWritable, OfHave, frame_of}
 use Rattle.zq_node.proofs.Called.{no_step_on, shown_no_step}
 use Rattle.zq_node.proofs.Haves.{haves_next, shown_next}
 use Rattle.zq_node.proofs.Nodes.{home_site}

@@ -1,5 +1,5 @@
 use Rattle.std.proofs.Common.{All, List, length, map, ℕ, ◌≡◌}
-use Rattle.zq_frames.specs.Frame.{IsWritable, frame_of}
+use Rattle.zq_links.specs.Frame.{IsWritable, frame_of}
 use Rattle.zq_node.specs.Calls.{AreCalled, MadeNoStep}
 use Rattle.zq_node.specs.Hearing.{haves_from, shown_from}
 use Rattle.zq_node.specs.Node.{IsNode, IsSameHome, parked_of, pass_of, site_of}

@@ -1,5 +1,5 @@
 use Rattle.std.proofs.Common.{inl, inr, refl, ◌≡◌, ◌⊎◌}
-use Rattle.zq_frames.specs.declared.frame.Frame.TheVariants as heard
+use Rattle.zq_links.specs.declared.frame.Frame.TheVariants as heard
 use Rattle.zq_node.proofs.Told.{have_fault, if_err, own_fault}
 use Rattle.zq_node.proofs.node.Node.hear_have.Goals as goal
 use Rattle.zq_node.specs.Faults.{IsOwnFault}

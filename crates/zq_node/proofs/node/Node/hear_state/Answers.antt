@@ -1,5 +1,5 @@
 use Rattle.std.proofs.Common.{arith, inl, inr, refl, sym, ◌<◌, ◌∙◌, ◌≡◌, ◌⊎◌}
-use Rattle.zq_frames.specs.declared.frame.Frame.TheVariants as heard
+use Rattle.zq_links.specs.declared.frame.Frame.TheVariants as heard
 use Rattle.zq_node.proofs.Called.{on_err, seen_after}
 use Rattle.zq_node.proofs.Told.{Covers, covers_stays, if_err, merge_called, merge_stopped, merged_covers, own_fault, own_merge, state_fault}
 use Rattle.zq_node.proofs.node.Node.hear_state.Goals as goal

@@ -1,5 +1,5 @@
 use Rattle.std.proofs.Common.{ap, refl, subst, sym}
-use Rattle.zq_frames.specs.Frame.{OfOps, OfState}
+use Rattle.zq_links.specs.Frame.{OfOps, OfState}
 use Rattle.zq_node.proofs.Called.{no_step_on, since_called, since_no_step, state_called, state_no_step}
 use Rattle.zq_node.proofs.node.Node.tell.Goals as goal
 use Rattle.zq_node.specs.Hearing.{IsSince}

@@ -1,5 +1,5 @@
 use Rattle.std.proofs.Common.{sym, ◌∙◌}
-use Rattle.zq_frames.specs.Frame.{frame_of}
+use Rattle.zq_links.specs.Frame.{frame_of}
 use Rattle.zq_node.proofs.Told.{told_lacking}
 use Rattle.zq_node.proofs.node.Node.tell_if.Goals as goal
 

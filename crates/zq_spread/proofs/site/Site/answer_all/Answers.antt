@@ -12,30 +12,30 @@ use Rattle.zq_spread.specs.Worn.{HasFoundLast, IsStopOf}
 pub call_in-requires-clause-heaps : goal.call_in-requires-clause-heaps
 call_in-requires-clause-heaps g c =
     let site = c.args.self.now in
-    let all = c.every-heaps.ensures ∙ ap (range_with_len 0) (c.len.ensures ∙ c.args.self.now.rooms.ok.0) in
+    let all = c.every-heaps.ensures ∙ ap (range_with_len 0) (c.len.ensures ∙ c.args.self.now.slots.ok.0) in
     subst (AreHeapsOf site) (sym all) (heaps_all site 0 (heaps_of site) (omega arith))
 
 pub call_in-requires-clause-homes : goal.call_in-requires-clause-homes
 call_in-requires-clause-homes g c = λ books are.
     let site = c.args.self.now in
-    let all = c.every-heaps.ensures ∙ ap (range_with_len 0) (c.len.ensures ∙ c.args.self.now.rooms.ok.0) in
+    let all = c.every-heaps.ensures ∙ ap (range_with_len 0) (c.len.ensures ∙ c.args.self.now.slots.ok.0) in
     homes_all site books c.args.command.now site.some site.most (subst (λ l. AreBooksAt site l books) all are)
 
-pub call_in-requires-clause-room : goal.call_in-requires-clause-room
-call_in-requires-clause-room g c =
-    let all = ap length (c.every-heaps.ensures ∙ ap (range_with_len 0) (c.len.ensures ∙ c.args.self.now.rooms.ok.0)) in
+pub call_in-requires-clause-slot : goal.call_in-requires-clause-slot
+call_in-requires-clause-slot g c =
+    let all = ap length (c.every-heaps.ensures ∙ ap (range_with_len 0) (c.len.ensures ∙ c.args.self.now.slots.ok.0)) in
     let long = length-range_with_len 0 (heaps_of c.args.self.now) in
-    let room = c.requires.room in
-    omega (arith, all, long, room)
+    let slot = c.requires.slot in
+    omega (arith, all, long, slot)
 
 pub returns-in-Ok-clause-called : goal.returns-in-Ok-clause-called
 returns-in-Ok-clause-called g c =
     let site = c.args.self.now in
-    let all = c.every-heaps.ensures ∙ ap (range_with_len 0) (c.len.ensures ∙ c.args.self.now.rooms.ok.0) in
+    let all = c.every-heaps.ensures ∙ ap (range_with_len 0) (c.len.ensures ∙ c.args.self.now.slots.ok.0) in
     let called = c.in-Ok.ensures.called in
     inl (subst (λ l. IsCommand site c.args.command.now (reply_bytes c.in-Ok.reply) c.args.pass.now c.call_in.new.pass l × HasHeldEach c.args.pass.now c.call_in.new.pass l) all (called.0, called.2))
 
 pub returns-in-Err-Worn-clause-called : goal.returns-in-Err-Worn-clause-called
 returns-in-Err-Worn-clause-called g c =
-    let all = c.every-heaps.ensures ∙ ap (range_with_len 0) (c.len.ensures ∙ c.args.self.now.rooms.ok.0) in
+    let all = c.every-heaps.ensures ∙ ap (range_with_len 0) (c.len.ensures ∙ c.args.self.now.slots.ok.0) in
     inr (c.worn.ensures.bytes, (c.in-Err-Worn.ensures.stopped, subst (λ l. HasFoundLast c.args.pass.now.stamp l c.call_in.new.pass) all (subst (IsStopOf c.args.pass.now.stamp true c.every-heaps.result.now [] c.args.pass.now c.call_in.new.pass) c.in-Err-Worn.field-0-is c.in-Err-Worn.ensures.why)))

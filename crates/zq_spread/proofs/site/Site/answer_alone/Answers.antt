@@ -2,10 +2,10 @@ use Rattle.std.proofs.Common.{List, ap, arith, length, subst, ◌∙◌, ◌≡�
 use Rattle.std.specs.Prelude.{[]}
 use Rattle.zq_dots.specs.Rule.{rule_of}
 use Rattle.zq_commands.specs.VecBooks.{rule_in}
-use Rattle.zq_history.specs.Books.{Book}
+use Rattle.zq_model.specs.Books.{Book}
 use Rattle.zq_journal.specs.Books.{LAST_STAMP}
 use Rattle.zq_model.specs.Sets.{IsIn}
-use Rattle.zq_plans.specs.Run.{IsRun}
+use Rattle.zq_semantics.specs.Run.{IsRun}
 use Rattle.zq_resp.specs.Reply.{reply_bytes}
 use Rattle.zq_spread.proofs.Named.{ran_alone}
 use Rattle.zq_spread.proofs.Places.{nothing_left}

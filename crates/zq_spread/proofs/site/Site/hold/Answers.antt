@@ -5,7 +5,7 @@ use Rattle.zq_spread.proofs.Counted.{of_seen}
 use Rattle.zq_spread.proofs.Refused.{hold_busy, hold_worn}
 use Rattle.zq_spread.proofs.site.Site.hold.Goals as goal
 use Rattle.zq_spread.specs.Calls.{heaps_of}
-use Rattle.zq_spread.specs.Kept.{Follows}
+use Rattle.zq_spread.specs.LockedHeaps.{Follows}
 use Rattle.zq_spread.specs.Passes.{seen_at}
 use Rattle.zq_spread.specs.Turns.{turns_at}
 use Rattle.zq_spread.specs.Worn.{reached_at, served_at}
@@ -18,8 +18,8 @@ returns-in-Ok-clause-holding c =
     record {
       heap = within;
       pass = c.take_seat-seat.ensures.pass;
-      lock = λ room at. c.in-Ok.ensures.lock ∙ (c.take_seat-seat.ensures.seat room at).0;
-      of = λ room at. of_seen room c.in-Ok.held.value (seen c.take_seat-seat.result) c.has_seen.ensures c.in-Ok.ensures.follows (c.take_seat-seat.ensures.seat room at).1;
+      lock = λ slot at. c.in-Ok.ensures.lock ∙ (c.take_seat-seat.ensures.seat slot at).0;
+      of = λ slot at. of_seen slot c.in-Ok.held.value (seen c.take_seat-seat.result) c.has_seen.ensures c.in-Ok.ensures.follows (c.take_seat-seat.ensures.seat slot at).1;
       home = c.in-Ok.ensures.holds;
       given = c.in-Ok.ensures.given;
     }

@@ -4,26 +4,26 @@ use Rattle.std.specs.Prelude.{IfSome, Some, length, refl, slice_get, ◌≡◌}
 use Rattle.zq_spread.proofs.Counted.{of_seen}
 use Rattle.zq_spread.proofs.ManyHeaps.{back_one, changed_back}
 use Rattle.zq_spread.proofs.site.Site.lock_in.Goals as goal
-use Rattle.zq_spread.specs.Kept.{Follows}
-use Rattle.zq_spread.specs.Rooms.{IsOf}
-use Rattle.zq_spread.specs.declared.room.Room.{Room}
+use Rattle.zq_spread.specs.LockedHeaps.{Follows}
+use Rattle.zq_spread.specs.HeapSlots.{IsOf}
+use Rattle.zq_spread.specs.declared.heap_slot.HeapSlot.{HeapSlot}
 use Rattle.zq_ticketlock.specs.Limits.{last_ticket}
 use Rattle.zq_ticketlock.specs.Seats.{id_of, seen}
 use Rattle.zq_ticketlock.specs.Steps.{FollowsSeen}
 
 pub lock-requires : goal.lock-requires
 lock-requires g c =
-    let at : slice_get c.args.self.now.rooms.items c.args.heap ≡ Some c.index.result.now =
-    slice_get_read c.args.self.now.rooms.items (length c.args.self.now.rooms.items) c.args.heap c.index.result.now refl c.requires.heap c.index.ensures in
+    let at : slice_get c.args.self.now.slots.items c.args.heap ≡ Some c.index.result.now =
+    slice_get_read c.args.self.now.slots.items (length c.args.self.now.slots.items) c.args.heap c.index.result.now refl c.requires.heap c.index.ensures in
     record { own = (c.seat_out-seat.ensures.seat c.index.result.now at).0 }
 
 pub returns-in-Ok-clause-held : goal.returns-in-Ok-clause-held
 returns-in-Ok-clause-held g c =
-    let at : slice_get c.args.self.now.rooms.items c.args.heap ≡ Some c.index.result.now =
-    slice_get_read c.args.self.now.rooms.items (length c.args.self.now.rooms.items) c.args.heap c.index.result.now refl c.requires.heap c.index.ensures in
+    let at : slice_get c.args.self.now.slots.items c.args.heap ≡ Some c.index.result.now =
+    slice_get_read c.args.self.now.slots.items (length c.args.self.now.slots.items) c.args.heap c.index.result.now refl c.requires.heap c.index.ensures in
     let fits = c.seat_out-seat.ensures.seat c.index.result.now at in
     record {
-      room = c.index.result.now;
+      slot = c.index.result.now;
       at = at;
       lock = c.in-Ok.ensures.lock ∙ fits.0;
       was_given = c.in-Ok.ensures.given;
@@ -35,13 +35,13 @@ pub returns-in-Ok-clause-follows : goal.returns-in-Ok-clause-follows
 returns-in-Ok-clause-follows g c = subst (FollowsSeen Follows c.in-Ok.held.value) c.seat_out-seat.ensures.seen c.in-Ok.ensures.follows
 
 pub seat_in-requires-clause-seat : goal.seat_in-requires-clause-seat
-seat_in-requires-clause-seat g c = λ room here.
-    let at : slice_get c.args.self.now.rooms.items c.args.heap ≡ Some c.index.result.now =
-    slice_get_read c.args.self.now.rooms.items (length c.args.self.now.rooms.items) c.args.heap c.index.result.now refl c.requires.heap c.index.ensures in
-    let one : c.index.result.now ≡ room = same_Some c.index.result.now room (sym at ∙ here) in
+seat_in-requires-clause-seat g c = λ slot here.
+    let at : slice_get c.args.self.now.slots.items c.args.heap ≡ Some c.index.result.now =
+    slice_get_read c.args.self.now.slots.items (length c.args.self.now.slots.items) c.args.heap c.index.result.now refl c.requires.heap c.index.ensures in
+    let one : c.index.result.now ≡ slot = same_Some c.index.result.now slot (sym at ∙ here) in
     let fits = c.seat_out-seat.ensures.seat c.index.result.now at in
     let seen_is = subst (λ o. IfSome o (IsOf c.index.result.now)) (sym c.in-Err.ensures.worn.1) fits.1 in
-    (c.in-Err.ensures.worn.0 ∙ fits.0 ∙ ap (λ (r : Room). id_of r.lock) one, subst (λ (r : Room). IfSome (seen c.in-Err.seat) (IsOf r)) one seen_is)
+    (c.in-Err.ensures.worn.0 ∙ fits.0 ∙ ap (λ (r : HeapSlot). id_of r.lock) one, subst (λ (r : HeapSlot). IfSome (seen c.in-Err.seat) (IsOf r)) one seen_is)
 
 pub returns-in-Err-clause-outside : goal.returns-in-Err-clause-outside
 returns-in-Err-clause-outside g c = changed_back c.args.heap c.args.pass.now c.seat_out-seat.new.pass c.seat_in.new.pass c.seat_out-seat.ensures.outside c.seat_in.ensures.outside

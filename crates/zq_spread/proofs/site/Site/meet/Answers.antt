@@ -1,7 +1,7 @@
 use Rattle.std.proofs.Common.{subst, sym, ◌≤◌, ◌∙◌}
 use Rattle.std.specs.Prelude.{ℕ}
 use Rattle.zq_spread.proofs.site.Site.meet.Goals as goal
-use Rattle.zq_spread.specs.Kept.{Follows}
+use Rattle.zq_spread.specs.LockedHeaps.{Follows}
 use Rattle.zq_spread.specs.Meetings.{HaveLeft, HaveMet, HaveParted}
 use Rattle.zq_spread.specs.Passes.{seen_at}
 use Rattle.zq_spread.specs.Turns.{turns_at}

@@ -1,8 +1,8 @@
 use Rattle.std.proofs.Common.{ap, arith, inl, subst, sym, ◌∙◌}
 use Rattle.std.specs.Prelude.{[], ℕ, ◌<◌, ◌∷◌, ◌≡◌}
 use Rattle.zq_dots.specs.Rule.{rule_of}
-use Rattle.zq_history.specs.Books.{Book}
-use Rattle.zq_history.specs.Reach.{IsWorked}
+use Rattle.zq_model.specs.Books.{Book}
+use Rattle.zq_model.specs.Reach.{IsWorked}
 use Rattle.zq_journal.specs.Books.{state_of}
 use Rattle.zq_queue.proofs.Sames.{same_rules}
 use Rattle.zq_shard.specs.Shard.{IsSameHeap}
@@ -10,14 +10,14 @@ use Rattle.zq_spread.proofs.OneHeap.{begun_on, begun_same_heap, begun_same_rule,
 use Rattle.zq_spread.proofs.site.Site.merge.Goals as goal
 use Rattle.zq_spread.specs.Answers.{HasWorked, IsMerged}
 use Rattle.zq_spread.specs.Calls.{IsCall, IsLikeSite, heaps_of}
-use Rattle.zq_spread.specs.declared.kept.Kept.{Kept}
+use Rattle.zq_spread.specs.declared.locked_heap.LockedHeap.{LockedHeap}
 
 pub merge-merged-requires-clause-stamp : goal.merge-merged-requires-clause-stamp
 merge-merged-requires-clause-stamp g c =
     let heaps : c.args.other.now.heaps ≡ heaps_of c.args.self.now = omega (arith, c.heaps.ensures.same, c.from.ensures, c.if-from-len.false, c.len.ensures) in
     let within : c.from-heap.result < heaps_of c.args.self.now = omega (arith, heaps, c.heap.ensures.below, c.from-heap.ensures) in
     let is = begun_on c.args.self.now c.args.pass.now c.from-heap.result c.in-Ok.stamp c.in-Ok.held within c.was_given.ensures c.in-Ok.ensures.begun in
-    let same : c.value_mut.result.now.book.stamp ≡ c.in-Ok.stamp = ap (λ (v : Kept). v.book.stamp) c.value_mut.ensures.value ∙ is.4.worked.stamp_is in
+    let same : c.value_mut.result.now.book.stamp ≡ c.in-Ok.stamp = ap (λ (v : LockedHeap). v.book.stamp) c.value_mut.ensures.value ∙ is.4.worked.stamp_is in
     omega (arith, same)
 
 pub merge-merged-requires-clause-same_heap : goal.merge-merged-requires-clause-same_heap
@@ -28,8 +28,8 @@ merge-merged-requires-clause-same_heap g c =
     let within : c.from-heap.result < heaps_of c.args.self.now = omega (arith, heaps, c.heap.ensures.below, c.from-heap.ensures) in
     let here : c.args.other.now.heap ≡ c.from-heap.result = omega (arith, c.from-heap.ensures, c.heap.ensures.same) in
     let is = begun_on c.args.self.now c.args.pass.now c.from-heap.result c.in-Ok.stamp c.in-Ok.held within c.was_given.ensures c.in-Ok.ensures.begun in
-    subst (λ (v : Kept). IsSameHeap (state_of v.book) c.args.other.now) (sym c.value_mut.ensures.value)
-    (begun_same_heap c.args.self.now is.0 c.from-heap.result c.in-Ok.stamp c.args.other.now c.in-Ok.held.value is.2 (c.requires.pass.rooms c.from-heap.result is.0 is.1) is.4.worked is.4.of like here)
+    subst (λ (v : LockedHeap). IsSameHeap (state_of v.book) c.args.other.now) (sym c.value_mut.ensures.value)
+    (begun_same_heap c.args.self.now is.0 c.from-heap.result c.in-Ok.stamp c.args.other.now c.in-Ok.held.value is.2 (c.requires.pass.slots c.from-heap.result is.0 is.1) is.4.worked is.4.of like here)
 
 pub merge-merged-requires-clause-same_rule : goal.merge-merged-requires-clause-same_rule
 merge-merged-requires-clause-same_rule g c =
@@ -38,16 +38,16 @@ merge-merged-requires-clause-same_rule g c =
     let like : IsLikeSite c.args.self.now c.args.other.now = record { heaps = heaps; rule = rule } in
     let within : c.from-heap.result < heaps_of c.args.self.now = omega (arith, heaps, c.heap.ensures.below, c.from-heap.ensures) in
     let is = begun_on c.args.self.now c.args.pass.now c.from-heap.result c.in-Ok.stamp c.in-Ok.held within c.was_given.ensures c.in-Ok.ensures.begun in
-    ap (λ (v : Kept). v.book.rule) c.value_mut.ensures.value
-    ∙ begun_same_rule c.args.self.now is.0 c.from-heap.result c.in-Ok.stamp c.args.other.now c.in-Ok.held.value is.2 (c.requires.pass.rooms c.from-heap.result is.0 is.1) is.4.worked is.4.of like
+    ap (λ (v : LockedHeap). v.book.rule) c.value_mut.ensures.value
+    ∙ begun_same_rule c.args.self.now is.0 c.from-heap.result c.in-Ok.stamp c.args.other.now c.in-Ok.held.value is.2 (c.requires.pass.slots c.from-heap.result is.0 is.1) is.4.worked is.4.of like
 
 pub end_in-requires-clause-worked : goal.end_in-requires-clause-worked
 end_in-requires-clause-worked g c =
     let held = c.in-Ok.held in
     let works = λ (a : Book) (begun : IsWorked held.value.book a c.in-Ok.stamp []).
-    c.merge-merged.ensures.worked a (subst (λ (v : Kept). IsWorked v.book a c.in-Ok.stamp []) (sym c.value_mut.ensures.value) begun) in
+    c.merge-merged.ensures.worked a (subst (λ (v : LockedHeap). IsWorked v.book a c.in-Ok.stamp []) (sym c.value_mut.ensures.value) begun) in
     may_end_in (IsMerged c.in-Ok.stamp c.args.other.now c.merge-merged.result) c.args.self.now c.args.pass.now c.from-heap.result c.in-Ok.stamp held c.merge-merged.new.self c.in-Ok.ensures.begun works
-    (c.merge-merged.ensures.total ∙ ap (λ (v : Kept). v.total) c.value_mut.ensures.value)
+    (c.merge-merged.ensures.total ∙ ap (λ (v : LockedHeap). v.total) c.value_mut.ensures.value)
 
 pub returns-clause-wrong_heap : goal.returns-clause-wrong_heap
 returns-clause-wrong_heap g c =
@@ -55,7 +55,7 @@ returns-clause-wrong_heap g c =
     let within : c.from-heap.result < heaps_of c.args.self.now = omega (arith, heaps, c.heap.ensures.below, c.from-heap.ensures) in
     let is = begun_on c.args.self.now c.args.pass.now c.from-heap.result c.in-Ok.stamp c.in-Ok.held within c.was_given.ensures c.in-Ok.ensures.begun in
     let done : HasWorked (IsMerged c.in-Ok.stamp c.args.other.now c.merge-merged.result) c.merge-merged.new.self.book is.2.book c.in-Ok.stamp =
-    c.merge-merged.ensures.worked is.2.book (subst (λ (v : Kept). IsWorked v.book is.2.book c.in-Ok.stamp []) (sym c.value_mut.ensures.value) is.4.worked) in (
+    c.merge-merged.ensures.worked is.2.book (subst (λ (v : LockedHeap). IsWorked v.book is.2.book c.in-Ok.stamp []) (sym c.value_mut.ensures.value) is.4.worked) in (
       (λ e of. subst (λ r. IsMerged c.in-Ok.stamp c.args.other.now r (is.2.book ∷ []) (done.0 ∷ [])) e done.2),
       (λ none. absurd (none heaps)),
     )
@@ -67,7 +67,7 @@ returns-clause-wrong_rule g c =
     let within : c.from-heap.result < heaps_of c.args.self.now = omega (arith, heaps, c.heap.ensures.below, c.from-heap.ensures) in
     let is = begun_on c.args.self.now c.args.pass.now c.from-heap.result c.in-Ok.stamp c.in-Ok.held within c.was_given.ensures c.in-Ok.ensures.begun in
     let done : HasWorked (IsMerged c.in-Ok.stamp c.args.other.now c.merge-merged.result) c.merge-merged.new.self.book is.2.book c.in-Ok.stamp =
-    c.merge-merged.ensures.worked is.2.book (subst (λ (v : Kept). IsWorked v.book is.2.book c.in-Ok.stamp []) (sym c.value_mut.ensures.value) is.4.worked) in (
+    c.merge-merged.ensures.worked is.2.book (subst (λ (v : LockedHeap). IsWorked v.book is.2.book c.in-Ok.stamp []) (sym c.value_mut.ensures.value) is.4.worked) in (
       (λ e. absurd (subst (λ r. IsMerged c.in-Ok.stamp c.args.other.now r (is.2.book ∷ []) (done.0 ∷ [])) e done.2)),
       (λ both. absurd (both.1 rule)),
     )
@@ -77,7 +77,7 @@ returns-clause-called g c = λ like.
     let held = c.in-Ok.held in
     let heap : ℕ = c.from-heap.result in
     let works = λ (a : Book) (begun : IsWorked held.value.book a c.in-Ok.stamp []).
-    c.merge-merged.ensures.worked a (subst (λ (v : Kept). IsWorked v.book a c.in-Ok.stamp []) (sym c.value_mut.ensures.value) begun) in
+    c.merge-merged.ensures.worked a (subst (λ (v : LockedHeap). IsWorked v.book a c.in-Ok.stamp []) (sym c.value_mut.ensures.value) begun) in
     let heaps : c.args.other.now.heaps ≡ heaps_of c.args.self.now = like.heaps in
     let within : heap < heaps_of c.args.self.now = omega (arith, heaps, c.heap.ensures.below, c.from-heap.ensures) in
     let here : c.args.other.now.heap ≡ heap = omega (arith, c.from-heap.ensures, c.heap.ensures.same) in

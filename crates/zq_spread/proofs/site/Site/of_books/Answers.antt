@@ -2,22 +2,22 @@ use Rattle.std.proofs.Common.{ap, arith, length, subst, ◌∙◌}
 use Rattle.std.proofs.lemmas.Option.{slice_get_read, slice_get_within}
 use Rattle.std.specs.Prelude.{Some, refl, slice_get, ℕ, ◌<◌, ◌≡◌, ◌≤◌}
 use Rattle.zq_dots.specs.Rule.{rule_of}
-use Rattle.zq_history.specs.Books.{Book}
+use Rattle.zq_model.specs.Books.{Book}
 use Rattle.zq_shard.specs.Shard.{HeapImage}
 use Rattle.zq_spread.proofs.Settled.{made}
 use Rattle.zq_spread.proofs.site.Site.of_books.Goals as goal
-use Rattle.zq_spread.specs.Grounds.{AreSettled}
+use Rattle.zq_spread.specs.SiteBuilders.{AreSettled}
 use Rattle.zq_spread.specs.Makers.{IsInBounds}
 
 pub returns-clause-made : goal.returns-clause-made
 returns-clause-made c =
     let books = c.args.books.items in
-    let rooms = c.settle-rooms.result.0 in
-    let passes = c.settle-rooms.result.1.items in
-    let ground = c.in-Ok.ensures in
-    let settled : AreSettled (length books) c.args.passes c.rule-rule.result books rooms.items passes =
-    subst (λ r. AreSettled (length books) c.args.passes r books rooms.items passes) ground.rule_is
-    (subst (λ n. AreSettled (length books) n c.in-Ok.ground.rule books rooms.items passes) ground.settled.passes_are c.settle-rooms.ensures) in
+    let slots = c.build-slots.result.0 in
+    let passes = c.build-slots.result.1.items in
+    let builder = c.in-Ok.ensures in
+    let settled : AreSettled (length books) c.args.passes c.rule-rule.result books slots.items passes =
+    subst (λ r. AreSettled (length books) c.args.passes r books slots.items passes) builder.rule_is
+    (subst (λ n. AreSettled (length books) n c.in-Ok.builder.rule books slots.items passes) builder.settled.passes_are c.build-slots.ensures) in
     let bounds : IsInBounds c.len.result c.args.passes = c.are_in_bounds.ensures.0 c.if-not-are_in_bounds.false in
     let some : 1 ≤ c.args.passes = bounds.2 in
     let ruled : (h : ℕ) (book : Book) → slice_get books h ≡ Some book → rule_of c.rule-rule.result ≡ book.rule =

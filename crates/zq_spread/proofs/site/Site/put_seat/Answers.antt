@@ -13,8 +13,8 @@ pub returns-clause-pass : goal.returns-clause-pass
 returns-clause-pass c =
     let old : Pass = c.args.pass.now in
     let new : Pass = record { seats = Vec.with_item old.seats c.args.heap (Some c.args.seat); counts = old.counts; stamp = old.stamp } in
-    let room = there_is c.args.self.now.rooms.items c.args.heap c.requires.heap in
-    seat_back c.args.self.now old new c.args.heap room.0 c.args.seat c.requires.heap room.1 refl refl refl (c.requires.seat room.0 room.1) c.requires.pass
+    let slot = there_is c.args.self.now.slots.items c.args.heap c.requires.heap in
+    seat_back c.args.self.now old new c.args.heap slot.0 c.args.seat c.requires.heap slot.1 refl refl refl (c.requires.seat slot.0 slot.1) c.requires.pass
 
 pub returns-clause-seen : goal.returns-clause-seen
 returns-clause-seen c =

@@ -14,9 +14,9 @@ returns-clause-seats c =
     let here : slice_get (slice_set seats heap (Some c.args.seat)) heap ≡ Some (Some c.args.seat) = slice_get-set_same seats heap (Some c.args.seat) (subst (λ n. heap < n) (sym c.requires.number) c.requires.heap) in
     record {
       number = length-set seats heap (Some c.args.seat) ∙ c.requires.number;
-      seat = λ k room is at. elim is [
-        | inl same ↦ subst (λ j. IsSeatOf room (slice_get (slice_set seats heap (Some c.args.seat)) j)) same
-            (subst (IsSeatOf room) (sym here) (c.requires.seat room (ap (slice_get c.args.self.now.rooms.items) same ∙ at)))
+      seat = λ k slot is at. elim is [
+        | inl same ↦ subst (λ j. IsSeatOf slot (slice_get (slice_set seats heap (Some c.args.seat)) j)) same
+            (subst (IsSeatOf slot) (sym here) (c.requires.seat slot (ap (slice_get c.args.self.now.slots.items) same ∙ at)))
         | inr none ↦ absurd none
       ];
     }

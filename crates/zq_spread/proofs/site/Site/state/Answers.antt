@@ -1,19 +1,19 @@
 use Rattle.std.proofs.Common.{inl, refl, subst, sym}
 use Rattle.std.specs.Prelude.{[], ℕ, ◌<◌, ◌∷◌}
-use Rattle.zq_history.specs.Books.{Book}
-use Rattle.zq_history.specs.Reach.{IsWorked}
+use Rattle.zq_model.specs.Books.{Book}
+use Rattle.zq_model.specs.Reach.{IsWorked}
 use Rattle.zq_spread.proofs.OneHeap.{called_in, may_end_in}
 use Rattle.zq_spread.proofs.Readings.{copied_by}
 use Rattle.zq_spread.proofs.site.Site.state.Goals as goal
 use Rattle.zq_spread.specs.Answers.{IsCopied, IsCopyOf, read_of}
 use Rattle.zq_spread.specs.Calls.{IsCall, heaps_of}
-use Rattle.zq_spread.specs.declared.kept.Kept.{Kept}
+use Rattle.zq_spread.specs.declared.locked_heap.LockedHeap.{LockedHeap}
 
 pub end_in-requires-clause-worked : goal.end_in-requires-clause-worked
 end_in-requires-clause-worked g c =
     let held = c.in-Ok.held in
     let works = λ (a : Book) (begun : IsWorked held.value.book a c.in-Ok.stamp []).
-    copied_by c.copy-copy.result held.value.book a c.in-Ok.stamp (subst (λ (v : Kept). read_of IsCopyOf c.copy-copy.result v.book) c.value.ensures c.copy-copy.ensures) begun in
+    copied_by c.copy-copy.result held.value.book a c.in-Ok.stamp (subst (λ (v : LockedHeap). read_of IsCopyOf c.copy-copy.result v.book) c.value.ensures c.copy-copy.ensures) begun in
     may_end_in (IsCopied c.copy-copy.result) c.args.self.now c.args.pass.now c.from-heap.result c.in-Ok.stamp held held.value c.in-Ok.ensures.begun works refl
 
 pub returns-clause-called : goal.returns-clause-called
@@ -21,7 +21,7 @@ returns-clause-called g c =
     let held = c.in-Ok.held in
     let heap : ℕ = c.from-heap.result in
     let works = λ (a : Book) (begun : IsWorked held.value.book a c.in-Ok.stamp []).
-    copied_by c.copy-copy.result held.value.book a c.in-Ok.stamp (subst (λ (v : Kept). read_of IsCopyOf c.copy-copy.result v.book) c.value.ensures c.copy-copy.ensures) begun in
+    copied_by c.copy-copy.result held.value.book a c.in-Ok.stamp (subst (λ (v : LockedHeap). read_of IsCopyOf c.copy-copy.result v.book) c.value.ensures c.copy-copy.ensures) begun in
     let within : heap < heaps_of c.args.self.now = subst (λ h. h < heaps_of c.args.self.now) (sym c.from-heap.ensures) c.requires.heap in
     let call : IsCall (IsCopied c.copy-copy.result) c.args.pass.now c.end_in.new.pass (heap ∷ []) =
     called_in (IsCopied c.copy-copy.result) c.args.self.now c.args.pass.now c.begin_in.new.pass c.end_in.new.pass heap c.in-Ok.stamp held held.value within c.was_given.ensures c.in-Ok.ensures.begun works c.end_in.ensures.stamp c.end_in.ensures.seen c.end_in.ensures.steps c.in-Ok.ensures.others c.in-Ok.ensures.steps c.end_in.ensures.others c.in-Ok.ensures.turns in

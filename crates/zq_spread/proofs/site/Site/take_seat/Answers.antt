@@ -8,30 +8,30 @@ use Rattle.zq_spread.specs.Turns.{turns_in}
 
 pub unreachable-requires : goal.unreachable-requires
 unreachable-requires c =
-    let room = there_is c.args.self.now.rooms.items c.args.heap c.requires.heap in
+    let slot = there_is c.args.self.now.slots.items c.args.heap c.requires.heap in
     let there : slice_get c.args.pass.now.seats.items c.args.heap ≡ Some None =
-    taken_at c.args.pass.now.seats.items (length c.args.self.now.rooms.items) c.args.heap c.index_mut.result.now c.take.result None c.requires.pass.seats c.requires.heap c.index_mut.ensures.value c.take.ensures.value c.in_default.is in
-    subst (IsSeatOf room.0) there (c.requires.pass.seat c.args.heap room.0 room.1)
+    taken_at c.args.pass.now.seats.items (length c.args.self.now.slots.items) c.args.heap c.index_mut.result.now c.take.result None c.requires.pass.seats c.requires.heap c.index_mut.ensures.value c.take.ensures.value c.in_default.is in
+    subst (IsSeatOf slot.0) there (c.requires.pass.seat c.args.heap slot.0 slot.1)
 
 pub returns-clause-pass : goal.returns-clause-pass
 returns-clause-pass c = seat_out c.args.self.now c.args.pass.now _ c.args.heap c.take.new.self refl refl refl c.requires.pass
 
 pub returns-clause-seat : goal.returns-clause-seat
-returns-clause-seat c = λ room at.
+returns-clause-seat c = λ slot at.
     let there : slice_get c.args.pass.now.seats.items c.args.heap ≡ Some (Some c.in-Some.seat) =
-    taken_at c.args.pass.now.seats.items (length c.args.self.now.rooms.items) c.args.heap c.index_mut.result.now c.take.result (Some c.in-Some.seat) c.requires.pass.seats c.requires.heap c.index_mut.ensures.value c.take.ensures.value c.in-Some.is in
-    subst (IsSeatOf room) there (c.requires.pass.seat c.args.heap room at)
+    taken_at c.args.pass.now.seats.items (length c.args.self.now.slots.items) c.args.heap c.index_mut.result.now c.take.result (Some c.in-Some.seat) c.requires.pass.seats c.requires.heap c.index_mut.ensures.value c.take.ensures.value c.in-Some.is in
+    subst (IsSeatOf slot) there (c.requires.pass.seat c.args.heap slot at)
 
 pub returns-clause-seen : goal.returns-clause-seen
 returns-clause-seen c =
     let there : slice_get c.args.pass.now.seats.items c.args.heap ≡ Some (Some c.in-Some.seat) =
-    taken_at c.args.pass.now.seats.items (length c.args.self.now.rooms.items) c.args.heap c.index_mut.result.now c.take.result (Some c.in-Some.seat) c.requires.pass.seats c.requires.heap c.index_mut.ensures.value c.take.ensures.value c.in-Some.is in
+    taken_at c.args.pass.now.seats.items (length c.args.self.now.slots.items) c.args.heap c.index_mut.result.now c.take.result (Some c.in-Some.seat) c.requires.pass.seats c.requires.heap c.index_mut.ensures.value c.take.ensures.value c.in-Some.is in
     sym (ap seen_in there)
 
 pub returns-clause-turns : goal.returns-clause-turns
 returns-clause-turns c =
     let there : slice_get c.args.pass.now.seats.items c.args.heap ≡ Some (Some c.in-Some.seat) =
-    taken_at c.args.pass.now.seats.items (length c.args.self.now.rooms.items) c.args.heap c.index_mut.result.now c.take.result (Some c.in-Some.seat) c.requires.pass.seats c.requires.heap c.index_mut.ensures.value c.take.ensures.value c.in-Some.is in
+    taken_at c.args.pass.now.seats.items (length c.args.self.now.slots.items) c.args.heap c.index_mut.result.now c.take.result (Some c.in-Some.seat) c.requires.pass.seats c.requires.heap c.index_mut.ensures.value c.take.ensures.value c.in-Some.is in
     sym (ap turns_in there)
 
 pub returns-clause-stays : goal.returns-clause-stays

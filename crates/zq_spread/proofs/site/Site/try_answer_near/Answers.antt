@@ -6,8 +6,8 @@ use Rattle.zq_spread.proofs.Called.{busy_among, busy_before, near_after}
 use Rattle.zq_spread.proofs.site.Site.try_answer_near.Goals as goal
 use Rattle.zq_spread.specs.Dispatch.{HasNear, all_heaps}
 use Rattle.zq_spread.specs.Worn.{IsStopOf}
-use Rattle.zq_spread.specs.declared.kept.Kept.{Kept}
-use Rattle.zq_spread.specs.declared.sought.Stop.TheVariants as stop
+use Rattle.zq_spread.specs.declared.locked_heap.LockedHeap.{LockedHeap}
+use Rattle.zq_spread.specs.declared.lock_scan.Stop.TheVariants as stop
 
 differ : false ≡ true → ⊥
 differ e = cc
@@ -25,7 +25,7 @@ returns-in-Ok-clause-called c =
         next = call.next;
         worked = call.worked;
         others = call.others;
-        done = (call.done, subst (λ command. HasNear (rule_of c.args.self.now.rule) command (map (λ (x : Kept). x.book) call.found)) (sym c.requires.near) has);
+        done = (call.done, subst (λ command. HasNear (rule_of c.args.self.now.rule) command (map (λ (x : LockedHeap). x.book) call.found)) (sym c.requires.near) has);
       })
     ]
 

@@ -5,31 +5,31 @@ use Rattle.zq_spread.proofs.Refused.{refused_in}
 use Rattle.zq_spread.proofs.Seats.{stopped}
 use Rattle.zq_spread.proofs.site.Site.try_begin_in.Goals as goal
 use Rattle.zq_spread.specs.Passes.{IsSeenLater, seen_at}
-use Rattle.zq_spread.specs.Rooms.{IsBegun, IsOf}
+use Rattle.zq_spread.specs.HeapSlots.{IsBegun, IsOf}
 use Rattle.zq_spread.specs.Turns.{IsLeftAsGiven, turns_at}
 use Rattle.zq_spread.specs.Worn.{IsUnbegun}
 use Rattle.zq_spread.specs.declared.pass.Pass.{Pass}
-use Rattle.zq_spread.specs.declared.room.Room.{Room}
+use Rattle.zq_spread.specs.declared.heap_slot.HeapSlot.{HeapSlot}
 use Rattle.zq_ticketlock.specs.Seats.{given, id_of, logged, reached, seen, served, value_of}
 
 pub try_begin-requires-clause-lock : goal.try_begin-requires-clause-lock
 try_begin-requires-clause-lock c =
-    (c.take_seat-seat.ensures.seat c.index.result.now (slice_get_read c.args.self.now.rooms.items (length c.args.self.now.rooms.items) c.args.heap c.index.result.now refl c.requires.heap c.index.ensures)).0
+    (c.take_seat-seat.ensures.seat c.index.result.now (slice_get_read c.args.self.now.slots.items (length c.args.self.now.slots.items) c.args.heap c.index.result.now refl c.requires.heap c.index.ensures)).0
 
 pub try_begin-requires-clause-seen : goal.try_begin-requires-clause-seen
 try_begin-requires-clause-seen c =
-    (c.take_seat-seat.ensures.seat c.index.result.now (slice_get_read c.args.self.now.rooms.items (length c.args.self.now.rooms.items) c.args.heap c.index.result.now refl c.requires.heap c.index.ensures)).1
+    (c.take_seat-seat.ensures.seat c.index.result.now (slice_get_read c.args.self.now.slots.items (length c.args.self.now.slots.items) c.args.heap c.index.result.now refl c.requires.heap c.index.ensures)).1
 
 pub returns-in-Ok-clause-lock : goal.returns-in-Ok-clause-lock
-returns-in-Ok-clause-lock c = λ room at.
-    let here : slice_get c.args.self.now.rooms.items c.args.heap ≡ Some c.index.result.now = slice_get_read c.args.self.now.rooms.items (length c.args.self.now.rooms.items) c.args.heap c.index.result.now refl c.requires.heap c.index.ensures in
-    let one : c.index.result.now ≡ room = same_Some c.index.result.now room (sym here ∙ at) in
-    c.in-Ok.ensures.lock ∙ ap (λ (r : Room). id_of r.lock) one
+returns-in-Ok-clause-lock c = λ slot at.
+    let here : slice_get c.args.self.now.slots.items c.args.heap ≡ Some c.index.result.now = slice_get_read c.args.self.now.slots.items (length c.args.self.now.slots.items) c.args.heap c.index.result.now refl c.requires.heap c.index.ensures in
+    let one : c.index.result.now ≡ slot = same_Some c.index.result.now slot (sym here ∙ at) in
+    c.in-Ok.ensures.lock ∙ ap (λ (r : HeapSlot). id_of r.lock) one
 
 pub returns-in-Ok-clause-begun : goal.returns-in-Ok-clause-begun
-returns-in-Ok-clause-begun c = λ room at.
-    let here : slice_get c.args.self.now.rooms.items c.args.heap ≡ Some c.index.result.now = slice_get_read c.args.self.now.rooms.items (length c.args.self.now.rooms.items) c.args.heap c.index.result.now refl c.requires.heap c.index.ensures in
-    let one : c.index.result.now ≡ room = same_Some c.index.result.now room (sym here ∙ at) in
+returns-in-Ok-clause-begun c = λ slot at.
+    let here : slice_get c.args.self.now.slots.items c.args.heap ≡ Some c.index.result.now = slice_get_read c.args.self.now.slots.items (length c.args.self.now.slots.items) c.args.heap c.index.result.now refl c.requires.heap c.index.ensures in
+    let one : c.index.result.now ≡ slot = same_Some c.index.result.now slot (sym here ∙ at) in
     let old : Pass = c.args.pass.now in
     subst (λ r. IfSome (given c.in-Ok.begun.0) (IsBegun r (seen_at old c.args.heap) old.stamp c.in-Ok.begun.1 (value_of c.in-Ok.begun.0))) one
     (subst (λ o. IfSome (given c.in-Ok.begun.0) (IsBegun c.index.result.now o old.stamp c.in-Ok.begun.1 (value_of c.in-Ok.begun.0))) c.take_seat-seat.ensures.seen
@@ -42,10 +42,10 @@ pub returns-in-Ok-clause-others : goal.returns-in-Ok-clause-others
 returns-in-Ok-clause-others c = λ k other. (c.take_seat-seat.ensures.stays.others k other, c.take_seat-seat.ensures.stays.turns k other)
 
 pub put_seat-requires-clause-seat : goal.put_seat-requires-clause-seat
-put_seat-requires-clause-seat c = λ room at.
-    let here : slice_get c.args.self.now.rooms.items c.args.heap ≡ Some c.index.result.now = slice_get_read c.args.self.now.rooms.items (length c.args.self.now.rooms.items) c.args.heap c.index.result.now refl c.requires.heap c.index.ensures in
-    let one : c.index.result.now ≡ room = same_Some c.index.result.now room (sym here ∙ at) in
-    (c.in-Err.ensures.refused.0 ∙ ap (λ (r : Room). id_of r.lock) one, subst (λ (r : Room). IfSome (seen c.in-Err.seat) (IsOf r)) one c.in-Err.ensures.refused.1)
+put_seat-requires-clause-seat c = λ slot at.
+    let here : slice_get c.args.self.now.slots.items c.args.heap ≡ Some c.index.result.now = slice_get_read c.args.self.now.slots.items (length c.args.self.now.slots.items) c.args.heap c.index.result.now refl c.requires.heap c.index.ensures in
+    let one : c.index.result.now ≡ slot = same_Some c.index.result.now slot (sym here ∙ at) in
+    (c.in-Err.ensures.refused.0 ∙ ap (λ (r : HeapSlot). id_of r.lock) one, subst (λ (r : HeapSlot). IfSome (seen c.in-Err.seat) (IsOf r)) one c.in-Err.ensures.refused.1)
 
 pub returns-in-Err-clause-refused : goal.returns-in-Err-clause-refused
 returns-in-Err-clause-refused c =

@@ -8,5 +8,5 @@ pub try_call_one-requires-clause-heap : goal.try_call_one-requires-clause-heap
 try_call_one-requires-clause-heap c =
     let site = c.args.self.now in
     let some = site.some in
-    let long = c.len.ensures ∙ site.rooms.ok.0 in
+    let long = c.len.ensures ∙ site.slots.ok.0 in
     one_heap c.args.command.now (heaps_of site) c.in-One.heap (omega (arith, some)) (ap (named.heaps_of c.args.command.now) (sym long) ∙ sym c.heaps.ensures ∙ c.in-One.is)

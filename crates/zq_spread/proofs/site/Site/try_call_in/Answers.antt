@@ -5,13 +5,13 @@ use Rattle.zq_spread.proofs.Worked.{begun_books}
 use Rattle.zq_spread.proofs.site.Site.try_call_in.Goals as goal
 use Rattle.zq_spread.specs.Dispatch.{HasQueued}
 use Rattle.zq_spread.specs.Several.{books_of, helds_of}
-use Rattle.zq_spread.specs.declared.kept.Kept.{Kept}
+use Rattle.zq_spread.specs.declared.locked_heap.LockedHeap.{LockedHeap}
 
 pub work_all-requires-clause-homes : goal.work_all-requires-clause-homes
 work_all-requires-clause-homes c =
     let begun = c.in-Ok.ensures.begun in
     let helds = helds_of c.try_begin_all.new.holds in
-    c.requires.homes (books_of helds) (begun_books c.args.self.now c.requires.pass.rooms c.args.pass.now c.in-Ok.stamp c.args.heaps.now helds begun.found begun.each)
+    c.requires.homes (books_of helds) (begun_books c.args.self.now c.requires.pass.slots c.args.pass.now c.in-Ok.stamp c.args.heaps.now helds begun.found begun.each)
 
 pub returns-in-Ok-clause-called : goal.returns-in-Ok-clause-called
 returns-in-Ok-clause-called c =
@@ -21,8 +21,8 @@ returns-in-Ok-clause-called c =
       over.0,
       elim begun.enough [
         | inl enough ↦ inl enough
-        | inr has ↦ inr (subst (λ found. HasQueued (rule_of c.args.self.now.rule) c.args.key.now (map (λ (x : Kept). x.book) found)) (sym over.1)
-            (queued_found c.args.self.now c.requires.pass.rooms c.args.pass.now c.in-Ok.stamp c.args.heaps.now c.args.key.now helds begun.found begun.each has))
+        | inr has ↦ inr (subst (λ found. HasQueued (rule_of c.args.self.now.rule) c.args.key.now (map (λ (x : LockedHeap). x.book) found)) (sym over.1)
+            (queued_found c.args.self.now c.requires.pass.slots c.args.pass.now c.in-Ok.stamp c.args.heaps.now c.args.key.now helds begun.found begun.each has))
       ],
       over.2,
     )

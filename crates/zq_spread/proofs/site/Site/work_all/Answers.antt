@@ -1,5 +1,5 @@
 use Rattle.std.proofs.Common.{subst}
-use Rattle.zq_plans.specs.Run.{IsRun}
+use Rattle.zq_semantics.specs.Run.{IsRun}
 use Rattle.zq_journal.specs.Books.{LAST_STAMP}
 use Rattle.zq_resp.specs.Reply.{reply_bytes}
 use Rattle.zq_spread.proofs.Worked.{begun_books, begun_dated, called_over, lends_at, may_end_each, rule_at}
@@ -11,7 +11,7 @@ run-reply-requires-clause-lent c =
     let site = c.args.self.now in
     let helds = helds_of c.args.holds.now in
     let begun = c.requires.begun in
-    lends_at site c.requires.pass.rooms c.args.heaps.now (books_of helds) c.requires.heaps (begun_books site c.requires.pass.rooms begun.0 c.args.stamp c.args.heaps.now helds begun.1 begun.2)
+    lends_at site c.requires.pass.slots c.args.heaps.now (books_of helds) c.requires.heaps (begun_books site c.requires.pass.slots begun.0 c.args.stamp c.args.heaps.now helds begun.1 begun.2)
 
 pub run-reply-requires-clause-dated : goal.run-reply-requires-clause-dated
 unfolding LAST_STAMP
@@ -30,7 +30,7 @@ returns-clause-called c = λ before found begun outside next.
     let heaps = c.args.heaps.now in
     let olds = helds_of c.args.holds.now in
     let news = helds_of c.run-reply.new.books in
-    let rule = rule_at site c.requires.pass.rooms heaps (books_of olds) c.requires.some (begun_books site c.requires.pass.rooms before c.args.stamp heaps olds found begun) in
+    let rule = rule_at site c.requires.pass.slots heaps (books_of olds) c.requires.some (begun_books site c.requires.pass.slots before c.args.stamp heaps olds found begun) in
     called_over site before c.args.stamp c.args.command.now (reply_bytes c.run-reply.result) c.args.pass.now c.end_all.new.pass heaps olds news found begun c.run-reply.ensures.keeps c.run-reply.ensures.dated.1
     c.end_all.ensures.stamp outside c.end_all.ensures.ended c.end_all.ensures.others next
     (subst (λ r. IsRun r site.number c.args.stamp c.args.command.now (books_of olds) (books_of news) (reply_bytes c.run-reply.result)) rule c.run-reply.ensures.ran)

@@ -10,12 +10,12 @@ use Rattle.zq_commands.specs.Lending.{IsDated, IsLending, Lending}
 use Rattle.zq_commands.specs.VecBooks.{heaps_in, lending_of}
 use Rattle.zq_dots.specs.Act.{act_of}
 use Rattle.zq_dots.specs.Placed.{Placed}
-use Rattle.zq_history.specs.Books.{Book}
+use Rattle.zq_model.specs.Books.{Book}
 use Rattle.zq_model.specs.Bounded.{IsBounded}
-use Rattle.zq_moves.proofs.Homes.{lent_each}
-use Rattle.zq_moves.proofs.Read.{in_place}
-use Rattle.zq_moves.specs.Lent.{made_in}
-use Rattle.zq_moves.specs.Moves.{Move}
+use Rattle.zq_model.proofs.Homes.{lent_each}
+use Rattle.zq_model.proofs.Read.{in_place}
+use Rattle.zq_model.specs.Lent.{made_in}
+use Rattle.zq_model.specs.Moves.{Move}
 use Rattle.zq_world.proofs.Homes.{told_after_move}
 use Rattle.zq_world.proofs.Lendings.{bare_lending, told_lending}
 use Rattle.zq_world.specs.Told.{AreAmong, lending_told, told_in}

@@ -3,8 +3,8 @@ use Rattle.std.proofs.lemmas.Option.{same_Some, slice_get_read}
 use Rattle.std.proofs.lemmas.Result.{IfOk-weaker}
 use Rattle.std.specs.Prelude.{slice_get}
 use Rattle.std.specs.declared.alloc.Global.{Global}
-use Rattle.zq_history.specs.Books.{Book}
-use Rattle.zq_runs.specs.Books.{AreBooksOf}
+use Rattle.zq_model.specs.Books.{Book}
+use Rattle.zq_semantics.specs.Books.{AreBooksOf}
 use Rattle.zq_world.proofs.WorldBooks.{answer_is, items_at}
 use Rattle.zq_world.specs.World.{Left}
 use Rattle.zq_world.proofs.world.World.answer.Goals as goal

@@ -1,6 +1,0 @@
-mod Answered
-pub mod Again
-mod Repeated
-mod Taken
-mod Same
-mod Topics

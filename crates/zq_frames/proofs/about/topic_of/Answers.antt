@@ -1,6 +1,0 @@
-use Rattle.std.proofs.Common.{◌∙◌}
-use Rattle.zq_frames.proofs.Topics.{topic_of_spelled}
-use Rattle.zq_frames.proofs.about.topic_of.Goals as goal
-
-pub returns-clause-spelled : goal.returns-clause-spelled
-returns-clause-spelled c = λ frame spelled. c.read_topic.ensures ∙ topic_of_spelled c.args.bytes.now frame spelled

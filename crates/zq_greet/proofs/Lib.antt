@@ -1,6 +1,0 @@
-mod Follows
-mod Stays
-mod Parts
-mod Exactly
-mod Known
-mod Paid

@@ -1,6 +1,0 @@
-pub mod Said
-pub mod Reading
-pub mod Opened
-pub mod Laws
-pub mod Words
-pub mod Links

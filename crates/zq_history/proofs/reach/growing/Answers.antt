@@ -1,8 +1,0 @@
-use Rattle.zq_history.proofs.Covered.{reached_covers, reached_knows}
-use Rattle.zq_history.proofs.reach.growing.Goals as goal
-
-pub returns-clause-covers : goal.returns-clause-covers
-returns-clause-covers c = reached_covers
-
-pub returns-clause-knows : goal.returns-clause-knows
-returns-clause-knows c = reached_knows

@@ -1,4 +1,0 @@
-pub mod Limits
-pub mod Books
-pub mod Reach
-pub mod Undoing

@@ -1,6 +1,0 @@
-use Rattle.std.proofs.Common.{length, ℕ}
-use Rattle.std.proofs.lemmas.List.{drop-replicate}
-use Rattle.zq_mac.proofs.hmac.fill.Goals as goal
-
-pub returns : goal.returns
-returns c = rw (c.copy_from_slice.ensures.after, drop-replicate {X = ℕ} (length c.args.bytes.now) 64 0)

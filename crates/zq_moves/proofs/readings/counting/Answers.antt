@@ -1,9 +1,0 @@
-use Rattle.zq_moves.proofs.Counted.{counted, measured, queue_merged}
-use Rattle.zq_moves.proofs.readings.counting.Goals as goal
-
-pub returns : goal.returns
-returns c = record {
-  queue = queue_merged;
-  count = λ rule key K passes books are. counted rule key K passes books are;
-  number = λ rule key K books are. measured rule key K books are;
-}

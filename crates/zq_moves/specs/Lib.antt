@@ -1,4 +1,0 @@
-pub mod Moves
-pub mod Lent
-pub mod Readings
-pub mod Merging

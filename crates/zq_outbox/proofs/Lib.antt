@@ -1,4 +1,0 @@
-pub mod Topics
-pub mod Parcels
-pub mod Places
-pub mod Runs

@@ -1,4 +1,0 @@
-pub mod Topic
-pub mod Outbox
-pub mod Inside
-pub mod Runs

@@ -1,4 +1,0 @@
-pub mod Again
-pub mod Counters
-pub mod Entries
-pub mod Written

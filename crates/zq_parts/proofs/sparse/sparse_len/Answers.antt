@@ -1,6 +1,0 @@
-use Rattle.std.proofs.Common.{ap, sym, ◌*◌, ◌+◌, ◌∙◌}
-use Rattle.zq_parts.proofs.Written.{sparse_length}
-use Rattle.zq_parts.proofs.sparse.sparse_len.Goals as goal
-
-pub returns-clause-exact : goal.returns-clause-exact
-returns-clause-exact c = ap (λ n. 1 + 9 * n) c.known.ensures.exact ∙ sym (sparse_length c.args.vector.now)

@@ -1,6 +1,0 @@
-pub mod State
-pub mod Reading
-pub mod Doing
-pub mod Events
-pub mod Runs
-pub mod Books

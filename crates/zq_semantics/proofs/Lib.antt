@@ -1,0 +1,13 @@
+pub mod Narrow
+pub mod Lifted
+pub mod Kept
+pub mod InRange
+pub mod KeptRuns
+pub mod Moments
+pub mod Meant
+pub mod BooksOf
+pub mod MovedBooks
+pub mod SiteBooks
+pub mod Questions
+pub mod NearBooks
+pub mod FewMembers

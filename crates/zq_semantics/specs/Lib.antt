@@ -1,0 +1,11 @@
+pub mod Replies
+pub mod Ranges
+pub mod Plan
+pub mod Run
+pub mod Examples
+pub mod State
+pub mod Reading
+pub mod Doing
+pub mod Events
+pub mod Runs
+pub mod Books

@@ -1,0 +1,13 @@
+use Rattle.std.proofs.Common.{subst}
+use Rattle.std.proofs.lemmas.List.Elements.{All-pop}
+use Rattle.std.specs.Arc.{arc_value}
+use Rattle.std.specs.Prelude.{IfSome}
+use Rattle.zq_serve.proofs.opening.add_threads.Goals as goal
+use Rattle.zq_spread.specs.Passes.{IsPassOf}
+
+pub invariant_of-linker : goal.invariant_of-linker
+invariant_of-linker c =
+    let site = (arc_value c.args.server.now).site in
+    let all = All-pop (IsPassOf site) c.args.passes.items c.pop.new.self.items c.pop.result c.pop.ensures.items c.requires in
+    let last : IsPassOf site c.in-Some.pass = subst (λ r. IfSome r (IsPassOf site)) c.in-Some.is all.1 in
+    record { own = rw c.in_ok-try_clone.ensures last }

@@ -1,0 +1,20 @@
+use Rattle.std.proofs.Common.{All, rules, subst, ◌∷◌, ◌≡◌}
+use Rattle.std.proofs.lemmas.List.Elements.{All-head, All-tail}
+use Rattle.std.specs.Arc.{arc_value}
+use Rattle.std.specs.Vec.Iter.{into_iter_items}
+use Rattle.zq_serve.proofs.opening.add_workers.Goals as goal
+use Rattle.zq_spread.specs.Passes.{IsPassOf}
+
+pub invariant_of-worker : goal.invariant_of-worker
+invariant_of-worker c =
+    let site = (arc_value c.args.server.now).site in
+    let steps : into_iter_items c.loop-pass.pass-iterator ≡ c.in-Some.pass ∷ into_iter_items c.next.new.self = c.in-Some.ensures.steps.0 in
+    let all = subst (All (IsPassOf site)) steps c.loop-pass.invariant.0 in
+    record { own = rw c.in_ok-try_clone.ensures (All-head (IsPassOf site) c.in-Some.pass (into_iter_items c.next.new.self) all) }
+
+pub loop-pass-preserved : goal.loop-pass-preserved
+loop-pass-preserved c =
+    let site = (arc_value c.args.server.now).site in
+    let steps : into_iter_items c.loop-pass.pass-iterator ≡ c.in-Some.pass ∷ into_iter_items c.next.new.self = c.in-Some.ensures.steps.0 in
+    let all = subst (All (IsPassOf site)) steps c.loop-pass.invariant.0 in
+    (All-tail (IsPassOf site) c.in-Some.pass (into_iter_items c.next.new.self) all, search rules)

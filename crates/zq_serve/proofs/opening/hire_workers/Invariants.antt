@@ -1,9 +1,0 @@
-use Rattle.std.proofs.Common.{All, length, ◌≡◌}
-use Rattle.std.specs.Arc.{arc_value}
-use Rattle.std.specs.Vec.Iter.{into_iter_items, into_iter_len}
-use Rattle.zq_spread.specs.Passes.{IsPassOf}
-use Rattle.zq_serve.proofs.opening.hire_workers.Given as goal
-
-abbrev pub invariant-loop-pass : goal.invariant-loop-pass
-invariant-loop-pass l =
-    All (IsPassOf (arc_value l.station).site) (into_iter_items l.pass-iterator) × (into_iter_len l.pass-iterator ≡ length (into_iter_items l.pass-iterator))

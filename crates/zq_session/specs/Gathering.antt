@@ -1,0 +1,35 @@
+-- Bytes that are gathered, and written when they are many.
+use Rattle.std.specs.Prelude.{◌≡◌, ◌<◌, ℕ, List, [], ◌++◌, length, Result, Ok, Err}
+use Rattle.zq_session.specs.Steps.{Does, Says}
+use Rattle.zq_session.specs.declared.outcome.SessionFault.{SessionFault}
+use Rattle.zq_session.specs.declared.outcome.SessionFault.TheVariants.{Read, Write, NoMemory}
+
+-- the ends of a peer, and what is gathered for it
+pub record Held (S : Type 0) : Type 0 where
+  pub ends : S
+  pub gathered : List ℕ
+
+abbrev pub held : {S : Type 0} → S → List ℕ → Held S
+held ends gathered = record { ends = ends; gathered = gathered }
+
+-- The bytes were put behind what was gathered. The first of all this is written, and the rest is gathered.
+abbrev pub Gathers : {S : Type 0} → Does S → Held S → Held S → List ℕ → Type 0
+Gathers does old new bytes = (sent : List ℕ) × Says does old.ends new.ends sent × (old.gathered ++ bytes ≡ sent ++ new.gathered)
+
+-- The same, where the writer failed and the last of the bytes are lost.
+abbrev pub IsCutOff : {S : Type 0} → Does S → Held S → Held S → List ℕ → Type 0
+IsCutOff does old new bytes = (lost : List ℕ) × Gathers does old (held new.ends (new.gathered ++ lost)) bytes
+
+-- One reply: fewer than 65,536 bytes wait then. Where memory is refused for it, nothing is put behind what was gathered.
+abbrev pub Gives : {S : Type 0} → Does S → Held S → Held S → List ℕ → Result (Unit {0}) SessionFault → Type 0
+Gives does old new bytes (Ok done) = Gathers does old new bytes × (length new.gathered < 65536)
+Gives does old new bytes (Err Read) = ⊥
+Gives does old new bytes (Err Write) = IsCutOff does old new bytes
+Gives does old new bytes (Err NoMemory) = Gathers does old new []
+
+-- The bytes that were put behind what was gathered, by how it ended.
+abbrev pub Puts : {S T : Type 0} → Does S → Held S → Held S → List ℕ → Result T SessionFault → Type 0
+Puts does old new bytes (Ok done) = Gathers does old new bytes
+Puts does old new bytes (Err Read) = ⊥
+Puts does old new bytes (Err Write) = IsCutOff does old new bytes
+Puts does old new bytes (Err NoMemory) = Gathers does old new bytes

@@ -1,0 +1,12 @@
+pub mod Steps
+pub mod Gathering
+pub mod Serving
+pub mod Session
+pub mod Conversation
+pub mod Plain
+pub mod Meaning
+pub mod Piped
+pub mod Refusals
+pub mod Passing
+pub mod PassFacts
+pub mod Calls

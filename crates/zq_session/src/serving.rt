@@ -1,0 +1,129 @@
+//! Answers to the requests of one piece of the input.
+
+ghost use Rattle.std.specs.Prelude.{◌≡◌, ◌++◌, ◌∷◌, ◌↔◌, [], IsTrue, List, MatchResult, ℕ, Some};
+ghost use Rattle.zq_resp.specs.Reply.{is_writable};
+ghost use Rattle.zq_resp.specs.declared.reply.Reply.{Reply};
+ghost use Rattle.zq_session.specs.Gathering.{Puts, held};
+ghost use Rattle.zq_session.specs.Session.{closing};
+ghost use Rattle.zq_session.specs.Serving.{AnswersAll, IsBreak, ServesPiece};
+
+use crate::ends::Ends;
+use crate::gathering::gather;
+use crate::outcome::SessionFault;
+use std::alloc::Global;
+use zq_resp::{FeedFault, Reader, Reply, Request, write_reply};
+
+/// What answers requests.
+pub trait Answers {
+    /// The state before, a request's words, the reply, and the state after.
+    ghost answers: { Self → List (List ℕ) → Reply → Self → Type 0 };
+
+    /// The reply to a request. Its texts end no line.
+    fn answer(&mut self, alloc: Global, request: &Request) -> Reply
+        ensures related { answers self.old request.now result self.new }
+        ensures writable { IsTrue (is_writable result) };
+}
+
+/// Whether the input may go on.
+#[derive(Clone, Copy, Debug)]
+pub enum Served {
+    More,
+    Broken,
+}
+
+/// Answers the requests that end in a piece, and puts the replies' bytes behind those that are gathered.
+/// Where these grow to 65,536 they are written. After a protocol fault the error that closes the session
+/// follows them.
+///
+/// - `NoMemory`: there are the replies to the first of the requests. At most one reply that was made is
+///   missing, and the requests after that one are not answered.
+/// - `Write`: the first of the bytes are written, up to where the writer failed, and the requests after
+///   the one whose reply was gathered last are not answered.
+pub fn serve_piece<A: Answers, R, W, E: Ends<R, W>>(
+    alloc: Global,
+    answerer: &mut A,
+    input: &mut Reader,
+    piece: &[u8],
+    ends: &E,
+    reader: &mut R,
+    writer: &mut W,
+    out: &mut Vec<u8>,
+) -> Result<Served, SessionFault>
+    ensures { (had : List ℕ) → input.old ≡ Some had → (bytes : List ℕ)
+        × ServesPiece A.answers answerer.old answerer.new had piece.now input.new bytes result
+        × Puts E.does (held (reader.old, writer.old) out.old.items) (held (reader.new, writer.new) out.new.items) bytes result }
+{
+    // What is kept of an earlier piece is less than a request.
+    let _inside = input.inside();
+    let mut at = 0;
+    while at < piece.len() {
+        match input.next_request(alloc, &piece[at..]) {
+            Ok((found, taken)) => {
+                if let Some(request) = found {
+                    answer_one(alloc, answerer, &request, ends, reader, writer, out)?;
+                    input.give_back(request);
+                }
+                at += taken;
+            }
+            Err(fault) => return end(fault, out),
+        }
+    }
+    Ok(Served::More)
+}
+
+/// Answers a request.
+fn answer_one<A: Answers, R, W, E: Ends<R, W>>(
+    alloc: Global,
+    answerer: &mut A,
+    request: &Request,
+    ends: &E,
+    reader: &mut R,
+    writer: &mut W,
+    out: &mut Vec<u8>,
+) -> Result<(), SessionFault>
+    ensures { (bytes : List ℕ)
+        × AnswersAll A.answers answerer.old answerer.new (request.now ∷ []) bytes result
+        × Puts E.does (held (reader.old, writer.old) out.old.items) (held (reader.new, writer.new) out.new.items) bytes result }
+{
+    let reply = answerer.answer(alloc, request);
+    gather(ends, reader, writer, out, &reply)
+}
+
+/// Ends the input at a fault.
+fn end(fault: FeedFault, out: &mut Vec<u8>) -> Result<Served, SessionFault>
+    ensures { MatchResult result
+        (λ served. IsBreak fault × (served ≡ Served.Broken) × (out.new.items ≡ out.old.items ++ closing))
+        (λ stop. (stop ≡ SessionFault.NoMemory) × (out.new.items ≡ out.old.items)) }
+{
+    if breaks(fault) {
+        close(out)
+    } else {
+        Err(SessionFault::NoMemory)
+    }
+}
+
+// Whether the fault closes the input.
+fn breaks(fault: FeedFault) -> bool
+    ensures { IsTrue result ↔ IsBreak fault }
+{
+    match fault {
+        FeedFault::Protocol | FeedFault::TooLong => true,
+        FeedFault::Over | FeedFault::NoMemory => false,
+    }
+}
+
+// Puts the error that closes the session behind what is gathered.
+fn close(out: &mut Vec<u8>) -> Result<Served, SessionFault>
+    ensures { MatchResult result
+        (λ served. (served ≡ Served.Broken) × (out.new.items ≡ out.old.items ++ closing))
+        (λ fault. (fault ≡ SessionFault.NoMemory) × (out.new.items ≡ out.old.items)) }
+{
+    let reply = Reply::Error {
+        text: "ERR Protocol error",
+        after: None,
+    };
+    match write_reply(out, &reply) {
+        Ok(()) => Ok(Served::Broken),
+        Err(_) => Err(SessionFault::NoMemory),
+    }
+}

@@ -1,0 +1,10 @@
+pub mod Pause
+pub mod Times
+pub mod LinkStates
+pub mod Words
+pub mod Carried
+pub mod Heard
+pub mod PeerLinks
+pub mod Upkeep
+pub mod Site
+pub mod Written

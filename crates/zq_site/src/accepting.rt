@@ -1,0 +1,41 @@
+//! What accepts peers.
+
+use crate::attending::attend;
+use crate::peer_listener::PeerListener;
+use crate::shared::Shared;
+use crate::times::not_accepted;
+use log::Log;
+use std::random::RandomSource;
+use std::sync::Wait;
+use std::time::Clock;
+
+/// Accepts connections, one after the other, and reads each until it ends, until the site ends.
+pub fn accept_peers<L>(log: &L, shared: Shared<'_>, doors: &PeerListener)
+where
+    L: Log + RandomSource + Clock + Wait,
+{
+    for _ in log.forever() {
+        if shared.halt.is_over(log) {
+            break;
+        }
+        accept_one(log, shared, doors);
+    }
+    doors.leave();
+}
+
+/// Accepts a connection, and reads it until it ends.
+fn accept_one<L>(log: &L, shared: Shared<'_>, doors: &PeerListener)
+where
+    L: Log + RandomSource + Clock + Wait,
+{
+    match doors.listener.accept() {
+        Ok((stream, _)) => {
+            if !shared.halt.is_over(log) {
+                attend(log, shared, stream, shared.dialers);
+            }
+        }
+        Err(_) => {
+            shared.halt.wait(log, not_accepted());
+        }
+    }
+}

@@ -1,0 +1,44 @@
+//! What dials a peer.
+
+use crate::attending::attend;
+use crate::pause::{Pause, pause_after};
+use crate::peer_link::PeerLink;
+use crate::shared::Shared;
+use crate::times::connecting;
+use log::Log;
+use std::net::{Net, TcpListener, TcpStream};
+use std::random::RandomSource;
+use std::sync::Wait;
+use std::time::Clock;
+
+/// Dials the peer of a line, and dials it again after each end of the link, until the site ends.
+pub fn dial_line<N, L>(net: &N, log: &L, shared: Shared<'_>, line: &PeerLink)
+where
+    N: Net<Listener = TcpListener, Stream = TcpStream>,
+    L: Log + RandomSource + Clock + Wait,
+{
+    let mut pause = Pause::first();
+    for _ in log.forever() {
+        if shared.halt.is_over(log) {
+            break;
+        }
+        let welcome = dial_once(net, log, shared, line);
+        if shared.halt.wait(log, pause.duration()) {
+            break;
+        }
+        pause = pause_after(pause, welcome);
+    }
+}
+
+/// Dials the peer of a line, and says whether it was welcome.
+fn dial_once<N, L>(net: &N, log: &L, shared: Shared<'_>, line: &PeerLink) -> bool
+where
+    N: Net<Listener = TcpListener, Stream = TcpStream>,
+    L: Log + RandomSource + Clock + Wait,
+{
+    let peer = line.peer();
+    match TcpStream::connect_timeout(net, &peer.address, connecting()) {
+        Ok(stream) => attend(log, shared, stream, &[peer.site]),
+        Err(_) => false,
+    }
+}

@@ -1,0 +1,63 @@
+//! How long a site waits before it dials again.
+
+ghost use Rattle.std.specs.Duration.{as_nanos};
+ghost use Rattle.std.specs.Prelude.{◌≡◌, ◌*◌, if◌then◌else◌};
+ghost use Rattle.zq_site.specs.Pause.{FIRST_PAUSE, longer_pause};
+
+use std::marker::Model;
+use std::time::Duration;
+
+/// A pause before a peer is dialled again, 100 to 5,000 milliseconds.
+#[derive(Clone, Copy, Debug, PartialEq, Eq)]
+pub struct Pause {
+    millis: u64,
+}
+
+impl Model for Pause {
+    ghost use Rattle.std.specs.Prelude.{ℕ};
+    ghost use Rattle.zq_site.specs.Pause.{IsPause};
+
+    ghost Value = { ℕ };
+
+    ghost view = { λ p. p.millis };
+
+    ghost invariant = { λ p. IsPause p.millis };
+
+    ghost inverse = { λ millis. record { millis = millis } };
+}
+
+impl Pause {
+    /// The pause after a link that was up, or before any: 100 milliseconds.
+    pub fn first() -> Pause
+        ensures { result ≡ FIRST_PAUSE }
+    {
+        Pause { millis: 100 }
+    }
+
+    /// The pause after one more failure: twice this one, at most 5,000 milliseconds.
+    pub fn longer(self) -> Pause
+        ensures { result ≡ longer_pause self }
+    {
+        Pause {
+            millis: (2 * self.millis).min(5_000),
+        }
+    }
+
+    /// Its length.
+    pub fn duration(self) -> Duration
+        ensures { as_nanos result ≡ self * 1_000_000 }
+    {
+        Duration::from_millis(self.millis)
+    }
+}
+
+/// The pause after an attempt: the first one where the peer was welcome, and else a longer one.
+pub fn pause_after(pause: Pause, welcome: bool) -> Pause
+    ensures { result ≡ (if welcome then FIRST_PAUSE else longer_pause pause) }
+{
+    if welcome {
+        Pause::first()
+    } else {
+        pause.longer()
+    }
+}

@@ -1,0 +1,132 @@
+//! What hears a peer.
+
+ghost use Rattle.std.specs.Io.KnownBytes.{Consumes};
+ghost use Rattle.std.specs.Prelude.{IfErr, IfOk, IfSome, List, OnErr, [], ℕ, ◌≡◌, ◌≢◌};
+ghost use Rattle.zq_site.specs.Heard.{AreHeard, IsOfStream, end_of};
+ghost use Rattle.zq_wire.specs.StreamLaws.{given_by};
+ghost use Rattle.zq_wire.specs.Stream.{answered, frames_in};
+
+use crate::loss::Loss;
+use crate::times::{MOST_FRAME, PIECE};
+use std::alloc::Global;
+use std::io::{ErrorKind, Read};
+use std::sync::Wait;
+use zq_dots::SiteNo;
+use zq_peers::Mailbox;
+use zq_wire::{Reader, StreamError};
+
+/// What hears frames.
+pub trait Hear {
+    /// What stands before, the frame's bytes, and what stands after.
+    ghost hears: { Self → List ℕ → Self → Type 0 };
+
+    /// Hears a frame.
+    fn hear(&mut self, frame: Vec<u8>)
+        ensures { hears self.old frame.items self.new };
+}
+
+/// Gives the frames of a peer to the site's mailbox.
+#[derive(Drop)]
+pub struct Ear<'a, R: Wait> {
+    pub rt: &'a R,
+    pub mailbox: &'a Mailbox,
+    pub peer: SiteNo,
+}
+
+impl<R: Wait> Hear for Ear<'_, R> {
+    ghost use Rattle.std.specs.Prelude.{◌≡◌};
+
+    ghost hears = { λ old frame new. new.peer ≡ old.peer };
+
+    fn hear(&mut self, frame: Vec<u8>) {
+        // Where there is no memory it is lost, and the peer's next Have makes up for it.
+        let _ = self.mailbox.give(self.rt, self.peer, frame);
+    }
+}
+
+/// Reads the frames of a peer, which begin with these bytes, and has them heard in their order, until the link ends. It
+/// says why.
+pub fn read_link<W: Wait, R: Read, H: Hear>(
+    rt: &W,
+    alloc: Global,
+    source: &mut R,
+    ear: &mut H,
+    first: &[u8],
+) -> Loss {
+    let mut reader = Reader::new(alloc, MOST_FRAME);
+    if let Err(loss) = hear_on(ear, reader.feed(alloc, first)) {
+        return loss;
+    }
+    let Ok(mut piece) = vec![in alloc; 0u8; PIECE] else {
+        return Loss::NoMemory;
+    };
+    for _ in rt.forever() {
+        let fed = match read_piece(source, &mut piece) {
+            Ok(bytes) => reader.feed(alloc, bytes),
+            Err(loss) => return loss,
+        };
+        if let Err(loss) = hear_on(ear, fed) {
+            return loss;
+        }
+    }
+    unreachable!()
+}
+
+/// The bytes that come next. There may be none where a signal came.
+fn read_piece<'a, R: Read>(source: &mut R, piece: &'a mut [u8]) -> Result<&'a [u8], Loss>
+    ensures read { IfOk result
+        (λ bytes. Consumes (R.remaining source.old) (R.remaining source.new) bytes.now) }
+    ensures ended { IfErr result IsOfStream }
+    ensures none { OnErr result (Consumes (R.remaining source.old) (R.remaining source.new) []) }
+{
+    match source.read(piece) {
+        Ok(0) => Err(Loss::Closed),
+        Ok(count) => Ok(&piece[..count]),
+        Err(error) => match stopped_by(error.kind()) {
+            Some(loss) => Err(loss),
+            None => Ok(&[]),
+        },
+    }
+}
+
+/// Why a link ends whose stream failed so, if it does: a signal ends nothing.
+fn stopped_by(kind: ErrorKind) -> Option<Loss>
+    ensures signal { kind ≡ ErrorKind.Interrupted → result ≡ None }
+    ensures silent { kind ≡ ErrorKind.WouldBlock → result ≡ Some Loss.Silent }
+    ensures broken { kind ≢ ErrorKind.Interrupted → kind ≢ ErrorKind.WouldBlock
+        → result ≡ Some Loss.Broken }
+    ensures stream { IfSome result IsOfStream }
+{
+    match kind {
+        ErrorKind::Interrupted => None,
+        ErrorKind::WouldBlock => Some(Loss::Silent),
+        _ => Some(Loss::Broken),
+    }
+}
+
+/// Has the frames heard that end in a piece, in their order, and says why the link ends, if it does: the frames before a
+/// fault are heard.
+fn hear_on<H: Hear>(ear: &mut H, fed: Result<Vec<Vec<u8>>, StreamError>) -> Result<(), Loss>
+    ensures heard { AreHeard H.hears ear.old ear.new (given_by (answered fed)) }
+    ensures ended { result ≡ end_of (answered fed) }
+{
+    match fed {
+        Ok(frames) => {
+            hear_all(ear, frames);
+            Ok(())
+        }
+        Err(StreamError { fault, before }) => {
+            hear_all(ear, before);
+            Err(Loss::from(fault))
+        }
+    }
+}
+
+/// Has the frames heard in their order.
+fn hear_all<H: Hear>(ear: &mut H, frames: Vec<Vec<u8>>)
+    ensures { AreHeard H.hears ear.old ear.new (frames_in frames) }
+{
+    for frame in frames {
+        ear.hear(frame);
+    }
+}

@@ -1,0 +1,122 @@
+//! Serving a site.
+
+ghost use Rattle.std.specs.Net.Socket.{socket_ip, socket_port};
+ghost use Rattle.std.specs.Prelude.{◌≡◌};
+
+use crate::announcing::announce;
+use crate::halt::Halt;
+use crate::peer_links::{dialers_of, open_lines, peers_of};
+use crate::peer_listener::PeerListener;
+use crate::running::{Seeds, run_site};
+use crate::shared::Shared;
+use log::Log;
+use std::alloc::Global;
+use std::io::Write;
+use std::net::{Net, SocketAddr, TcpListener, TcpStream};
+use std::random::RandomSource;
+use std::sync::Wait;
+use std::thread::Threads;
+use std::time::Clock;
+use zq_peers::Mailbox;
+use zq_posheap::Seeded;
+use zq_serve::{
+    ServeFault, SiteOptions, SiteThreads, draw_hasher, listen, most_waiting, open_site,
+};
+use zq_settings::SiteSettings;
+
+/// Serves the site of the settings in this process: `workers` connections of its port at once, the others as these end.
+/// When it listens on its port and for its peers it writes `site N port P peers A` to `out`, and only then accepts. It
+/// ends when the port has accepted and served as many connections as `connections` says.
+///
+/// It dials its peers of a smaller number, and those of a greater number dial it; after a break a peer is dialled again,
+/// after a pause that doubles from 100 milliseconds to 5 seconds. A peer that is not expected, has another number of heaps
+/// or another rule, or does not know the secret, is let go. After each call of a connection the peers are told what the
+/// site has, and those that lack something are sent it. A link over which nothing came for 20 seconds is given up.
+///
+/// What goes wrong at a connection, with a peer or on a link ends that alone, and is warned of in the log.
+/// The log's own handle does not connect within a time, so the net is passed beside it.
+///
+/// # Errors
+///
+/// `Device` or `NoMemory`, before any connection was accepted.
+pub fn serve_site<N, L, W>(
+    net: &N,
+    log: &L,
+    alloc: Global,
+    settings: &SiteSettings,
+    out: &mut W,
+) -> Result<(), ServeFault>
+where
+    N: Net<Listener = TcpListener, Stream = TcpStream> + Sync,
+    L: Log + RandomSource + Clock + Threads + Wait + Sync,
+    W: Write,
+{
+    let hasher = draw_hasher(log)?;
+    let doors = PeerListener::new(listen(net, settings.listen)?);
+    let crew = open_crew(net, alloc, settings, hasher)?;
+    let lines = open_lines(alloc, settings)?;
+    let dialers = dialers_of(alloc, settings)?;
+    let mailbox = open_mailbox(alloc, settings)?;
+    announce(settings, out)?;
+    let halt = Halt::new();
+    let shared = Shared {
+        alloc,
+        settings,
+        lines: &lines,
+        dialers: &dialers,
+        mailbox: &mailbox,
+        halt: &halt,
+    };
+    let seeds = Seeds {
+        hasher,
+        draws: settings.seed.value(),
+    };
+    run_site(net, log, shared, &doors, crew, seeds)
+}
+
+/// Listens on the port of the site's clients, and gives what works for the site.
+fn open_crew<R: Net<Listener = TcpListener, Stream = TcpStream>>(
+    net: &R,
+    alloc: Global,
+    settings: &SiteSettings,
+    hasher: Seeded,
+) -> Result<SiteThreads, ServeFault> {
+    let plan = plan_of(settings);
+    let address = clients_address(settings);
+    let mut crew = SiteThreads::new(alloc);
+    let peers = peers_of(alloc, settings)?;
+    open_site(net, alloc, &plan, address, peers, hasher, &mut crew)?;
+    Ok(crew)
+}
+
+/// How the site is served.
+fn plan_of(settings: &SiteSettings) -> SiteOptions
+    ensures number { result.number ≡ settings.now.site }
+    ensures heaps { result.heaps ≡ settings.now.heaps }
+    ensures rule { result.rule ≡ settings.now.rule }
+    ensures workers { result.workers ≡ settings.now.workers }
+    ensures connections { result.connections ≡ settings.now.connections }
+{
+    SiteOptions {
+        number: settings.site,
+        heaps: settings.heaps,
+        rule: settings.rule,
+        workers: settings.workers,
+        connections: settings.connections,
+    }
+}
+
+/// Where clients connect: the port of the settings at the address of `bind`.
+fn clients_address(settings: &SiteSettings) -> SocketAddr
+    ensures ip { socket_ip result ≡ settings.now.bind }
+    ensures port { socket_port result ≡ settings.now.port }
+{
+    SocketAddr::new(settings.bind, settings.port.value() as u16)
+}
+
+/// Where frames wait for the site's link thread.
+fn open_mailbox(alloc: Global, settings: &SiteSettings) -> Result<Mailbox, ServeFault> {
+    let peers = settings.peers.as_slice().len();
+    let mailbox = Mailbox::new(alloc, most_waiting(peers, settings.heaps))?;
+    Ok(mailbox)
+}

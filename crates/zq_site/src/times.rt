@@ -1,0 +1,59 @@
+//! How long things take at most, and how large a frame is.
+
+ghost use Rattle.std.specs.Duration.{as_nanos};
+ghost use Rattle.std.specs.Prelude.{◌≡◌};
+ghost use Rattle.zq_site.specs.Times as wanted;
+
+use std::time::Duration;
+
+/// After how many seconds the site tells its peers what it has, where nobody calls it.
+const TELLING: u64 = 5;
+
+/// How many seconds nothing may come over a link.
+const SILENCE: u64 = 20;
+
+// A peer tells what it has four times before it is silent.
+const _: () = prove!(4 * TELLING <= SILENCE);
+
+/// How long a dialled peer may take to accept: 5 seconds.
+pub fn connecting() -> Duration
+    ensures { as_nanos result ≡ wanted.connecting }
+{
+    Duration::from_secs(5)
+}
+
+/// How long a peer may take to open a link: 5 seconds.
+pub fn opening() -> Duration
+    ensures { as_nanos result ≡ wanted.opening }
+{
+    Duration::from_secs(5)
+}
+
+/// After what time the site tells its peers what it has, where nobody calls it: 5 seconds.
+pub fn telling() -> Duration
+    ensures { as_nanos result ≡ wanted.telling }
+{
+    Duration::from_secs(TELLING)
+}
+
+/// How long nothing may come over a link: 20 seconds.
+pub fn silence() -> Duration
+    ensures { as_nanos result ≡ wanted.silence }
+{
+    Duration::from_secs(SILENCE)
+}
+
+/// How long to wait where a connection could not be accepted: 100 milliseconds.
+pub fn not_accepted() -> Duration
+    ensures { as_nanos result ≡ wanted.not_accepted }
+{
+    Duration::from_millis(100)
+}
+
+/// The most bytes of a frame: a gibibyte. A state has some forty bytes and a member's text for each addition, so that
+/// some ten million members of a heap fit. A greater number is no length that a peer would send: it would cost the memory
+/// of as many bytes as come.
+pub const MOST_FRAME: u32 = 1 << 30;
+
+/// How many bytes are read at once.
+pub const PIECE: usize = 65_536;

@@ -1,0 +1,97 @@
+//! What is said of peers and links.
+
+ghost use Rattle.std.specs.Prelude.{◌≡◌};
+ghost use Rattle.zq_site.specs.Words.{is_memory, words_of_node, words_of_unheard};
+
+use crate::loss::Loss;
+use std::fmt;
+use zq_delta::OpFault;
+use zq_dots::SiteNo;
+use zq_links::FrameFault;
+use zq_merge::StateFault;
+use zq_node::NodeFault;
+use zq_peers::Unheard;
+use zq_wire::Refusal;
+
+/// What a site warns of.
+#[derive(Clone, Copy)]
+pub enum Warning {
+    /// A peer was not welcome.
+    Refuses(Refusal),
+    /// The link to this peer is down.
+    Loses(SiteNo, Loss),
+    /// A frame of this peer was not heard.
+    Drops(SiteNo, Unheard),
+    /// A frame for this peer is too long to be sent.
+    Keeps(SiteNo),
+}
+
+/// The words of a site's warning.
+#[derive(Clone, Copy)]
+pub struct Words {
+    /// The site.
+    pub site: SiteNo,
+    /// What it warns of.
+    pub warning: Warning,
+}
+
+impl fmt::Display for Words {
+    /// The warning, on one line.
+    fn fmt<W: fmt::Write>(&self, f: &mut fmt::Formatter<W>) -> fmt::Result {
+        let site = self.site.value();
+        match self.warning {
+            Warning::Refuses(refusal) => write!(f, "site {site} refuses a peer: {refusal}"),
+            Warning::Loses(peer, loss) => {
+                let peer = peer.value();
+                write!(f, "site {site} lost its link to site {peer}: {loss}")
+            }
+            Warning::Drops(peer, why) => {
+                let peer = peer.value();
+                let why = unheard_words(why);
+                write!(f, "site {site} drops a frame of site {peer}: {why}")
+            }
+            Warning::Keeps(peer) => {
+                let peer = peer.value();
+                write!(
+                    f,
+                    "site {site} has a frame for site {peer} that is too long"
+                )
+            }
+        }
+    }
+}
+
+/// Why a frame was not heard, in words.
+fn unheard_words(why: Unheard) -> &'static str
+    ensures { result.now ≡ words_of_unheard why }
+{
+    match why {
+        Unheard::Unread(fault) if wants_memory(fault) => "there was no memory for it",
+        Unheard::Unread(_) => "it is no frame",
+        Unheard::Refused(fault) => refused_words(fault),
+    }
+}
+
+/// Whether memory was refused for the frame, or for a part of it.
+fn wants_memory(fault: FrameFault) -> bool
+    ensures { result ≡ is_memory fault }
+{
+    matches!(
+        fault,
+        FrameFault::NoMemory
+            | FrameFault::Op(_, OpFault::NoMemory)
+            | FrameFault::State(StateFault::NoMemory)
+    )
+}
+
+/// Why a node refuses a frame, in words.
+fn refused_words(fault: NodeFault) -> &'static str
+    ensures { result.now ≡ words_of_node fault }
+{
+    match fault {
+        NodeFault::WrongHeap => "it names a heap that is not this site's",
+        NodeFault::WrongRule => "it has another rule",
+        NodeFault::Worn => "a number is at its last value",
+        NodeFault::NoMemory => "there was no memory for it",
+    }
+}

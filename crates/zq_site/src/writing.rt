@@ -1,0 +1,68 @@
+//! What sends frames to a peer.
+
+ghost use Rattle.std.specs.Prelude.{length, ◌<◌, ◌^◌};
+ghost use Rattle.zq_site.specs.Written.{IsWritten};
+
+use crate::loss::Loss;
+use crate::peer_link::{PeerLink, Turn};
+use crate::shared::Shared;
+use crate::times::MOST_FRAME;
+use crate::warning::Warning;
+use crate::warning_log::warn_of;
+use log::Log;
+use std::alloc::Global;
+use std::io::Write;
+use std::net::TcpStream;
+use std::sync::Wait;
+use zq_wire::write_framed;
+
+/// Sends a peer the frames that wait for it, until the site ends. Where a write fails the link is down. A frame for which
+/// there was no memory is dropped.
+pub fn write_line<L: Log + Wait>(log: &L, shared: Shared<'_>, line: &PeerLink) {
+    for _ in log.forever() {
+        let Some(turn) = line.next(log) else {
+            break;
+        };
+        write_turn(log, shared, line, &turn);
+    }
+}
+
+/// Sends a frame over its link.
+fn write_turn<L: Log + Wait>(log: &L, shared: Shared<'_>, line: &PeerLink, turn: &Turn) {
+    let (site, peer) = (shared.settings.site, line.peer().site);
+    if turn.frame.len() > MOST_FRAME as usize {
+        warn_of(log, site, Warning::Keeps(peer));
+        return;
+    }
+    let mut stream: &TcpStream = &turn.stream;
+    let written = write_frame(shared.alloc, &mut stream, &turn.frame);
+    if written == Written::Broken && line.lower(log, turn.number) {
+        warn_of(log, site, Warning::Loses(peer, Loss::Broken));
+    }
+}
+
+/// What became of a frame.
+#[derive(Clone, Copy, Debug, PartialEq, Eq)]
+enum Written {
+    /// It was written.
+    Whole,
+    /// There was no memory for it, and nothing was written.
+    Dropped,
+    /// The stream failed, and may have a part of it.
+    Broken,
+}
+
+/// Writes a frame behind its length.
+fn write_frame<W: Write>(alloc: Global, writer: &mut W, frame: &[u8]) -> Written
+    requires { length frame.now < 2 ^ 32 }
+    ensures { IsWritten (W.contents writer.old) (W.contents writer.new) frame.now result }
+{
+    let mut bytes = Vec::new(alloc);
+    if write_framed(&mut bytes, frame).is_err() {
+        return Written::Dropped;
+    }
+    match writer.write_all(&bytes) {
+        Ok(()) => Written::Whole,
+        Err(_) => Written::Broken,
+    }
+}

@@ -1,9 +1,0 @@
-//! The heaps that a call holds, their type.
-
-use crate::kept::Kept;
-use zq_ticketlock::Held;
-
-/// The heaps that a call holds, a stack with the lowest heap on top. It has no `Drop`, since each heap is put home.
-pub(crate) struct Holds {
-    pub(crate) helds: Vec<Held<Kept>>,
-}

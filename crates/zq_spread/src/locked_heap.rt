@@ -1,0 +1,95 @@
+//! What the lock of a heap keeps.
+ghost use Rattle.std.specs.Prelude.{◌≡◌, ◌≤◌, []};
+ghost use Rattle.zq_model.specs.Books.{Book as Books};
+ghost use Rattle.zq_model.specs.Reach.{IsWorked};
+ghost use Rattle.zq_journal.specs.Books.{LAST_STAMP, state_of};
+ghost use Rattle.zq_shard.specs.Shard.{IsOfHeap, IsSameHeap};
+ghost use Rattle.zq_spread.specs.Answers.{HasWorked, IsCopyOf, IsMerged, IsSince, IsTaken, read_of};
+
+use crate::faults::ReadFault;
+use std::alloc::Global;
+use zq_dots::{Op, Vector};
+use zq_journal::{Book, MergeFault, Since, TakeFault};
+use zq_model::working;
+use zq_shard::{Shard, Taken};
+use zq_tally::Total;
+use zq_ticketlock::Keeps;
+
+/// The last stamp.
+pub(crate) const LAST: u64 = 4_611_686_018_427_387_904;
+
+/// The book of a heap, and how many records and merges the passes have made in it.
+#[derive(Drop)]
+pub struct LockedHeap {
+    pub(crate) book: Book,
+    pub(crate) total: Total,
+}
+
+impl Keeps for LockedHeap {
+    ghost use Rattle.zq_spread.specs.LockedHeaps.{Follows, IsAtHome, follows_further, follows_itself};
+
+    ghost holds = { IsAtHome };
+
+    ghost follows = { Follows };
+
+    ghost reflexive = { follows_itself };
+
+    ghost transitive = { follows_further };
+}
+
+impl LockedHeap {
+    /// Cuts the tail to its limits, and raises the stamp to that of a call.
+    pub(crate) fn begin(&mut self, stamp: u64)
+        requires stamp { self.old.book.stamp ≤ stamp }
+        requires bounded { stamp ≤ LAST_STAMP }
+        ensures total { self.new.total ≡ self.old.total }
+        ensures worked { IsWorked self.new.book self.old.book stamp [] }
+    {
+        // A call's work begins with a cut and a stamp.
+        working();
+        self.book.cut();
+        self.book.touch(stamp);
+    }
+
+    /// Takes an operation of the heap, as its book does.
+    pub(crate) fn take(&mut self, alloc: Global, stamp: u64, op: &Op) -> Result<Taken, TakeFault>
+        requires stamp { self.old.book.stamp ≤ stamp }
+        requires bounded { stamp ≤ LAST_STAMP }
+        requires of_heap { IsOfHeap (state_of self.old.book) op.now }
+        ensures total { self.new.total ≡ self.old.total }
+        ensures worked { (a : Books) → IsWorked self.old.book a stamp [] → HasWorked (IsTaken stamp op.now result) self.new.book a stamp }
+    {
+        self.book.take(alloc, stamp, op)
+    }
+
+    /// Takes all that another heap of its number and its rule has, as its book does.
+    pub(crate) fn merge(
+        &mut self,
+        alloc: Global,
+        stamp: u64,
+        other: &Shard,
+    ) -> Result<(), MergeFault>
+        requires stamp { self.old.book.stamp ≤ stamp }
+        requires bounded { stamp ≤ LAST_STAMP }
+        requires same_heap { IsSameHeap (state_of self.old.book) other.now }
+        requires same_rule { self.old.book.rule ≡ other.now.rule }
+        ensures total { self.new.total ≡ self.old.total }
+        ensures worked { (a : Books) → IsWorked self.old.book a stamp [] → HasWorked (IsMerged stamp other.now result) self.new.book a stamp }
+    {
+        self.book.merge(alloc, stamp, other)
+    }
+
+    /// A copy of the heap.
+    pub(crate) fn copy(&self, alloc: Global) -> Result<Shard, ReadFault>
+        ensures { read_of IsCopyOf result self.now.book }
+    {
+        Ok(self.book.shard().copy(alloc)?)
+    }
+
+    /// What a peer of this vector lacks, as its book says.
+    pub(crate) fn since(&self, alloc: Global, vector: &Vector) -> Result<Since, ReadFault>
+        ensures { read_of (IsSince vector.now) result self.now.book }
+    {
+        Ok(self.book.since(alloc, vector)?)
+    }
+}

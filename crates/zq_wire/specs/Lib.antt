@@ -1,0 +1,16 @@
+pub mod Framed
+pub mod Stream
+pub mod Memory
+pub mod Unfinished
+pub mod StreamLaws
+pub mod Topic
+pub mod Outbox
+pub mod Inside
+pub mod Runs
+pub mod Hmac
+pub mod Said
+pub mod Reading
+pub mod Opened
+pub mod GreetingLaws
+pub mod Words
+pub mod Links
