@@ -1,5 +1,8 @@
 //! Tests of sessions, and of the servers of one heap and of a site.
 
+mod asking;
+mod gathered;
+mod long;
 mod passing;
 mod plain;
 mod session;

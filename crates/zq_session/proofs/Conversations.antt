@@ -3,11 +3,11 @@ use Rattle.std.proofs.Common.{◌≡◌, ◌≤◌, ℕ, Option, Some, None, Lis
 use Rattle.std.specs.Io.KnownBytes.{Appends, Consumes}
 use Rattle.zq_resp.specs.Reply.{joined}
 use Rattle.zq_session.proofs.Served.{Stands, breaks-off, goes-no-further, serves-nothing, serves-so-far, serves-to-end, stands-first, stands-on}
-use Rattle.zq_session.proofs.Talks.{heard-append, heard-turn, said-append, said-turn, read-write-did, read-write-ended, talks-join, with_turn}
+use Rattle.zq_session.proofs.Talks.{gathered-end, gathered-failed, gathered-turn, heard-append, heard-turn, last-turn, said-append, said-turn, read-write-did, read-write-ended, talks-join, with_turn}
 use Rattle.zq_session.specs.Conversation.{InTime, IsConversation, IsPaid, IsTalk}
 use Rattle.zq_session.specs.Serving.{EndsWith, ServesPiece}
 use Rattle.zq_session.specs.Session.{IsReadOff, Relation, Serves}
-use Rattle.zq_session.specs.Steps.{Does, Failed, Heard, Said, Says, Step, ReadsAndWrites, Talks, heard, reads, said}
+use Rattle.zq_session.specs.Steps.{AreGathered, Does, Failed, Heard, Said, Says, Step, ReadsAndWrites, Talks, heard, reads, said}
 use Rattle.zq_session.specs.declared.outcome.End.{End}
 use Rattle.zq_session.specs.declared.outcome.End.TheVariants.{Clean, Inside, Protocol}
 use Rattle.zq_session.specs.declared.outcome.SessionFault.{SessionFault}
@@ -34,15 +34,20 @@ module _ {E S : Type 0} (does : Does E) (answers : Relation S) (first : E) (old 
     pub talks : Talks does first steps last
     pub stands : Stands answers old new (heard steps) (said steps) had
     pub in_time : InTime answers old [] steps
+    pub gathered : AreGathered steps
 
   pub under-way-first : IsUnderWay first old [] []
-  under-way-first = record { talks = refl; stands = stands-first answers old; in_time = tt }
+  under-way-first = record { talks = refl; stands = stands-first answers old; in_time = tt; gathered = tt }
 
   paid : (last : E) (new : S) (steps : List Step) (had : List ℕ) → IsUnderWay last new steps had → IsPaid answers old steps
   paid last new steps had u = (u.stands.all, had, new, u.stands.splits, u.stands.answered)
 
-  turn-talks : (a b c : E) (mid : S) (steps : List Step) (had piece bytes : List ℕ) → IsUnderWay a mid steps had → does a (Heard piece) b → (p : Says does b c bytes) → Talks does first (with_turn steps piece p.0) c
-  turn-talks a b c mid steps had piece bytes u step p = talks-join does first a c steps (Heard piece ∷ map Said p.0) u.talks (b, step, p.1)
+  -- what was written, part by part
+  abbrev pub parts_in : {b c : E} {bytes : List ℕ} → Says does b c bytes → List (List ℕ)
+  parts_in p = p.0 ++ p.1 ∷ []
+
+  turn-talks : (a b c : E) (mid : S) (steps : List Step) (had piece bytes : List ℕ) → IsUnderWay a mid steps had → does a (Heard piece) b → (p : Says does b c bytes) → Talks does first (with_turn steps piece (parts_in p)) c
+  turn-talks a b c mid steps had piece bytes u step p = talks-join does first a c steps (Heard piece ∷ map Said (parts_in p)) u.talks (b, step, p.2)
 
   turn-in-time : (a : E) (mid : S) (steps : List Step) (had piece : List ℕ) (parts : List (List ℕ)) → IsUnderWay a mid steps had → InTime answers old [] (with_turn steps piece parts)
   turn-in-time a mid steps had piece parts u =
@@ -55,15 +60,16 @@ module _ {E S : Type 0} (does : Does E) (answers : Relation S) (first : E) (old 
       (subst (λ written. P (heard steps ++ piece) written) (sym (said-turn steps piece bytes parts is)) p)
 
   pub under-way-on : (a b c : E) (mid new : S) (steps : List Step) (had piece bytes : List ℕ) (kept : Option (List ℕ)) → IsUnderWay a mid steps had → does a (Heard piece) b → (p : Says does b c bytes)
-      → ServesPiece answers mid new had piece kept bytes (Ok More) → (has : List ℕ) × (kept ≡ Some has) × IsUnderWay c new (with_turn steps piece p.0) has
+      → ServesPiece answers mid new had piece kept bytes (Ok More) → (has : List ℕ) × (kept ≡ Some has) × IsUnderWay c new (with_turn steps piece (parts_in p)) has
   under-way-on a b c mid new steps had piece bytes kept u step p served =
       let on = stands-on answers old mid new (heard steps) (said steps) had piece bytes kept u.stands served in (
         on.0,
         on.1,
         record {
           talks = turn-talks a b c mid steps had piece bytes u step p;
-          stands = at_turn (λ text written. Stands answers old new text written on.0) steps piece bytes p.0 p.2 on.2;
-          in_time = turn-in-time a mid steps had piece p.0 u;
+          stands = at_turn (λ text written. Stands answers old new text written on.0) steps piece bytes (parts_in p) p.3 on.2;
+          in_time = turn-in-time a mid steps had piece (parts_in p) u;
+          gathered = gathered-turn steps piece p.1 p.0 u.gathered p.4;
         },
       )
 
@@ -71,11 +77,12 @@ module _ {E S : Type 0} (does : Does E) (answers : Relation S) (first : E) (old 
   pub breaks-in : (a b c : E) (mid new : S) (steps : List Step) (had piece bytes : List ℕ) (kept : Option (List ℕ)) → IsUnderWay a mid steps had → does a (Heard piece) b → Says does b c bytes
       → ServesPiece answers mid new had piece kept bytes (Ok Broken) → IsTalk does answers first c old new (Ok (Some Protocol))
   breaks-in a b c mid new steps had piece bytes kept u step p served = record {
-    steps = with_turn steps piece p.0;
+    steps = with_turn steps piece (parts_in p);
     talks = turn-talks a b c mid steps had piece bytes u step p;
-    serves = at_turn (λ text written. Serves answers old new text written (Ok Protocol)) steps piece bytes p.0 p.2
+    serves = at_turn (λ text written. Serves answers old new text written (Ok Protocol)) steps piece bytes (parts_in p) p.3
         (breaks-off answers old mid new (heard steps) (said steps) had piece bytes kept u.stands served);
-    in_time = turn-in-time a mid steps had piece p.0 u;
+    in_time = turn-in-time a mid steps had piece (parts_in p) u;
+    gathered = gathered-turn steps piece p.1 p.0 u.gathered p.4;
     stops_by = tt;
   }
 
@@ -84,19 +91,21 @@ module _ {E S : Type 0} (does : Does E) (answers : Relation S) (first : E) (old 
       → length piece ≤ 65536 → ServesPiece answers mid new had piece kept bytes (Err why) → IsTalk does answers first c old new (Err why)
   stops-in stop.Read a b c mid new steps had piece bytes kept u step p small served = absurd served
   stops-in stop.Write a b c mid new steps had piece bytes kept u step p small served = record {
-    steps = with_turn steps piece p.0;
+    steps = with_turn steps piece (parts_in p);
     talks = turn-talks a b c mid steps had piece bytes u step p;
-    serves = at_turn (λ text written. Serves answers old new text written (Err stop.Write)) steps piece bytes p.0 p.2
+    serves = at_turn (λ text written. Serves answers old new text written (Err stop.Write)) steps piece bytes (parts_in p) p.3
         (goes-no-further answers old mid new (heard steps) (said steps) had piece bytes kept stop.Write u.stands small served);
-    in_time = turn-in-time a mid steps had piece p.0 u;
-    stops_by = tt;
+    in_time = turn-in-time a mid steps had piece (parts_in p) u;
+    gathered = gathered-turn steps piece p.1 p.0 u.gathered p.4;
+    stops_by = (p.1, (with_turn steps piece p.0, last-turn steps piece p.1 p.0));
   }
   stops-in stop.NoMemory a b c mid new steps had piece bytes kept u step p small served = record {
-    steps = with_turn steps piece p.0;
+    steps = with_turn steps piece (parts_in p);
     talks = turn-talks a b c mid steps had piece bytes u step p;
-    serves = at_turn (λ text written. Serves answers old new text written (Err stop.NoMemory)) steps piece bytes p.0 p.2
+    serves = at_turn (λ text written. Serves answers old new text written (Err stop.NoMemory)) steps piece bytes (parts_in p) p.3
         (goes-no-further answers old mid new (heard steps) (said steps) had piece bytes kept stop.NoMemory u.stands small served);
-    in_time = turn-in-time a mid steps had piece p.0 u;
+    in_time = turn-in-time a mid steps had piece (parts_in p) u;
+    gathered = gathered-turn steps piece p.1 p.0 u.gathered p.4;
     stops_by = tt;
   }
 
@@ -114,6 +123,7 @@ module _ {E S : Type 0} (does : Does E) (answers : Relation S) (first : E) (old 
     talks = talks-join does first a b steps (Failed ∷ []) u.talks (b, step, refl);
     serves = at_last (λ text written. Serves answers old new text written (Err stop.Read)) steps Failed refl refl (serves-so-far answers old new (heard steps) (said steps) had u.stands);
     in_time = in-time-join answers old [] steps (Failed ∷ []) u.in_time (paid a new steps had u, tt);
+    gathered = gathered-failed steps u.gathered;
     stops_by = (steps, refl);
   }
 
@@ -124,6 +134,7 @@ module _ {E S : Type 0} (does : Does E) (answers : Relation S) (first : E) (old 
     talks = talks-join does first a b steps (Heard [] ∷ []) u.talks (b, step, refl);
     serves = at_last (λ text written. Serves answers old new text written (Ok Clean)) steps (Heard []) refl refl (serves-to-end answers old new (heard steps) (said steps) had Clean u.stands ends);
     in_time = in-time-join answers old [] steps (Heard [] ∷ []) u.in_time (paid a new steps had u, tt);
+    gathered = gathered-end steps u.gathered;
     stops_by = (steps, refl);
   }
   ends-read Inside a b new steps had u step ends = record {
@@ -131,6 +142,7 @@ module _ {E S : Type 0} (does : Does E) (answers : Relation S) (first : E) (old 
     talks = talks-join does first a b steps (Heard [] ∷ []) u.talks (b, step, refl);
     serves = at_last (λ text written. Serves answers old new text written (Ok Inside)) steps (Heard []) refl refl (serves-to-end answers old new (heard steps) (said steps) had Inside u.stands ends);
     in_time = in-time-join answers old [] steps (Heard [] ∷ []) u.in_time (paid a new steps had u, tt);
+    gathered = gathered-end steps u.gathered;
     stops_by = (steps, refl);
   }
   ends-read Protocol a b new steps had u step ends = absurd ends
@@ -142,24 +154,25 @@ module _ {E S : Type 0} (does : Does E) (answers : Relation S) (first : E) (old 
     talks = u.talks;
     serves = serves-so-far answers old new (heard steps) (said steps) had u.stands;
     in_time = u.in_time;
+    gathered = u.gathered;
     stops_by = all;
   }
 
   -- how a session ends by it
 
   pub conversed : (end : End) (last : E) (new : S) → IsTalk does answers first last old new (Ok (Some end)) → IsConversation does answers first last old new (Ok end)
-  conversed end last new t = record { steps = t.steps; talks = t.talks; serves = t.serves; in_time = t.in_time; ends_by = t.stops_by }
+  conversed end last new t = record { steps = t.steps; talks = t.talks; serves = t.serves; in_time = t.in_time; gathered = t.gathered; ends_by = t.stops_by }
 
   pub conversed-out : (last : E) (new : S) → IsTalk does answers first last old new (Ok None) → IsConversation does answers first last old new (Err stop.Read)
-  conversed-out last new t = record { steps = t.steps; talks = t.talks; serves = t.serves; in_time = t.in_time; ends_by = inr t.stops_by }
+  conversed-out last new t = record { steps = t.steps; talks = t.talks; serves = t.serves; in_time = t.in_time; gathered = t.gathered; ends_by = inr t.stops_by }
 
   pub conversed-stopped : (why : SessionFault) (last : E) (new : S) → IsTalk does answers first last old new (Err why) → IsConversation does answers first last old new (Err why)
-  conversed-stopped stop.Read last new t = record { steps = t.steps; talks = t.talks; serves = t.serves; in_time = t.in_time; ends_by = inl t.stops_by }
-  conversed-stopped stop.Write last new t = record { steps = t.steps; talks = t.talks; serves = t.serves; in_time = t.in_time; ends_by = tt }
-  conversed-stopped stop.NoMemory last new t = record { steps = t.steps; talks = t.talks; serves = t.serves; in_time = t.in_time; ends_by = tt }
+  conversed-stopped stop.Read last new t = record { steps = t.steps; talks = t.talks; serves = t.serves; in_time = t.in_time; gathered = t.gathered; ends_by = inl t.stops_by }
+  conversed-stopped stop.Write last new t = record { steps = t.steps; talks = t.talks; serves = t.serves; in_time = t.in_time; gathered = t.gathered; ends_by = t.stops_by }
+  conversed-stopped stop.NoMemory last new t = record { steps = t.steps; talks = t.talks; serves = t.serves; in_time = t.in_time; gathered = t.gathered; ends_by = tt }
 
   pub conversed-none : IsConversation does answers first first old old (Err stop.NoMemory)
-  conversed-none = record { steps = []; talks = refl; serves = serves-nothing answers old; in_time = tt; ends_by = tt }
+  conversed-none = record { steps = []; talks = refl; serves = serves-nothing answers old; in_time = tt; gathered = tt; ends_by = tt }
 
 -- ---- over a reader and a writer
 

@@ -1,9 +1,9 @@
--- A session step by step: the replies to what was read are written before the next read.
+-- A session step by step: the replies to what was read are written before the next read, and many at once.
 use Rattle.std.specs.Prelude.{◌≡◌, ◌⊎◌, ℕ, List, [], ◌∷◌, ◌++◌, Option, None, Some, Result, Ok, Err}
 use Rattle.zq_resp.specs.Stream.{Requests, Splits, handed}
 use Rattle.zq_session.specs.Serving.{ServesAll}
 use Rattle.zq_session.specs.Session.{IsAnswered, Relation, Serves}
-use Rattle.zq_session.specs.Steps.{Does, Failed, Heard, Said, Step, Talks, heard, reads, said}
+use Rattle.zq_session.specs.Steps.{AreGathered, Does, Failed, Heard, Said, Step, Talks, heard, reads, said}
 use Rattle.zq_session.specs.declared.outcome.End.{End}
 use Rattle.zq_session.specs.declared.outcome.End.TheVariants.{Clean, Inside, Protocol}
 use Rattle.zq_session.specs.declared.outcome.SessionFault.{SessionFault}
@@ -25,13 +25,16 @@ InTime answers old before (Said bytes ∷ steps) = InTime answers old (before ++
 abbrev pub IsLast : Step → List Step → Type 0
 IsLast step steps = (front : List Step) × (steps ≡ front ++ step ∷ [])
 
--- The last read is what a session ends by: the input ended, or a read failed, or it was the last that a session makes.
+abbrev pub IsWrittenLast : List Step → Type 0
+IsWrittenLast steps = (bytes : List ℕ) × IsLast (Said bytes) steps
+
+-- What a session ends by: the input ended, or a read failed, or it was the last that a session makes, or a write failed.
 abbrev pub EndsBy : List Step → Result End SessionFault → Type 0
 EndsBy steps (Ok Clean) = IsLast (Heard []) steps
 EndsBy steps (Ok Inside) = IsLast (Heard []) steps
 EndsBy steps (Ok Protocol) = Unit {0}
 EndsBy steps (Err Read) = IsLast Failed steps ⊎ (reads steps ≡ 4611686018427387904)
-EndsBy steps (Err Write) = Unit {0}
+EndsBy steps (Err Write) = IsWrittenLast steps
 EndsBy steps (Err NoMemory) = Unit {0}
 
 -- A session: what it did, one step after the other.
@@ -40,6 +43,7 @@ pub record IsConversation {E S : Type 0} (does : Does E) (answers : Relation S) 
   pub talks : Talks does first steps last
   pub serves : Serves answers old new (heard steps) (said steps) result
   pub in_time : InTime answers old [] steps
+  pub gathered : AreGathered steps
   pub ends_by : EndsBy steps result
 
 -- the same, where it is not yet said what comes after the last read
@@ -47,7 +51,7 @@ abbrev pub StopsBy : List Step → Result (Option End) SessionFault → Type 0
 StopsBy steps (Ok (Some end)) = EndsBy steps (Ok end)
 StopsBy steps (Ok None) = reads steps ≡ 4611686018427387904
 StopsBy steps (Err Read) = IsLast Failed steps
-StopsBy steps (Err Write) = Unit {0}
+StopsBy steps (Err Write) = IsWrittenLast steps
 StopsBy steps (Err NoMemory) = Unit {0}
 
 pub record IsTalk {E S : Type 0} (does : Does E) (answers : Relation S) (first last : E) (old new : S) (result : Result (Option End) SessionFault) : Type 0 where
@@ -55,4 +59,5 @@ pub record IsTalk {E S : Type 0} (does : Does E) (answers : Relation S) (first l
   pub talks : Talks does first steps last
   pub serves : ServesAll answers old new (heard steps) (said steps) result
   pub in_time : InTime answers old [] steps
+  pub gathered : AreGathered steps
   pub stops_by : StopsBy steps result

@@ -1,5 +1,5 @@
 -- What a session does with the two ends of its peer, step by step.
-use Rattle.std.specs.Prelude.{◌≡◌, ℕ, ◌+◌, List, [], ◌∷◌, ◌++◌, map, Option}
+use Rattle.std.specs.Prelude.{◌≡◌, ◌≤◌, ℕ, ◌+◌, List, [], ◌∷◌, ◌++◌, length, map, Option}
 use Rattle.std.specs.Io.KnownBytes.{Appends, Consumes, IsAtEnd, Keeps}
 use Rattle.zq_resp.specs.Reply.{joined}
 
@@ -38,9 +38,36 @@ abbrev pub Talks : {S : Type 0} → Does S → S → List Step → S → Type 0
 Talks does old [] new = old ≡ new
 Talks {S} does old (step ∷ steps) new = (mid : S) × does old step mid × Talks does mid steps new
 
--- These bytes were written, in some parts, and nothing else was done.
+-- so many bytes are enough for a write of their own
+abbrev pub FULL : ℕ
+FULL = 65536
+
+abbrev pub AreFull : List (List ℕ) → Type 0
+AreFull [] = Unit {0}
+AreFull (part ∷ parts) = (FULL ≤ length part) × AreFull parts
+
+-- These bytes were written, in full parts, and nothing else was done.
+abbrev pub Fills : {S : Type 0} → Does S → S → S → List ℕ → Type 0
+Fills does old new bytes = (parts : List (List ℕ)) × Talks does old (map Said parts) new × (joined parts ≡ bytes) × AreFull parts
+
+-- These bytes were written, in full parts and a last one, and nothing else was done.
 abbrev pub Says : {S : Type 0} → Does S → S → S → List ℕ → Type 0
-Says does old new bytes = (parts : List (List ℕ)) × Talks does old (map Said parts) new × (joined parts ≡ bytes)
+Says does old new bytes =
+    (parts : List (List ℕ)) × (last : List ℕ) × Talks does old (map Said (parts ++ last ∷ [])) new × (joined (parts ++ last ∷ []) ≡ bytes) × AreFull parts
+
+-- What is written before these steps is full, where they begin with another write.
+abbrev pub IsFullBefore : List ℕ → List Step → Type 0
+IsFullBefore bytes [] = Unit {0}
+IsFullBefore bytes (Heard more ∷ steps) = Unit {0}
+IsFullBefore bytes (Failed ∷ steps) = Unit {0}
+IsFullBefore bytes (Said more ∷ steps) = FULL ≤ length bytes
+
+-- Of two writes with no read between them the first is full.
+abbrev pub AreGathered : List Step → Type 0
+AreGathered [] = Unit {0}
+AreGathered (Heard bytes ∷ steps) = AreGathered steps
+AreGathered (Failed ∷ steps) = AreGathered steps
+AreGathered (Said bytes ∷ steps) = IsFullBefore bytes steps × AreGathered steps
 
 -- A step of a reader and a writer, of which it is known what the reader has left and what the writer was given.
 abbrev pub ReadsAndWrites : {R W : Type 0} → (R → Option (List ℕ)) → (W → Option (List ℕ)) → R × W → Step → R × W → Type 0

@@ -1,7 +1,8 @@
 //! Answers to the requests of one piece of the input.
 
-ghost use Rattle.std.specs.Prelude.{◌≡◌, ◌++◌, ◌∷◌, ◌↔◌, [], IsTrue, List, MatchResult, ℕ, Some};
-ghost use Rattle.zq_resp.specs.Reply.{is_writable};
+ghost use Rattle.std.specs.Prelude.{◌≡◌, ◌++◌, ◌+◌, ◌<◌, ◌∷◌, ◌↔◌, [], IsErrOf, IsTrue, List, MatchResult, OnErr, length, ℕ, Some};
+ghost use Rattle.std.specs.Vec.{vec_capacity, vec_len};
+ghost use Rattle.zq_resp.specs.Reply.{is_writable, reply_bytes};
 ghost use Rattle.zq_resp.specs.declared.reply.Reply.{Reply};
 ghost use Rattle.zq_session.specs.Gathering.{Puts, held};
 ghost use Rattle.zq_session.specs.Session.{closing};
@@ -71,7 +72,7 @@ pub fn serve_piece<A: Answers, R, W, E: Ends<R, W>>(
     Ok(Served::More)
 }
 
-/// Answers a request.
+/// Answers a request. Memory is wanting only where there is no room for the reply behind what is gathered.
 fn answer_one<A: Answers, R, W, E: Ends<R, W>>(
     alloc: Global,
     answerer: &mut A,
@@ -81,19 +82,22 @@ fn answer_one<A: Answers, R, W, E: Ends<R, W>>(
     writer: &mut W,
     out: &mut Vec<u8>,
 ) -> Result<(), SessionFault>
-    ensures { (bytes : List ℕ)
+    ensures answered { (bytes : List ℕ)
         × AnswersAll A.answers answerer.old answerer.new (request.now ∷ []) bytes result
         × Puts E.does (held (reader.old, writer.old) out.old.items) (held (reader.new, writer.new) out.new.items) bytes result }
+    ensures full { IsErrOf result SessionFault.NoMemory → (reply : Reply) × A.answers answerer.old request.now reply answerer.new
+        × (vec_capacity out.old < vec_len out.old + length (reply_bytes reply)) }
 {
     let reply = answerer.answer(alloc, request);
     gather(ends, reader, writer, out, &reply)
 }
 
-/// Ends the input at a fault.
+/// Ends the input at a fault. One that closes the input finds no memory only where there is no room for the closing words.
 fn end(fault: FeedFault, out: &mut Vec<u8>) -> Result<Served, SessionFault>
-    ensures { MatchResult result
+    ensures ended { MatchResult result
         (λ served. IsBreak fault × (served ≡ Served.Broken) × (out.new.items ≡ out.old.items ++ closing))
         (λ stop. (stop ≡ SessionFault.NoMemory) × (out.new.items ≡ out.old.items)) }
+    ensures full { IsBreak fault → OnErr result (vec_capacity out.old < vec_len out.old + length closing) }
 {
     if breaks(fault) {
         close(out)
@@ -114,9 +118,10 @@ fn breaks(fault: FeedFault) -> bool
 
 // Puts the error that closes the session behind what is gathered.
 fn close(out: &mut Vec<u8>) -> Result<Served, SessionFault>
-    ensures { MatchResult result
+    ensures closed { MatchResult result
         (λ served. (served ≡ Served.Broken) × (out.new.items ≡ out.old.items ++ closing))
         (λ fault. (fault ≡ SessionFault.NoMemory) × (out.new.items ≡ out.old.items)) }
+    ensures full { OnErr result (vec_capacity out.old < vec_len out.old + length closing) }
 {
     let reply = Reply::Error {
         text: "ERR Protocol error",

@@ -1,6 +1,6 @@
 //! A session over any reader and writer.
 
-ghost use Rattle.std.specs.Prelude.{◌≡◌, ◌<◌, ◌≤◌, List, OnOk, ℕ, Some, [], length};
+ghost use Rattle.std.specs.Prelude.{◌≡◌, ◌<◌, ◌≤◌, ◌↔◌, Err, IsTrue, List, OnOk, ℕ, Some, [], length};
 ghost use Rattle.std.specs.Io.KnownBytes.{Appends, Consumes};
 ghost use Rattle.zq_session.specs.Conversation.{IsConversation, IsTalk};
 ghost use Rattle.zq_session.specs.Serving.{EndsWith, ServesPiece};
@@ -49,10 +49,10 @@ pub fn session<A: Answers, R: Read, W: Write>(
 }
 
 /// A session over two ends whose steps have an order. Whenever a read begins, every request that was read before is
-/// answered and every reply is written.
+/// answered and every reply is written. Of two writes with no read between them the first has 65,536 bytes or more.
 ///
 /// It ends as [`session`] does. `Clean` and `Inside` come after a read that gave nothing, `Read` after a read that
-/// failed or after 4,611,686,018,427,387,904 reads.
+/// failed or after 4,611,686,018,427,387,904 reads, `Write` after a write.
 pub fn converse<A: Answers, R, W, E: Ends<R, W>>(
     alloc: Global,
     answerer: &mut A,
@@ -141,6 +141,16 @@ fn write_replies<A: Answers, R, W, E: Ends<R, W>>(
     ensures none_waits { OnOk result (out.new.items ≡ []) }
 {
     let served = serve_piece(alloc, answerer, input, piece, ends, reader, writer, out);
+    if has_failed(&served) {
+        return served;
+    }
     write_gathered(ends, reader, writer, out)?;
     served
+}
+
+/// Whether the writer has failed. Nothing is written after that.
+fn has_failed(served: &Result<Served, SessionFault>) -> bool
+    ensures { IsTrue result ↔ (served.now ≡ Err SessionFault.Write) }
+{
+    matches!(served, Err(SessionFault::Write))
 }

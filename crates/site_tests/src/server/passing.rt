@@ -3,35 +3,22 @@
 ghost use Rattle.std.specs.Prelude.{All, IfOk};
 ghost use Rattle.zq_spread.specs.Passes.{IsPassOf};
 
+use super::asking::answered;
 use std::alloc::Global;
 use std::sync::Wait;
 use std::test::Fail;
 use zq_dots::SiteNo;
-use zq_session::{End, Passing, session};
+use zq_session::Passing;
 use zq_spread::{Draws, Pass, Site};
 
 /// Site 0 of two heaps, with so many passes.
-fn opened(alloc: Global, passes: usize) -> Result<(Site, Vec<Pass>), Fail>
+pub fn opened(alloc: Global, passes: usize) -> Result<(Site, Vec<Pass>), Fail>
     ensures { IfOk result (λ made. All (IsPassOf made.0) made.1.items) }
 {
     let number = SiteNo::new(0).ok_or("a site")?;
     match Site::new(alloc, number, 2, passes) {
         Ok(made) => Ok(made),
         Err(_) => Err(Fail::from("no site")),
-    }
-}
-
-/// What a session over these bytes writes, which ends cleanly.
-fn answered<R: Wait>(
-    alloc: Global,
-    server: &mut Passing<'_, R>,
-    bytes: &[u8],
-) -> Result<Vec<u8>, Fail> {
-    let mut reader = bytes;
-    let mut written = Vec::new(alloc);
-    match session(alloc, server, &mut reader, &mut written) {
-        Ok(End::Clean) => Ok(written),
-        _ => Err("not a clean end".into()),
     }
 }
 

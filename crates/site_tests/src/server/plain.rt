@@ -4,13 +4,14 @@
 ghost use Rattle.std.specs.Prelude.{◌≤◌};
 ghost use Rattle.zq_model.specs.Sets.{IsHeaps};
 
+use super::asking::{answered, push_request};
 use std::alloc::Global;
 use std::process::Abort;
 use std::test::Fail;
 use zq_commands::SiteBooks;
 use zq_dots::Rule;
 use zq_posheap::Seeded;
-use zq_session::{End, Plain, session};
+use zq_session::Plain;
 
 /// What is done.
 #[derive(Clone, Copy)]
@@ -158,31 +159,11 @@ const STEPS: [Step; 83] = [
     Send(b"*0\r\n*1\r\n$4\r\nPING\r\n", b"+PONG\r\n"),
 ];
 
-/// Appends the request of the line's words.
-fn push_request(alloc: Global, bytes: &mut Vec<u8>, line: &str) -> Result<(), Fail> {
-    let count = line.split(' ').count();
-    bytes.extend_from_slice(format!(in alloc; "*{count}\r\n")?.as_bytes())?;
-    for word in line.split(' ') {
-        let length = word.len();
-        bytes.extend_from_slice(format!(in alloc; "${length}\r\n{word}\r\n")?.as_bytes())?;
-    }
-    Ok(())
-}
-
-/// What a session over these bytes writes, which ends cleanly.
-fn answer(alloc: Global, server: &mut Plain, bytes: &[u8]) -> Result<Vec<u8>, Fail> {
-    let mut reader = bytes;
-    let mut written = Vec::new(alloc);
-    match session(alloc, server, &mut reader, &mut written) {
-        Ok(End::Clean) => Ok(written),
-        _ => Err("not a clean end".into()),
-    }
-}
-
+/// What the server answers to the line's words.
 fn ask(alloc: Global, server: &mut Plain, line: &str) -> Result<Vec<u8>, Fail> {
     let mut bytes = Vec::new(alloc);
-    push_request(alloc, &mut bytes, line)?;
-    answer(alloc, server, bytes.as_slice())
+    push_request(alloc, &mut bytes, line, b"")?;
+    answered(alloc, server, bytes.as_slice())
 }
 
 /// Does a step of a server of so many heaps.
@@ -202,7 +183,7 @@ fn take_step(
             assert!(rt; bytes.as_slice() == says.as_bytes(), "{line}");
         }
         Send(sent, says) => {
-            let bytes = answer(alloc, server, sent)?;
+            let bytes = answered(alloc, server, sent)?;
             assert!(rt; bytes.as_slice() == says);
         }
     }
@@ -277,7 +258,7 @@ fn puts(alloc: Global, count: usize) -> Result<Vec<u8>, Fail> {
     let mut bytes = Vec::new(alloc);
     for score in 1..=count {
         let line = format!(in alloc; "ZADD q {score} a")?;
-        push_request(alloc, &mut bytes, line.as_str())?;
+        push_request(alloc, &mut bytes, line.as_str(), b"")?;
     }
     Ok(bytes)
 }
@@ -286,7 +267,7 @@ fn puts(alloc: Global, count: usize) -> Result<Vec<u8>, Fail> {
 fn a_long_tail_is_cut(rt: HostRuntime) -> Result<(), Fail> {
     let mut server = Plain::new(rt.alloc(), 1)?;
     let bytes = puts(rt.alloc(), 4096)?;
-    answer(rt.alloc(), &mut server, bytes.as_slice())?;
+    answered(rt.alloc(), &mut server, bytes.as_slice())?;
     assert_eq!(rt; tail_len(&server), 4096);
     ask(rt.alloc(), &mut server, "ZADD q 4097 a")?;
     assert_eq!(rt; tail_len(&server), 2049);

@@ -23,7 +23,7 @@ returns-in_err-answer_one-in-Ok g c = λ had is.
     let stop = c.in_err-answer_one-in-Ok.field-0.0 in
     let why : c.from_residual.result ≡ Err stop = cc (failed.1, failed.2) in
     let served = c.loop-at.invariant.1 had is in
-    let one = c.in_err-answer_one-in-Ok.ensures in
+    let one = c.in_err-answer_one-in-Ok.ensures.answered in
     let begun = held (c.args.reader.now, c.args.writer.now) c.args.out.now.items in
     let before = held (c.loop-at.reader, c.loop-at.writer) c.loop-at.out.items in
     let after = held (c.answer_one.new.reader, c.answer_one.new.writer) c.answer_one.new.out.items in
@@ -41,7 +41,7 @@ loop-at-preserved g c =
     let before = held (c.loop-at.reader, c.loop-at.writer) c.loop-at.out.items in
     let after = held (c.match-found.reader, c.match-found.writer) c.match-found.out.items in
     let one : (bytes : List ℕ) × IsAnswered g.A.Answers.answers c.loop-at.answerer c.match-found.answerer (listed c.in-Ok.found) bytes × Gathers g.E.Ends.does before after bytes = elim c.match-found.branch [
-      | in-Some+in_ok-answer_one-in-Ok w ↦ rw (w.in-Some.is, w.answerer-is, w.reader-is, w.writer-is, w.out-is) w.in_ok-answer_one-in-Ok.ensures
+      | in-Some+in_ok-answer_one-in-Ok w ↦ rw (w.in-Some.is, w.answerer-is, w.reader-is, w.writer-is, w.out-is) w.in_ok-answer_one-in-Ok.ensures.answered
       | in_default w ↦ rw (w.in_default.is, w.answerer-is, w.reader-is, w.writer-is, w.out-is) ([], answered-none g.A.Answers.answers _, gathers-none g.E.Ends.does _)
     ] in
     let kept : c.match-found.input ≡ c.next_request.new.self = elim c.match-found.branch [
@@ -65,7 +65,7 @@ pub returns-in-Err : goal.returns-in-Err
 returns-in-Err g c = λ had is.
     let served = c.loop-at.invariant.1 had is in
     let ends : g.row.R.Denot × g.row.W.Denot = (c.loop-at.reader, c.loop-at.writer) in
-    let last = replied-last g.E.Ends.does g.A.Answers.answers c.loop-at.answerer ends c.loop-at.out.items c.end.new.out.items c.in-Err.fault c.end.result c.end.ensures in
+    let last = replied-last g.E.Ends.does g.A.Answers.answers c.loop-at.answerer ends c.loop-at.out.items c.end.new.out.items c.in-Err.fault c.end.result c.end.ensures.ended in
     let begun = held (c.args.reader.now, c.args.writer.now) c.args.out.now.items in (
       served.0 ++ last.0,
       piece-on g.A.Answers.answers _ _ _ had c.args.piece.now served.0 last.0 c.loop-at.at _ _ c.end.result served.1

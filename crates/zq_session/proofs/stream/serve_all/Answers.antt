@@ -1,4 +1,4 @@
-use Rattle.std.proofs.Common.{◌≡◌, ◌≤◌, [], Err, length, take, refl, arith}
+use Rattle.std.proofs.Common.{◌≡◌, ◌≤◌, ◌++◌, ◌∷◌, [], Err, length, take, refl, arith}
 use Rattle.std.proofs.lemmas.List.{length-take}
 use Rattle.std.proofs.lemmas.Result.{err_from_is_err_and}
 use Rattle.zq_session.specs.declared.outcome.SessionFault.TheVariants as stop
@@ -14,8 +14,9 @@ loop-read-preserved g c =
     let i = c.loop-read.invariant in
     let served = c.in_ok-served.ensures.served i.1 i.2 in
     let piece = take c.in_ok-count.count c.hear.new.buffer in
+    let parts = served.1.0 ++ served.1.1 ∷ [] in
     let on = under-way-on g.E.Ends.does g.A.Answers.answers _ _ _ _ _ _ _ i.0 i.1 piece served.0 _ i.3 c.in_ok-count.ensures.1 served.1 (rw c.in-More.is at served.2) in
-    (with_turn i.0 piece served.1.0, on.0, on.1, on.2, omega (arith, i.4, reads-turn i.0 piece served.1.0), c.in_ok-served.ensures.none_waits)
+    (with_turn i.0 piece parts, on.0, on.1, on.2, omega (arith, i.4, reads-turn i.0 piece parts), c.in_ok-served.ensures.none_waits)
 
 pub returns-in_err-count : goal.returns-in_err-count
 returns-in_err-count g c =
