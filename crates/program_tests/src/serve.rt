@@ -1,5 +1,7 @@
 //! Sites that are served over loopback.
 
+mod announcing;
+mod drawing;
 mod meeting;
 mod working;
 

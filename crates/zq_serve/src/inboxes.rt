@@ -1,5 +1,8 @@
 //! Where the mailboxes of sites are.
 
+ghost use Rattle.std.specs.Prelude.{option_copied, ◌≡◌};
+ghost use Rattle.zq_serve.specs.Inboxes.{inbox_of};
+
 use zq_dots::SiteNo;
 use zq_peers::Mailbox;
 
@@ -14,7 +17,9 @@ pub enum Inboxes<'a> {
 
 impl<'a> Inboxes<'a> {
     /// The mailbox of a site of this process, where it has one.
-    pub fn of(self, site: SiteNo) -> Option<&'a Mailbox> {
+    pub fn of(self, site: SiteNo) -> Option<&'a Mailbox>
+        ensures { option_copied result ≡ inbox_of self.entry site }
+    {
         match self {
             Inboxes::Each(mailboxes) => mailboxes.get(usize::from(site.value())),
             Inboxes::One(mailbox) => Some(mailbox),

@@ -4,6 +4,7 @@
 #![tactic(auto)]
 
 mod announcing;
+mod answerer;
 mod connection;
 mod connections_left;
 mod fault;
@@ -13,6 +14,7 @@ mod opening;
 mod running;
 mod serving;
 mod site_server;
+mod teller;
 mod ticking;
 mod warning;
 mod worker;

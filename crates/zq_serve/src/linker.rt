@@ -9,7 +9,7 @@ use std::alloc::Global;
 use std::sync::{Arc, Wait};
 use zq_dots::SiteNo;
 use zq_node::Node;
-use zq_peers::{Carry, Link, Mailbox, Witness};
+use zq_peers::{Carry, Incoming, Link, Mailbox, Witness};
 use zq_posheap::Seeded;
 use zq_spread::Pass;
 
@@ -41,11 +41,8 @@ impl Linker {
         } = self;
         let server: &SiteServer = &server;
         let mut node = Node::new(alloc, &server.site, pass);
-        let link = Link {
-            inbox,
-            others,
-            hasher,
-        };
-        link.attend(rt, alloc, &mut node, carrier, witness);
+        let mut incoming = Incoming::new(rt, inbox);
+        let link = Link { others, hasher };
+        link.attend(rt, alloc, &mut incoming, &mut node, carrier, witness);
     }
 }

@@ -1,7 +1,11 @@
 //! Opening the ports of sites.
 
 ghost use Rattle.std.specs.Arc.{arc_value};
-ghost use Rattle.std.specs.Prelude.{All, IfOk, ◌*◌, ◌<◌, ◌≡◌, ◌≤◌};
+ghost use Rattle.std.specs.Net.Socket.{socket_ip, socket_port};
+ghost use Rattle.std.specs.Prelude.{All, IfOk, OnOk, [], length, map, replicate, ◌*◌, ◌+◌, ◌++◌, ◌-◌, ◌<◌, ◌≡◌, ◌≤◌};
+ghost use Rattle.zq_peers.specs.Sites.{others_below};
+ghost use Rattle.zq_serve.specs.Crews.{AreHired, IsHired, link_to, links_of, planned, post_of, posts_of};
+ghost use Rattle.zq_serve.specs.Mailboxes.{mosts_of};
 ghost use Rattle.zq_spread.specs.Passes.{IsPassOf};
 
 use crate::connections_left::ConnectionsLeft;
@@ -29,8 +33,11 @@ pub fn draw_hasher<R: RandomSource>(rt: &R) -> Result<Seeded, ServeFault> {
 }
 
 /// The address of a port.
-pub fn address_of(ip: IpAddr, port: Port) -> SocketAddr {
-    SocketAddr::from((ip, port.value() as u16))
+pub fn address_of(ip: IpAddr, port: Port) -> SocketAddr
+    ensures ip { socket_ip result ≡ ip }
+    ensures port { socket_port result ≡ port }
+{
+    SocketAddr::new(ip, port.value() as u16)
 }
 
 /// Listens on an address.
@@ -72,7 +79,10 @@ pub struct SiteThreads {
 
 impl SiteThreads {
     /// Nobody. It takes no memory.
-    pub fn new(alloc: Global) -> SiteThreads {
+    pub fn new(alloc: Global) -> SiteThreads
+        ensures workers { result.workers.items ≡ [] }
+        ensures linkers { result.linkers.items ≡ [] }
+    {
         SiteThreads {
             workers: Vec::new(alloc),
             linkers: Vec::new(alloc),
@@ -88,7 +98,9 @@ fn open_server<R: Net<Listener = TcpListener, Stream = TcpStream>>(
     address: SocketAddr,
     hasher: Seeded,
 ) -> Result<(Arc<SiteServer>, Vec<Pass>), ServeFault>
-    ensures { IfOk result (λ made. All (IsPassOf (arc_value made.0).site) made.1.items) }
+    ensures passes { IfOk result (λ made. All (IsPassOf (arc_value made.0).site) made.1.items) }
+    ensures post { IfOk result (λ made. post_of (arc_value made.0) ≡ planned plan.now) }
+    ensures number { IfOk result (λ made. length made.1.items ≡ plan.now.workers + 1) }
 {
     let listener = listen(net, address)?;
     let number = plan.number;
@@ -121,20 +133,39 @@ fn add_threads(
     others: Vec<SiteNo>,
     crew: &mut SiteThreads,
 ) -> Result<(), ServeFault>
-    requires { All (IsPassOf (arc_value server.now).site) passes.items }
+    requires passes { All (IsPassOf (arc_value server.now).site) passes.items }
+    requires some { 0 < length passes.items }
+    ensures { OnOk result (IsHired (post_of (arc_value server.now)) (length passes.items - 1) others.items crew.old crew.new) }
 {
     let mut passes = passes;
-    if let Some(pass) = passes.pop()
-        && !others.is_empty()
-    {
-        let linker = Linker {
-            server: Arc::try_clone(server)?,
-            pass,
-            others,
-        };
-        crew.linkers.push(linker).map_err(AllocError::from)?;
+    let Some(pass) = passes.pop() else {
+        unreachable!()
+    };
+    hire_linker(server, pass, others, &mut crew.linkers)?;
+    add_workers(server, passes, &mut crew.workers)?;
+    Ok(())
+}
+
+/// Appends a linker with this pass where the site has others beside it.
+fn hire_linker(
+    server: &Arc<SiteServer>,
+    pass: Pass,
+    others: Vec<SiteNo>,
+    linkers: &mut Vec<Linker>,
+) -> Result<(), AllocError>
+    requires { IsPassOf (arc_value server.now).site pass }
+    ensures { OnOk result (links_of linkers.new.items ≡ links_of linkers.old.items ++ link_to (post_of (arc_value server.now)) others.items) }
+{
+    if others.is_empty() {
+        return Ok(());
     }
-    add_workers(server, passes, &mut crew.workers)
+    let linker = Linker {
+        server: Arc::try_clone(server)?,
+        pass,
+        others,
+    };
+    linkers.push(linker)?;
+    Ok(())
 }
 
 /// Appends a worker for each of the passes.
@@ -142,15 +173,16 @@ fn add_workers(
     server: &Arc<SiteServer>,
     passes: Vec<Pass>,
     workers: &mut Vec<Worker>,
-) -> Result<(), ServeFault>
+) -> Result<(), AllocError>
     requires { All (IsPassOf (arc_value server.now).site) passes.items }
+    ensures { OnOk result (posts_of workers.new.items ≡ posts_of workers.old.items ++ replicate (length passes.items) (post_of (arc_value server.now))) }
 {
     for pass in passes {
         let worker = Worker {
             server: Arc::try_clone(server)?,
             pass,
         };
-        workers.push(worker).map_err(AllocError::from)?;
+        workers.push(worker)?;
     }
     Ok(())
 }
@@ -172,7 +204,9 @@ pub fn open_all<R: Net<Listener = TcpListener, Stream = TcpStream>>(
     alloc: Global,
     settings: &Settings,
     hasher: Seeded,
-) -> Result<SiteThreads, ServeFault> {
+) -> Result<SiteThreads, ServeFault>
+    ensures { IfOk result (AreHired settings.now) }
+{
     let mut crew = SiteThreads::new(alloc);
     let ports = settings.ports.as_slice();
     let sites = ports.len() as u8;
@@ -197,6 +231,11 @@ pub fn open_all<R: Net<Listener = TcpListener, Stream = TcpStream>>(
 /// How the site of a place among the ports is served.
 fn plan_of(settings: &Settings, place: u8) -> SiteOptions
     requires { place < 64 }
+    ensures number { result.number ≡ place }
+    ensures heaps { result.heaps ≡ settings.now.heaps }
+    ensures rule { result.rule ≡ settings.now.rule }
+    ensures workers { result.workers ≡ settings.now.workers }
+    ensures connections { result.connections ≡ settings.now.connections }
 {
     SiteOptions {
         number: site_at(place),
@@ -218,6 +257,7 @@ fn open_one<R: Net<Listener = TcpListener, Stream = TcpStream>>(
     crew: &mut SiteThreads,
 ) -> Result<(), ServeFault>
     requires { sites ≤ 64 }
+    ensures { OnOk result (IsHired (planned plan.now) plan.now.workers (others_below plan.now.number sites) crew.old crew.new) }
 {
     let address = address_of(IpAddr::V4(Ipv4Addr::LOCALHOST), port);
     let others = others(alloc, plan.number, sites)?;
@@ -236,7 +276,9 @@ pub fn open_site<R: Net<Listener = TcpListener, Stream = TcpStream>>(
     others: Vec<SiteNo>,
     hasher: Seeded,
     crew: &mut SiteThreads,
-) -> Result<(), ServeFault> {
+) -> Result<(), ServeFault>
+    ensures { OnOk result (IsHired (planned plan.now) plan.now.workers others.items crew.old crew.new) }
+{
     let (server, passes) = open_server(net, alloc, plan, address, hasher)?;
     add_threads(&server, passes, others, crew)
 }
@@ -250,12 +292,14 @@ pub fn most_waiting(others: usize, heaps: HeapCount) -> usize
 }
 
 /// A mailbox for each of the sites where there are several.
-pub fn open_mailboxes(alloc: Global, settings: &Settings) -> Result<Vec<Mailbox>, ServeFault> {
+pub fn open_mailboxes(alloc: Global, settings: &Settings) -> Result<Vec<Mailbox>, ServeFault>
+    ensures { IfOk result (λ mailboxes. map (λ mailbox. mailbox.most) mailboxes.items ≡ mosts_of (length settings.now.ports) settings.now.heaps) }
+{
     let mut mailboxes = Vec::new(alloc);
     let sites = settings.ports.as_slice().len();
     if sites > 1 {
         let most = most_waiting(sites - 1, settings.heaps);
-        for _ in 0..sites {
+        for _site in 0..sites {
             let mailbox = Mailbox::new(alloc, most)?;
             mailboxes.push(mailbox).map_err(AllocError::from)?;
         }

@@ -1,5 +1,8 @@
 //! Serving all sites.
 
+ghost use Rattle.std.specs.Arc.{arc_value};
+ghost use Rattle.std.specs.Prelude.{◌≡◌};
+
 use crate::announcing::announce;
 use crate::fault::ServeFault;
 use crate::inboxes::Inboxes;
@@ -96,7 +99,9 @@ fn link_one<R: Wait>(rt: &R, alloc: Global, linker: Linker, mailboxes: &[Mailbox
 }
 
 /// The number of a linker's site.
-fn site_of(linker: &Linker) -> SiteNo {
+fn site_of(linker: &Linker) -> SiteNo
+    ensures { result ≡ (arc_value linker.now.server).number }
+{
     let server: &SiteServer = &linker.server;
     server.number
 }

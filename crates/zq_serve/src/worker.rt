@@ -4,13 +4,12 @@ ghost use Rattle.std.specs.Arc.{arc_value};
 ghost use Rattle.zq_session.specs.PassFacts.{pass_fact};
 ghost use Rattle.zq_spread.specs.Passes.{IsPassOf};
 
+use crate::answerer::answerer_of;
 use crate::inboxes::Inboxes;
 use crate::site_server::SiteServer;
-use crate::ticking::Ticking;
 use log::Log;
 use std::alloc::Global;
 use std::sync::{Arc, Mutex, Wait};
-use zq_session::Passing;
 use zq_spread::{Draws, Pass};
 
 /// A worker of a site's server, with one of its site's passes.
@@ -37,9 +36,7 @@ impl Worker {
         }
         let Worker { server, pass } = self;
         let server: &SiteServer = &server;
-        let passing = Passing::new(log, &server.site, pass, Draws::new(seed));
-        let mailbox = inboxes.of(server.number);
-        let mut ticking = Ticking::new(log, passing, mailbox);
-        server.attend(log, alloc, &mut ticking);
+        let mut answerer = answerer_of(log, server, pass, Draws::new(seed), inboxes);
+        server.attend(log, alloc, &mut answerer);
     }
 }

@@ -2,6 +2,7 @@ use Rattle.std.proofs.Common.{All, rules, subst, ◌∷◌, ◌≡◌}
 use Rattle.std.proofs.lemmas.List.Elements.{All-head, All-tail}
 use Rattle.std.specs.Arc.{arc_value}
 use Rattle.std.specs.Vec.Iter.{into_iter_items}
+use Rattle.zq_serve.proofs.Crews.{AreComing, one_more}
 use Rattle.zq_serve.proofs.opening.add_workers.Goals as goal
 use Rattle.zq_spread.specs.Passes.{IsPassOf}
 
@@ -14,7 +15,12 @@ invariant_of-worker c =
 
 pub loop-pass-preserved : goal.loop-pass-preserved
 loop-pass-preserved c =
-    let site = (arc_value c.args.server.now).site in
-    let steps : into_iter_items c.loop-pass.pass-iterator ≡ c.in-Some.pass ∷ into_iter_items c.next.new.self = c.in-Some.ensures.steps.0 in
-    let all = subst (All (IsPassOf site)) steps c.loop-pass.invariant.0 in
-    (All-tail (IsPassOf site) c.in-Some.pass (into_iter_items c.next.new.self) all, search rules)
+    let server = arc_value c.args.server.now in
+    let rest = into_iter_items c.next.new.self in
+    let whole = into_iter_items c.into_iter-pass-iterator.result in
+    let old = c.args.workers.now.items in
+    let had = c.loop-pass.workers.items in
+    let steps : into_iter_items c.loop-pass.pass-iterator ≡ c.in-Some.pass ∷ rest = c.in-Some.ensures.steps.0 in
+    let all = subst (All (IsPassOf server.site)) steps c.loop-pass.invariant.0 in
+    let coming = subst (λ passes. AreComing server old whole had passes) steps c.loop-pass.invariant.2 in
+    (All-tail (IsPassOf server.site) c.in-Some.pass rest all, search rules, one_more server old had c.push.new.self.items whole c.in-Some.pass rest _ c.in_ok-try_clone.ensures c.in_ok-push.ensures.items coming)
