@@ -2,16 +2,19 @@
 
 ghost use Rattle.rand_core.specs.Pcg32Seed.{pcg32_seed};
 ghost use Rattle.rand_pcg.specs.Pcg.{pcg32_of_seed};
-ghost use Rattle.std.specs.Prelude.{◌≡◌, ◌+◌, ◌%◌, ◌^◌, [], IfOk, replicate};
+ghost use Rattle.std.specs.Prelude.{◌≡◌, ◌+◌, ◌%◌, ◌^◌, ◌∷◌, [], IfOk, List, OnOk, replicate};
 ghost use Rattle.zq_drill.specs.Limits.{site_count};
+ghost use Rattle.zq_links.specs.declared.message.Message.{Message as Messages};
+ghost use Rattle.zq_links.specs.declared.message.Message.TheVariants.{Stop};
+ghost use Rattle.zq_peers.specs.Moves.{AreTaken};
 
 use crate::post::Post;
-use crate::station::{HEAPS, SITES};
+use crate::station::SITES;
 use std::alloc::{AllocError, Global};
 use std::sync::Wait;
-use zq_dots::{Rule, SiteNo};
+use zq_dots::SiteNo;
 use zq_node::Node;
-use zq_peers::{Link, Lossy, Mailbox, Silent, Straight, others};
+use zq_peers::{Inbox, Link, Lossy, Mailbox, Silent, Straight, others};
 use zq_posheap::Seeded;
 
 /// What carries the frames of the site of this number: a faulty link to each site, which holds nothing back yet, with
@@ -30,25 +33,26 @@ fn faulty<'a, R: Wait>(
     Lossy::new(alloc, SITES, words, Straight::new(rt, number, inboxes))
 }
 
-/// Hears what comes to the site, and answers over links that fail by the words of this seed, until it is to stop.
+/// Hears what comes to the site's inbox, and answers over links that fail by the words of this seed, until it is to stop.
 #[tactic(auto, unfolding(zq_model::specs::Sets::SITES))]
-pub fn attend<R: Wait>(
+pub fn attend<R: Wait, I: Inbox>(
     rt: &R,
     alloc: Global,
     post: Post,
-    inbox: &Mailbox,
+    inbox: &mut I,
     inboxes: &[Mailbox],
     seed: u64,
-) -> Result<(), AllocError> {
+) -> Result<(), AllocError>
+    ensures { OnOk result ((messages : List Messages) × AreTaken I.gives inbox.old inbox.new (Stop ∷ messages)) }
+{
     let Post { station, pass } = post;
     let number = station.number;
     let mut carrier = faulty(rt, alloc, number, inboxes, seed)?;
     let link = Link {
-        inbox,
         others: others(alloc, number, SITES)?,
         hasher: Seeded::new(0),
     };
     let mut node = Node::new(alloc, &station.site, pass);
-    link.attend(rt, alloc, &mut node, &mut carrier, &mut Silent);
+    link.attend(rt, alloc, inbox, &mut node, &mut carrier, &mut Silent);
     Ok(())
 }

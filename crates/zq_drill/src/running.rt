@@ -9,7 +9,7 @@ use std::alloc::{AllocError, Global};
 use std::sync::{Mutex, Wait};
 use std::thread;
 use std::thread::Threads;
-use zq_peers::Mailbox;
+use zq_peers::{Incoming, Mailbox};
 
 /// How many messages wait for a link thread.
 const MOST_WAITING: usize = 1024;
@@ -78,7 +78,8 @@ pub fn run_all<R: Threads + Wait + Sync>(
     thread::scope(thread::scope_env(), rt, move |scope| {
         for (post, inbox) in links.into_iter().zip(inboxes) {
             let work = move || {
-                if attend(rt, alloc, post, inbox, inboxes, plan.seed).is_err() {
+                let mut incoming = Incoming::new(rt, inbox);
+                if attend(rt, alloc, post, &mut incoming, inboxes, plan.seed).is_err() {
                     note(rt, first, DrillFault::NoMemory);
                 }
             };

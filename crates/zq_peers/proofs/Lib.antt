@@ -1,5 +1,4 @@
 pub mod Made
 pub mod Crossing
 mod Carried
-mod Sent
 mod Handings

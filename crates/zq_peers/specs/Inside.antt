@@ -6,7 +6,7 @@ use Rattle.zq_peers.specs.Trays.{Waiting, ticks_in}
 use Rattle.zq_peers.specs.declared.tray.Tray.TheInside.{Inside}
 
 abbrev pub waiting_in : Inside → Waiting
-waiting_in tray = record { messages = tray.waiting.items; over = tray.over }
+waiting_in tray = record { messages = tray.waiting.items; over = tray.over; room = deque_capacity tray.waiting }
 
 -- the flag says whether a Tick waits, and where none does there is room for it
 pub record IsTray (tray : Inside) : Type 0 where

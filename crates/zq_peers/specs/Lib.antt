@@ -1,9 +1,11 @@
 pub mod Sites
 pub mod Carried
 pub mod Fates
+pub mod Fetched
 pub mod Inside
 pub mod Lossy
 pub mod Moves
 pub mod Handings
+pub mod Slips
 pub mod Trays
 pub mod Witnesses

@@ -3,63 +3,40 @@ ghost use Rattle.std.specs.Prelude.{◌≡◌, All, Bool, List, map, ℕ};
 ghost use Rattle.zq_links.specs.Frame.{IsWritable, frame_of};
 ghost use Rattle.zq_node.specs.Hearing.{sent_of, sent_to};
 ghost use Rattle.zq_node.specs.Node.{IsNode, IsSameHome};
-ghost use Rattle.zq_peers.specs.Carried.{AreSent, IsPassedOn, IsSent};
+ghost use Rattle.zq_peers.specs.Carried.{AreCarried};
 ghost use Rattle.zq_peers.specs.Moves.{Hears, Tells};
 
-use crate::carry::{Carry, both};
+use crate::carry::both;
+use crate::sending::Sends;
 use crate::unheard::Unheard;
-use std::alloc::{AllocError, Global};
+use std::alloc::Global;
 use std::sync::Wait;
 use zq_dots::SiteNo;
-use zq_links::{Frame, read_frame, write_frame};
+use zq_links::{Frame, read_frame};
 use zq_node::{Node, NodeFault};
 use zq_posheap::Seeded;
 
-/// Sends a frame to a site, and says whether there was memory for it.
-fn send<C: Carry>(alloc: Global, carrier: &mut C, to: SiteNo, frame: &Frame) -> bool
-    requires { IsWritable frame.now }
-    ensures { IsSent C.carries carrier.old carrier.new (to, frame_of frame.now) result }
-{
-    let written = write_frame(alloc, frame);
-    pass_on(alloc, carrier, to, written)
-}
-
-/// Carries the bytes of a frame, if there was memory to write them, and says whether there was memory for all.
-fn pass_on<C: Carry>(
-    alloc: Global,
-    carrier: &mut C,
-    to: SiteNo,
-    written: Result<Vec<u8>, AllocError>,
-) -> bool
-    ensures { IsPassedOn C.carries carrier.old carrier.new to written result }
-{
-    match written {
-        Ok(bytes) => carrier.carry(alloc, to, bytes),
-        Err(_) => false,
-    }
-}
-
 /// Sends each of the frames to a site, in this order, and says whether there was memory for all.
-fn send_all<C: Carry>(alloc: Global, carrier: &mut C, to: SiteNo, frames: &[Frame]) -> bool
+fn send_all<S: Sends>(alloc: Global, sender: &mut S, to: SiteNo, frames: &[Frame]) -> bool
     requires { All IsWritable frames.now }
-    ensures { AreSent C.carries carrier.old carrier.new (sent_to to (map frame_of frames.now)) result }
+    ensures { AreCarried S.sends sender.old sender.new (sent_to to (map frame_of frames.now)) result }
 {
     let mut whole = true;
     for frame in frames {
-        let sent = send(alloc, carrier, to, frame);
+        let sent = sender.send(alloc, to, frame);
         whole = both(whole, sent);
     }
     whole
 }
 
 /// Sends each of the frames to its site, in this order, and says whether there was memory for all.
-fn send_each<C: Carry>(alloc: Global, carrier: &mut C, parcels: &[(SiteNo, Frame)]) -> bool
+fn send_each<S: Sends>(alloc: Global, sender: &mut S, parcels: &[(SiteNo, Frame)]) -> bool
     requires { All (λ s. IsWritable s.1) parcels.now }
-    ensures { AreSent C.carries carrier.old carrier.new (sent_of parcels.now) result }
+    ensures { AreCarried S.sends sender.old sender.new (sent_of parcels.now) result }
 {
     let mut whole = true;
     for (to, frame) in parcels {
-        let sent = send(alloc, carrier, *to, frame);
+        let sent = sender.send(alloc, *to, frame);
         whole = both(whole, sent);
     }
     whole
@@ -69,22 +46,22 @@ fn send_each<C: Carry>(alloc: Global, carrier: &mut C, parcels: &[(SiteNo, Frame
 /// all: a frame for which there was none is lost.
 ///
 /// `Worn` and `NoMemory` as [`Node::haves`] says. Then nothing is sent.
-pub fn tell<R: Wait, C: Carry>(
+pub(crate) fn tell<R: Wait, S: Sends>(
     rt: &R,
     alloc: Global,
     others: &[SiteNo],
     node: &mut Node<'_>,
-    carrier: &mut C,
+    sender: &mut S,
 ) -> Result<bool, NodeFault>
     requires node { IsNode node.old }
     ensures node { IsNode node.new }
     ensures home { IsSameHome node.old node.new }
-    ensures told { Tells C.carries others.now node.old node.new carrier.old carrier.new result }
+    ensures told { Tells S.sends others.now node.old node.new sender.old sender.new result }
 {
     let frames = node.haves(rt, alloc)?;
     let mut whole = true;
     for to in others {
-        let sent = send_all(alloc, carrier, *to, &frames);
+        let sent = send_all(alloc, sender, *to, &frames);
         whole = both(whole, sent);
     }
     Ok(whole)
@@ -96,25 +73,25 @@ pub fn tell<R: Wait, C: Carry>(
 ///
 /// `Unread` where the bytes are no frame, or there was no memory to read them, as [`read_frame`] says: then nothing
 /// happens. `Refused` where the node refuses the frame, as [`Node::hear`] says: then nothing is sent.
-pub fn hear<R: Wait, C: Carry>(
+pub(crate) fn hear<R: Wait, S: Sends>(
     rt: &R,
     alloc: Global,
     hasher: Seeded,
     node: &mut Node<'_>,
-    carrier: &mut C,
+    sender: &mut S,
     bytes: &[u8],
 ) -> Result<bool, Unheard>
     requires node { IsNode node.old }
     ensures node { IsNode node.new }
     ensures home { IsSameHome node.old node.new }
-    ensures heard { Hears C.carries bytes.now node.old node.new carrier.old carrier.new result }
+    ensures heard { Hears S.sends bytes.now node.old node.new sender.old sender.new result }
 {
     let frame = match read_frame(alloc, bytes, hasher) {
         Ok(frame) => frame,
         Err(fault) => return Err(Unheard::Unread(fault)),
     };
     match node.hear(rt, alloc, &frame) {
-        Ok(sent) => Ok(send_each(alloc, carrier, &sent)),
+        Ok(sent) => Ok(send_each(alloc, sender, &sent)),
         Err(fault) => Err(Unheard::Refused(fault)),
     }
 }

@@ -1,7 +1,7 @@
 //! Links that lose frames.
 ghost use Rattle.rand_core.specs.Pcg32Seed.{pcg32_seed};
 ghost use Rattle.rand_pcg.specs.Pcg.{pcg32, pcg32_of_seed};
-ghost use Rattle.std.specs.Prelude.{◌≡◌, [], IfOk, replicate};
+ghost use Rattle.std.specs.Prelude.{◌≡◌, ◌≤◌, [], IfOk, OnErr, replicate};
 ghost use Rattle.zq_links.specs.Frames.{frames_in};
 ghost use Rattle.zq_peers.specs.Carried.{AreCarried};
 ghost use Rattle.zq_peers.specs.Lossy.{each_to, IsPassed};
@@ -24,11 +24,13 @@ pub struct Lossy<C: Carry> {
 }
 
 impl<C: Carry + Drop> Lossy<C> {
-    /// Links to the sites below this number, which hold nothing back, with words of a `Pcg32` of this seed.
+    /// Links to the sites below this number, which hold nothing back, with words of a `Pcg32` of this seed. For no site it
+    /// takes no memory.
     pub fn new(alloc: Global, sites: u8, seed: u64, carrier: C) -> Result<Lossy<C>, AllocError>
         ensures links { IfOk result (λ lossy. lossy.links.items ≡ replicate sites []) }
         ensures words { IfOk result (λ lossy. lossy.words ≡ pcg32_of_seed (pcg32_seed 16 seed)) }
         ensures carrier { IfOk result (λ lossy. lossy.carrier ≡ carrier) }
+        ensures memory { OnErr result (1 ≤ sites) }
     {
         let mut links = Vec::new(alloc);
         for _site in 0..sites {

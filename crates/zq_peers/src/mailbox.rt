@@ -1,8 +1,9 @@
 //! A site's way in.
 ghost use Rattle.std.specs.Prelude.{◌≡◌, IfOk};
 ghost use Rattle.zq_peers.specs.Fates.{had_memory};
+ghost use Rattle.zq_peers.specs.Slips.{IsSlip, IsTaken};
 
-use crate::tray::{Fate, Slip, Tray};
+use crate::tray::{Fate, Slip, Taken, Tray};
 use std::alloc::{AllocError, Global};
 use std::snapshot::Snapshot;
 use std::sync::atomic::{AtomicBool, Ordering};
@@ -13,8 +14,8 @@ use zq_links::Message;
 /// Where messages wait for a site's link thread. Any thread may send to it; the link thread alone takes from it.
 ///
 /// Of Ticks one waits at most: the site's threads send one after each call, and the link thread, which then says what
-/// the site has by now, owes them one answer for all. Of frames some number wait at most: past it a frame is lost, and
-/// a Tick comes in its place, by which the site will say what it has, and be told what it lacks.
+/// the site has by now, owes them one answer for all. A frame comes in where fewer messages wait than may: else it is
+/// lost, and a Tick comes in its place, by which the site will say what it has, and be told what it lacks.
 ///
 /// A tray keeps what waits, under a lock. A call here takes the lock, calls the tray, and wakes the link thread.
 #[derive(Drop)]
@@ -26,7 +27,7 @@ pub struct Mailbox {
     most: usize,
 }
 
-/// A receipt: the mailbox was given a frame.
+/// A receipt: the mailbox was given a frame. Only a mailbox makes one.
 #[derive(Drop)]
 pub struct Handed {
     mailbox: Snapshot<Mailbox>,
@@ -35,7 +36,7 @@ pub struct Handed {
 
 impl Handed {
     /// Whether there was memory for the frame.
-    pub(crate) fn had_memory(&self) -> bool
+    pub fn had_memory(&self) -> bool
         ensures { result ≡ had_memory self.now.slip.fate }
     {
         self.slip.fate() != Fate::NoMemory
@@ -43,7 +44,7 @@ impl Handed {
 }
 
 impl Mailbox {
-    /// An empty mailbox, in which about this many messages wait at most.
+    /// An empty mailbox. A frame comes in where fewer messages than this wait.
     pub fn new(alloc: Global, most: usize) -> Result<Mailbox, AllocError>
         ensures { IfOk result (λ mailbox. mailbox.most ≡ most) }
     {
@@ -73,17 +74,13 @@ impl Mailbox {
         self.changed.notify_one();
     }
 
-    /// Sends a frame that came from this site, and says whether there was memory for it. Where too many messages wait it is
-    /// lost, and a Tick is sent.
-    pub fn give<R: Wait>(&self, rt: &R, from: SiteNo, bytes: Vec<u8>) -> bool {
-        self.hand(rt, from, bytes).had_memory()
-    }
-
-    /// Sends a frame that came from this site, for a receipt. Where too many messages wait it is lost, and a Tick is sent.
-    pub(crate) fn hand<R: Wait>(&self, rt: &R, from: SiteNo, bytes: Vec<u8>) -> Handed
+    /// Sends a frame that came from this site, for a receipt. Where as many messages wait as may it is lost, and a Tick is
+    /// sent. Where there is no memory for it it is lost.
+    pub fn give<R: Wait>(&self, rt: &R, from: SiteNo, bytes: Vec<u8>) -> Handed
         ensures mailbox { result.mailbox.value ≡ self.now }
         ensures from { result.slip.from ≡ from }
         ensures frame { result.slip.frame.value ≡ bytes }
+        ensures slip { IsSlip self.now.most result.slip }
     {
         let mut tray = self.tray.lock(rt);
         let slip = tray.give(self.most, from, bytes);
@@ -96,14 +93,16 @@ impl Mailbox {
         }
     }
 
-    /// Waits for the next message.
-    pub(crate) fn take<R: Wait>(&self, rt: &R) -> Message {
+    /// Waits for the next message, which comes with a receipt.
+    pub(crate) fn take<R: Wait>(&self, rt: &R) -> (Message, Taken)
+        ensures { IsTaken result.0 result.1 }
+    {
         let mut tray = self.tray.lock(rt);
         for _ in rt.forever() {
-            if let Some(message) = tray.take() {
+            if let Some(taken) = tray.take() {
                 // From here on a call is told of by the next Tick.
                 self.note(&tray);
-                return message;
+                return taken;
             }
             tray = self.changed.wait(rt, tray);
         }

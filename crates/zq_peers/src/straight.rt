@@ -23,6 +23,7 @@ impl<'a, R: Wait> Straight<'a, R> {
     pub fn new(rt: &'a R, from: SiteNo, mailboxes: &'a [Mailbox]) -> Straight<'a, R>
         ensures from { result.from ≡ from }
         ensures mailboxes { result.mailboxes.now ≡ mailboxes.now }
+        ensures last { result.last ≡ None }
     {
         Straight {
             rt,
@@ -41,7 +42,7 @@ impl<'a, R: Wait> Carry for Straight<'a, R> {
     fn carry(&mut self, _alloc: Global, to: SiteNo, frame: Vec<u8>) -> bool {
         match self.mailboxes.get(usize::from(to.value())) {
             Some(mailbox) => {
-                let handed = mailbox.hand(self.rt, self.from, frame);
+                let handed = mailbox.give(self.rt, self.from, frame);
                 let whole = handed.had_memory();
                 self.last = Some(handed);
                 whole

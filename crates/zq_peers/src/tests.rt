@@ -1,8 +1,13 @@
 //! Mailboxes, links without faults, and the other sites.
 
+mod waking;
+
 use crate::{Carry, Mailbox, Straight, others};
 use std::alloc::Global;
+use std::process::Abort;
+use std::sync::Wait;
 use std::test::Fail;
+use waking::{CALLS, woken_by};
 use zq_dots::SiteNo;
 use zq_links::Message;
 
@@ -15,26 +20,53 @@ fn letter_of(message: &Message) -> u8 {
     }
 }
 
+/// The letter of the next message.
+fn next_letter<R: Wait>(rt: &R, mailbox: &Mailbox) -> u8 {
+    let (message, _taken) = mailbox.take(rt);
+    letter_of(&message)
+}
+
 /// A site.
 fn site(number: u8) -> Result<SiteNo, Fail> {
     Ok(SiteNo::new(number).ok_or("a site")?)
 }
 
-#[test]
-fn a_lost_frame_leaves_a_tick_and_no_second_one_waits(rt: HostRuntime) -> Result<(), Fail> {
-    let mailbox = Mailbox::new(rt.alloc(), 2)?;
+/// Gives a mailbox in which so many messages may wait two frames more, and looks at what is taken then.
+fn check_full<R: Wait + Abort>(rt: &R, alloc: Global, most: u8) -> Result<(), Fail> {
+    let mailbox = Mailbox::new(alloc, usize::from(most))?;
     let from = site(1)?;
-    for _frame in 0..4 {
-        assert!(rt; mailbox.give(&rt, from, Vec::new(rt.alloc())));
+    for _frame in 0..most.saturating_add(2) {
+        assert!(rt; mailbox.give(rt, from, Vec::new(alloc)).had_memory());
     }
-    for want in [b'f', b'f', b't'] {
-        assert_eq!(rt; letter_of(&mailbox.take(&rt)), want);
+    for frame in 0..most {
+        assert!(rt;
+            next_letter(rt, &mailbox) == b'f',
+            "frame {frame} of {most}"
+        );
     }
-    mailbox.tick(&rt);
-    mailbox.tick(&rt);
-    mailbox.stop(&rt);
+    assert!(rt; next_letter(rt, &mailbox) == b't', "{most} frames");
+    mailbox.tick(rt);
+    mailbox.tick(rt);
+    mailbox.stop(rt);
     for want in [b't', b's', b's'] {
-        assert_eq!(rt; letter_of(&mailbox.take(&rt)), want);
+        assert!(rt; next_letter(rt, &mailbox) == want, "{most} frames");
+    }
+    Ok(())
+}
+
+#[test]
+fn as_many_frames_wait_as_may_and_one_tick(rt: HostRuntime) -> Result<(), Fail> {
+    for most in [1, 3, 100] {
+        check_full(&rt, rt.alloc(), most)?;
+    }
+    Ok(())
+}
+
+#[test]
+fn each_call_wakes_who_waits_in_a_mailbox(rt: HostRuntime) -> Result<(), Fail> {
+    for (call, want) in CALLS {
+        let letter = woken_by(&rt, rt.alloc(), site(1)?, call)?;
+        assert!(rt; letter == want);
     }
     Ok(())
 }
@@ -50,7 +82,7 @@ fn a_frame_comes_to_the_site_that_it_goes_to(rt: HostRuntime) -> Result<(), Fail
     assert!(rt; carrier.carry(rt.alloc(), site(3)?, Vec::new(rt.alloc())));
     for (mailbox, want) in mailboxes.iter().zip([b's', b's', b'f']) {
         mailbox.stop(&rt);
-        assert_eq!(rt; letter_of(&mailbox.take(&rt)), want);
+        assert!(rt; next_letter(&rt, mailbox) == want);
     }
     Ok(())
 }

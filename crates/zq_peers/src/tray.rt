@@ -1,5 +1,6 @@
 //! What waits for a link thread: the state of a mailbox, apart from its lock.
-ghost use Rattle.std.specs.Prelude.{◌≡◌, IfOk};
+ghost use Rattle.std.specs.Prelude.{◌≡◌, IfOk, IfSome, option_map};
+ghost use Rattle.zq_peers.specs.Slips.{IsTaken};
 ghost use Rattle.zq_peers.specs.Trays.{IsGiven, has_tick, is_full, left_in, next_in, nothing, stopped, ticked};
 
 use std::alloc::{AllocError, Global};
@@ -27,6 +28,20 @@ pub struct Slip {
     from: SiteNo,
     frame: Snapshot<Vec<u8>>,
     fate: Fate,
+    /// What waited before.
+    before: Snapshot<Tray>,
+    /// What waits then.
+    after: Snapshot<Tray>,
+}
+
+/// A receipt: this message was taken. Only a tray makes one. It takes no room.
+#[derive(Drop)]
+pub struct Taken {
+    message: Snapshot<Message>,
+    /// What waited before.
+    before: Snapshot<Tray>,
+    /// What waits then.
+    after: Snapshot<Tray>,
 }
 
 impl Slip {
@@ -107,11 +122,21 @@ impl Tray {
     pub(crate) fn give(&mut self, most: usize, from: SiteNo, bytes: Vec<u8>) -> Slip
         ensures from { result.from ≡ from }
         ensures frame { result.frame.value ≡ bytes }
+        ensures before { result.before.value ≡ self.old }
+        ensures after { result.after.value ≡ self.new }
         ensures given { IsGiven most from bytes self.old result.fate self.new }
     {
         let frame = Snapshot::of(&bytes);
+        let before = Snapshot::of(&*self);
         let fate = self.put(most, from, bytes);
-        Slip { from, frame, fate }
+        let after = Snapshot::of(&*self);
+        Slip {
+            from,
+            frame,
+            fate,
+            before,
+            after,
+        }
     }
 
     /// The same, without the slip.
@@ -131,8 +156,24 @@ impl Tray {
         Fate::Waits
     }
 
-    /// What waits first, which then waits no more. Where it was stopped, and nothing else waits, it is a Stop.
-    pub(crate) fn take(&mut self) -> Option<Message>
+    /// What waits first, which then waits no more, with a receipt. Where it was stopped, and nothing else waits, it is a Stop.
+    pub(crate) fn take(&mut self) -> Option<(Message, Taken)>
+        ensures next { option_map (λ t. t.0) result ≡ next_in self.old }
+        ensures left { self.new ≡ left_in self.old }
+        ensures taken { IfSome result (λ t. IsTaken t.0 t.1) }
+    {
+        let before = Snapshot::of(&*self);
+        let message = self.draw()?;
+        let taken = Taken {
+            message: Snapshot::of(&message),
+            before,
+            after: Snapshot::of(&*self),
+        };
+        Some((message, taken))
+    }
+
+    /// The same, without the receipt.
+    fn draw(&mut self) -> Option<Message>
         ensures next { result ≡ next_in self.old }
         ensures left { self.new ≡ left_in self.old }
     {

@@ -11,6 +11,6 @@ loop-preserved g c =
       (
         c.next-message.result ∷ is.2.0,
         (c.loop.inbox, is.2.1, c.next-message.ensures),
-        (c.if-not-answer.ensures.goes_on.0 refl, (end_of c.loop.node c.loop.carrier c.loop.witness, is.2.2, answered.moved)),
+        (c.if-not-answer.ensures.goes_on.0 refl, (end_of c.loop.node c.loop.sender c.loop.witness, is.2.2, answered.moved)),
       ),
     )

@@ -8,4 +8,4 @@ abbrev pub invariant-loop : goal.invariant-loop
 invariant-loop g l =
     IsNode l.node × IsSameHome l.initial.node l.node
     × ((messages : List Message) × AreTaken g.I.Inbox.gives l.initial.inbox l.inbox messages
-    × AreMoves g.C.Carry.carries g.T.Witness.tells l.self.others.items (end_of l.initial.node l.initial.carrier l.initial.witness) (end_of l.node l.carrier l.witness) messages)
+    × AreMoves g.S.Sends.sends g.T.Witness.tells l.self.others.items (end_of l.initial.node l.initial.sender l.initial.witness) (end_of l.node l.sender l.witness) messages)

@@ -11,11 +11,11 @@ returns-in-Some g c =
     let from = c.args.self.now.from in
     let there = c.in-Some.ensures.lookup in
     let mailbox = c.in-Some.mailbox.now in
-    let handed = c.hand-handed in
+    let handed = c.give-handed in
     let read = slice_get_read ms (length ms) c.from.result mailbox refl there.3.0 there.1 in
     let P : ℕ → Type 0 = λ place. slice_get ms place ≡ Some mailbox in
     let at = subst P (c.from.ensures ∙ c.value.ensures.same) read in
-    let receipt : IsReceipt mailbox from c.args.frame.items c.had_memory-whole.result handed.result = record { mailbox_is = handed.ensures.mailbox; from_is = handed.ensures.from; frame_is = ap (λ v. v.items) handed.ensures.frame; whole_is = c.had_memory-whole.ensures } in
+    let receipt : IsReceipt mailbox from c.args.frame.items c.had_memory-whole.result handed.result = record { mailbox_is = handed.ensures.mailbox; from_is = handed.ensures.from; frame_is = ap (λ v. v.items) handed.ensures.frame; slip = handed.ensures.slip; whole_is = c.had_memory-whole.ensures } in
     handed_there ms from c.args.to c.args.frame.items c.had_memory-whole.result mailbox handed.result at receipt
 
 pub returns-in-None : goal.returns-in-None
