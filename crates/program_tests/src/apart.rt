@@ -2,19 +2,20 @@
 
 mod clients;
 mod guests;
+mod herald;
 mod places;
 
-use clients::{Step, is_answered, serve_all};
-use guests::{Guests, greeting, is_logged, logged_with};
+use clients::{Step, serve_all};
+use guests::{Guests, greeting, is_logged, logged_with, read_out};
+use herald::Herald;
 use log::sink::Locked;
 use log::{LevelFilter, Logged};
-use places::{Place, free_places, reach, settings_at, settings_of};
+use places::{Place, free_places, settings_at, settings_of};
 use std::alloc::Global;
-use std::net::{IpAddr, Ipv4Addr, Net, SocketAddr, TcpListener, TcpStream};
+use std::net::{Net, TcpListener, TcpStream};
 use std::random::RandomSource;
 use std::sync::Wait;
 use std::test::Fail;
-use std::thread;
 use std::thread::Threads;
 use std::time::Clock;
 use zq_settings::SiteSettings;
@@ -30,9 +31,9 @@ const RANGE: &[u8] = b"*4\r\n$6\r\nZRANGE\r\n$1\r\nq\r\n$1\r\n0\r\n$2\r\n-1\r\n"
 
 const BOTH: &[u8] = b"*2\r\n$1\r\na\r\n$1\r\nb\r\n";
 
-// Site 1, of two heaps and the first rule, says that it has a secret, and gives 16 bytes and an answer that it guesses.
+// Site 2, of two heaps and the first rule, says that it has a secret, and gives 16 bytes and an answer that it guesses.
 const GUESSED: &[u8] =
-    b"zq-peer\n\x01\x01\x02\x00\x01sixteen bytes...................................";
+    b"zq-peer\n\x01\x02\x02\x00\x01sixteen bytes...................................";
 
 // What the first site is told and then the last one, with the number of the last one's place.
 fn steps_to(last: usize) -> [Step<'static>; 6] {
@@ -75,7 +76,7 @@ fn what_one_site_is_told_others_have(rt: HostRuntime) -> Result<(), Fail> {
     Ok(())
 }
 
-/// Whether site 0, with this secret, lets strangers go and warns of them in these words.
+/// Whether site 1 of three, with this secret, lets strangers go and warns of them in these words.
 fn lets_go<R>(
     rt: &R,
     alloc: Global,
@@ -92,8 +93,8 @@ where
         + Wait
         + Sync,
 {
-    let [own, _] = places else {
-        return Err("two places".into());
+    let [_, own, _] = places else {
+        return Err("three places".into());
     };
     let settings = settings_of(alloc, *own, places, secret)?;
     let guests = Guests::Strangers(strangers, own.door());
@@ -103,32 +104,35 @@ where
 
 #[test]
 fn who_is_not_welcome_is_let_go(rt: HostRuntime) -> Result<(), Fail> {
-    let strangers: [&[u8]; 4] = [
+    let strangers: [&[u8]; 5] = [
         b"GET / HTTP/1.1\r\n\r\n",
-        &greeting(1, 2, 1),
-        &greeting(1, 3, 0),
-        &greeting(2, 2, 0),
+        &greeting(2, 2, 1),
+        &greeting(2, 3, 0),
+        &greeting(3, 2, 0),
+        // A peer that is dialled, and does not dial.
+        &greeting(0, 2, 0),
     ];
     let words = [
-        "site 0 refuses a peer: it does not greet as a site does",
-        "site 0 refuses a peer: it has another rule",
-        "site 0 refuses a peer: it has 3 heaps",
-        "site 0 refuses a peer: site 2 is not expected",
+        "site 1 refuses a peer: it does not greet as a site does",
+        "site 1 refuses a peer: it has another rule",
+        "site 1 refuses a peer: it has 3 heaps",
+        "site 1 refuses a peer: site 3 is not expected",
+        "site 1 refuses a peer: site 0 is not expected",
     ];
-    let places = free_places(&rt, rt.alloc(), rt.process(), 2)?;
+    let places = free_places(&rt, rt.alloc(), rt.process(), 3)?;
     assert!(rt; lets_go(&rt, rt.alloc(), &places, None, &strangers, &words)?);
     Ok(())
 }
 
 #[test]
 fn who_does_not_know_the_secret_is_let_go(rt: HostRuntime) -> Result<(), Fail> {
-    let strangers: [&[u8]; 2] = [&greeting(1, 2, 0), GUESSED];
+    let strangers: [&[u8]; 2] = [&greeting(2, 2, 0), GUESSED];
     let words = [
-        "site 0 refuses a peer: it has no secret, and this site wants one",
-        "site 0 refuses a peer: it does not know the secret",
+        "site 1 refuses a peer: it has no secret, and this site wants one",
+        "site 1 refuses a peer: it does not know the secret",
     ];
     let secret = Some("a secret of sites");
-    let places = free_places(&rt, rt.alloc(), rt.process(), 2)?;
+    let places = free_places(&rt, rt.alloc(), rt.process(), 3)?;
     assert!(rt; lets_go(&rt, rt.alloc(), &places, secret, &strangers, &words)?);
     Ok(())
 }
@@ -149,6 +153,41 @@ fn a_peer_is_dialled_again_after_a_break(rt: HostRuntime) -> Result<(), Fail> {
         "site 1 lost its link to site 0: a frame is too long",
         "site 1 drops a frame of site 0: it is no frame",
     ];
+    assert!(rt; is_logged(&log, &words)?);
+    Ok(())
+}
+
+#[test]
+fn pauses_grow_until_a_frame_comes(rt: HostRuntime) -> Result<(), Fail> {
+    let alloc = rt.alloc();
+    let places = free_places(&rt, alloc, rt.process(), 2)?;
+    let [peer, own] = places.as_slice() else {
+        return Err("two places".into());
+    };
+    let settings = settings_of(alloc, *own, &places, None)?;
+    let listener = TcpListener::bind(&rt, peer.door())?;
+    let guests = Guests::Shy(&listener);
+    let log = logged_with(&rt, alloc, &settings, &guests, own.clients)?;
+    let words = [
+        "site 1 drops a frame of site 0: it is no frame",
+        "site 1 lost its link to site 0: it was closed",
+    ];
+    assert!(rt; is_logged(&log, &words)?);
+    assert!(rt; !is_logged(&log, &["too long"])?);
+    Ok(())
+}
+
+#[test]
+fn a_peer_that_says_nothing_is_given_up_after_20_seconds(rt: HostRuntime) -> Result<(), Fail> {
+    let alloc = rt.alloc();
+    let places = free_places(&rt, alloc, rt.process(), 2)?;
+    let [own, _] = places.as_slice() else {
+        return Err("two places".into());
+    };
+    let settings = settings_of(alloc, *own, &places, None)?;
+    let guests = Guests::Silent(own.door());
+    let log = logged_with(&rt, alloc, &settings, &guests, own.clients)?;
+    let words = ["site 0 lost its link to site 1: nothing came for 20 seconds"];
     assert!(rt; is_logged(&log, &words)?);
     Ok(())
 }
@@ -182,43 +221,6 @@ fn no_loss_is_warned_of_where_a_newer_link_or_the_end_came(rt: HostRuntime) -> R
     Ok(())
 }
 
-/// Whether a client is answered at 127.0.0.2.
-fn is_heard_there<N: Net<Listener = TcpListener, Stream = TcpStream>, R: Clock>(
-    net: &N,
-    rt: &R,
-    alloc: Global,
-    port: u16,
-) -> Result<bool, Fail> {
-    let there = SocketAddr::from((IpAddr::V4(Ipv4Addr::new(127, 0, 0, 2)), port));
-    let client = reach(net, rt, there).ok_or("nobody listens")?;
-    is_answered(alloc, &client, b"*1\r\n$4\r\nPING\r\n", b"+PONG\r\n")
-}
-
-/// Serves a site whose clients connect at 127.0.0.2: whether one is answered there and serving ends well, and what is written.
-fn heard_there<R>(
-    rt: &R,
-    alloc: Global,
-    settings: &SiteSettings,
-    port: u16,
-) -> Result<(bool, Vec<u8>), Fail>
-where
-    R: Net<Listener = TcpListener, Stream = TcpStream>
-        + RandomSource
-        + Clock
-        + Threads
-        + Wait
-        + Sync,
-{
-    let log = Logged::new(rt, LevelFilter::Warn, Locked::new(rt, Vec::new(alloc)));
-    let mut written = Vec::new(alloc);
-    let (ended, heard) = thread::join(
-        rt,
-        || serve_site(rt, &log, alloc, settings, &mut written),
-        || is_heard_there(rt, rt, alloc, port),
-    );
-    Ok((heard? && ended.is_ok(), written))
-}
-
 // The port is taken at 127.0.0.1, so that a site that listens there for its clients, or at all addresses, is not served.
 #[test]
 fn clients_are_heard_at_the_address_of_bind(rt: HostRuntime) -> Result<(), Fail> {
@@ -227,12 +229,15 @@ fn clients_are_heard_at_the_address_of_bind(rt: HostRuntime) -> Result<(), Fail>
     let [own] = places.as_slice() else {
         return Err("a place".into());
     };
-    let (own, port) = (*own, own.clients);
+    let port = own.clients;
     let _taken = TcpListener::bind(&rt, ("127.0.0.1", port))?;
-    let settings = settings_at(alloc, own, "127.0.0.2")?;
-    let (heard, written) = heard_there(&rt, alloc, &settings, port)?;
-    assert!(rt; heard);
+    let settings = settings_at(alloc, *own, "127.0.0.2")?;
+    let log = Logged::new(&rt, LevelFilter::Warn, Locked::new(&rt, Vec::new(alloc)));
+    let mut herald = Herald::new(&rt, alloc, *own);
+    serve_site(&rt, &log, alloc, &settings, &mut herald)?;
     let line = format!(in alloc; "site 0 port {port} peers {}\n", own.door())?;
-    assert_eq!(rt; written.as_slice(), line.as_bytes());
+    assert_eq!(rt; herald.line.as_slice(), line.as_bytes());
+    let client = herald.client.as_ref().ok_or("nobody asked")?;
+    assert_eq!(rt; read_out(alloc, client).as_slice(), b"+PONG\r\n".as_slice());
     Ok(())
 }

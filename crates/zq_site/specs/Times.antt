@@ -1,6 +1,6 @@
--- How long things take at most, in nanoseconds.
+-- How long things take at most, in nanoseconds, and how many bytes a frame has.
 
-use Rattle.std.specs.Prelude.{ℕ, ◌*◌}
+use Rattle.std.specs.Prelude.{ℕ, ◌*◌, ◌^◌}
 
 abbrev seconds : ℕ → ℕ
 seconds n = n * 1_000_000_000
@@ -23,3 +23,7 @@ silence = 4 * telling
 -- the site waits so long where a connection could not be accepted
 abbrev pub not_accepted : ℕ
 not_accepted = 100 * 1_000_000
+
+-- a frame that goes over a link has a gibibyte at most
+abbrev pub most_frame : ℕ
+most_frame = 2 ^ 30

@@ -1,12 +1,15 @@
 -- What a site warns of, in words.
 
-use Rattle.std.specs.Prelude.{Bool, List, codes, false, if◌then◌else◌, true, ℕ}
+use Rattle.std.specs.Prelude.{Bool, List, codes, decimal, false, if◌then◌else◌, true, ℕ, ◌++◌}
 use Rattle.zq_site.specs.declared.loss.Loss.{Loss}
 use Rattle.zq_site.specs.declared.loss.Loss.TheVariants as loss
+use Rattle.zq_site.specs.declared.warning.Warning.{Warning}
+use Rattle.zq_site.specs.declared.warning.Warning.TheVariants.{Drops, Keeps, Loses, Refuses}
 use Rattle.zq_delta.specs.declared.fault.OpFault.{OpFault}
 use Rattle.zq_delta.specs.declared.fault.OpFault.TheVariants as op
 use Rattle.zq_links.specs.declared.frame_fault.FrameFault.{FrameFault}
 use Rattle.zq_links.specs.declared.frame_fault.FrameFault.TheVariants as frame
+use Rattle.zq_wire.specs.Words.{words_of}
 use Rattle.zq_merge.specs.declared.fault.StateFault.{StateFault}
 use Rattle.zq_merge.specs.declared.fault.StateFault.TheVariants as state
 use Rattle.zq_node.specs.declared.faults.NodeFault.{NodeFault}
@@ -48,3 +51,13 @@ words_of_node node.NoMemory = codes "there was no memory for it"
 abbrev pub words_of_unheard : Unheard → List ℕ
 words_of_unheard (Unread fault) = if is_memory fault then codes "there was no memory for it" else codes "it is no frame"
 words_of_unheard (Refused fault) = words_of_node fault
+
+-- what the site of this number warns of, with the number of the peer where it is known
+abbrev pub words_of_warning : ℕ → Warning → List ℕ
+words_of_warning site (Refuses refusal) = codes "site " ++ (decimal site ++ (codes " refuses a peer: " ++ words_of refusal))
+words_of_warning site (Loses peer why) =
+    codes "site " ++ (decimal site ++ (codes " lost its link to site " ++ (decimal peer ++ (codes ": " ++ words_of_loss why))))
+words_of_warning site (Drops peer why) =
+    codes "site " ++ (decimal site ++ (codes " drops a frame of site " ++ (decimal peer ++ (codes ": " ++ words_of_unheard why))))
+words_of_warning site (Keeps peer) =
+    codes "site " ++ (decimal site ++ (codes " has a frame for site " ++ (decimal peer ++ codes " that is too long")))

@@ -18,8 +18,8 @@ use std::time::Clock;
 use zq_dots::SiteNo;
 use zq_wire::{Opened, Unopened};
 
-/// Opens a link to one of these peers over the stream, and reads it until it ends. It says whether the peer was welcome;
-/// who was refused is warned of.
+/// Opens a link to one of these peers over the stream, and reads it until it ends. It says whether a frame of the peer was
+/// heard: a greeting that agrees is no sign that this site is welcome there. Who was refused is warned of.
 pub fn attend<L: Log + RandomSource + Clock + Wait>(
     log: &L,
     shared: Shared<'_>,
@@ -37,7 +37,8 @@ pub fn attend<L: Log + RandomSource + Clock + Wait>(
     }
 }
 
-/// Puts a link that was opened in the place of an older one, and keeps it until it ends. It says whether it was up.
+/// Puts a link that was opened in the place of an older one, and keeps it until it ends. It says whether a frame of the
+/// peer was heard.
 fn follow<L: Log + Wait>(log: &L, shared: Shared<'_>, stream: TcpStream, opened: &Opened) -> bool {
     let peer = opened.peer;
     let Some(line) = line_of(shared.lines, peer) else {
@@ -60,9 +61,10 @@ fn follow<L: Log + Wait>(log: &L, shared: Shared<'_>, stream: TcpStream, opened:
         number,
         stream: &stream,
         opened,
+        heard: false,
     };
     keep_up(&mut kept);
-    true
+    kept.heard
 }
 
 /// A link that is up.
@@ -74,6 +76,8 @@ struct LinkUpkeep<'a, L: Log + Wait> {
     number: u64,
     stream: &'a TcpStream,
     opened: &'a Opened,
+    /// Whether a frame of the peer was heard.
+    heard: bool,
 }
 
 impl<L: Log + Wait> Upkeep for LinkUpkeep<'_, L> {
@@ -91,9 +95,12 @@ impl<L: Log + Wait> Upkeep for LinkUpkeep<'_, L> {
             rt: self.log,
             mailbox: self.shared.mailbox,
             peer: self.opened.peer,
+            heard: false,
         };
         let first = self.opened.first.as_slice();
-        read_link(self.log, self.shared.alloc, &mut reader, &mut ear, first)
+        let loss = read_link(self.log, self.shared.alloc, &mut reader, &mut ear, first);
+        self.heard = ear.heard;
+        loss
     }
 
     fn lower(&mut self) -> bool {

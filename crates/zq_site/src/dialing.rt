@@ -1,7 +1,7 @@
 //! What dials a peer.
 
 use crate::attending::attend;
-use crate::pause::{Pause, pause_after};
+use crate::pause::pause_after;
 use crate::peer_link::PeerLink;
 use crate::shared::Shared;
 use crate::times::connecting;
@@ -11,26 +11,27 @@ use std::random::RandomSource;
 use std::sync::Wait;
 use std::time::Clock;
 
-/// Dials the peer of a line, and dials it again after each end of the link, until the site ends.
+/// Dials the peer of a line, and dials it again after each attempt and each end of the link, until the site ends.
 pub fn dial_line<N, L>(net: &N, log: &L, shared: Shared<'_>, line: &PeerLink)
 where
     N: Net<Listener = TcpListener, Stream = TcpStream>,
     L: Log + RandomSource + Clock + Wait,
 {
-    let mut pause = Pause::first();
+    let mut last = None;
     for _ in log.forever() {
         if shared.halt.is_over(log) {
             break;
         }
-        let welcome = dial_once(net, log, shared, line);
+        let heard = dial_once(net, log, shared, line);
+        let pause = pause_after(last, heard);
         if shared.halt.wait(log, pause.duration()) {
             break;
         }
-        pause = pause_after(pause, welcome);
+        last = Some(pause);
     }
 }
 
-/// Dials the peer of a line, and says whether it was welcome.
+/// Dials the peer of a line, and says whether a frame of it was heard.
 fn dial_once<N, L>(net: &N, log: &L, shared: Shared<'_>, line: &PeerLink) -> bool
 where
     N: Net<Listener = TcpListener, Stream = TcpStream>,

@@ -1,8 +1,8 @@
 //! How long a site waits before it dials again.
 
 ghost use Rattle.std.specs.Duration.{as_nanos};
-ghost use Rattle.std.specs.Prelude.{◌≡◌, ◌*◌, if◌then◌else◌};
-ghost use Rattle.zq_site.specs.Pause.{FIRST_PAUSE, longer_pause};
+ghost use Rattle.std.specs.Prelude.{◌≡◌, ◌*◌};
+ghost use Rattle.zq_site.specs.Pause.{FIRST_PAUSE, longer_pause, next_pause};
 
 use std::marker::Model;
 use std::time::Duration;
@@ -27,7 +27,7 @@ impl Model for Pause {
 }
 
 impl Pause {
-    /// The pause after a link that was up, or before any: 100 milliseconds.
+    /// The pause after the first attempt, or after a link over which a frame came: 100 milliseconds.
     pub fn first() -> Pause
         ensures { result ≡ FIRST_PAUSE }
     {
@@ -51,13 +51,13 @@ impl Pause {
     }
 }
 
-/// The pause after an attempt: the first one where the peer was welcome, and else a longer one.
-pub fn pause_after(pause: Pause, welcome: bool) -> Pause
-    ensures { result ≡ (if welcome then FIRST_PAUSE else longer_pause pause) }
+/// The pause after an attempt, from the last one before it, if there was one: the first pause where a frame of the peer was
+/// heard or there was none before, and else a longer one than the last.
+pub fn pause_after(last: Option<Pause>, heard: bool) -> Pause
+    ensures { result ≡ next_pause last heard }
 {
-    if welcome {
-        Pause::first()
-    } else {
-        pause.longer()
+    match last {
+        Some(last) if !heard => last.longer(),
+        _ => Pause::first(),
     }
 }

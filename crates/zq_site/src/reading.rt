@@ -7,7 +7,7 @@ ghost use Rattle.zq_wire.specs.StreamLaws.{given_by};
 ghost use Rattle.zq_wire.specs.Stream.{answered, frames_in};
 
 use crate::loss::Loss;
-use crate::times::{MOST_FRAME, PIECE};
+use crate::times::{PIECE, most_frame};
 use std::alloc::Global;
 use std::io::{ErrorKind, Read};
 use std::sync::Wait;
@@ -25,20 +25,23 @@ pub trait Hear {
         ensures { hears self.old frame.items self.new };
 }
 
-/// Gives the frames of a peer to the site's mailbox.
+/// Gives the frames of a peer to the site's mailbox, and notes that one came.
 #[derive(Drop)]
 pub struct Ear<'a, R: Wait> {
     pub rt: &'a R,
     pub mailbox: &'a Mailbox,
     pub peer: SiteNo,
+    /// Whether a frame came.
+    pub heard: bool,
 }
 
 impl<R: Wait> Hear for Ear<'_, R> {
-    ghost use Rattle.std.specs.Prelude.{◌≡◌};
+    ghost use Rattle.std.specs.Prelude.{true, ◌≡◌};
 
-    ghost hears = { λ old frame new. new.peer ≡ old.peer };
+    ghost hears = { λ old frame new. (new.peer ≡ old.peer) × (new.heard ≡ true) };
 
     fn hear(&mut self, frame: Vec<u8>) {
+        self.heard = true;
         // Where there is no memory it is lost, and the peer's next Have makes up for it.
         let _ = self.mailbox.give(self.rt, self.peer, frame);
     }
@@ -53,7 +56,7 @@ pub fn read_link<W: Wait, R: Read, H: Hear>(
     ear: &mut H,
     first: &[u8],
 ) -> Loss {
-    let mut reader = Reader::new(alloc, MOST_FRAME);
+    let mut reader = Reader::new(alloc, most_frame());
     if let Err(loss) = hear_on(ear, reader.feed(alloc, first)) {
         return loss;
     }

@@ -29,9 +29,10 @@ use zq_settings::SiteSettings;
 /// ends when the port has accepted and served as many connections as `connections` says.
 ///
 /// It dials its peers of a smaller number, and those of a greater number dial it; after a break a peer is dialled again,
-/// after a pause that doubles from 100 milliseconds to 5 seconds. A peer that is not expected, has another number of heaps
-/// or another rule, or does not know the secret, is let go. After each call of a connection the peers are told what the
-/// site has, and those that lack something are sent it. A link over which nothing came for 20 seconds is given up.
+/// after a pause that doubles from 100 milliseconds to 5 seconds, and is the first one again once a frame came over a link.
+/// A peer that is not expected, has another number of heaps or another rule, or does not know the secret, is let go. After
+/// each call of a connection the peers are told what the site has, and those that lack something are sent it. A link over
+/// which nothing came for 20 seconds is given up.
 ///
 /// What goes wrong at a connection, with a peer or on a link ends that alone, and is warned of in the log.
 /// The log's own handle does not connect within a time, so the net is passed beside it.

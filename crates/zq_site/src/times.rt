@@ -53,7 +53,11 @@ pub fn not_accepted() -> Duration
 /// The most bytes of a frame: a gibibyte. A state has some forty bytes and a member's text for each addition, so that
 /// some ten million members of a heap fit. A greater number is no length that a peer would send: it would cost the memory
 /// of as many bytes as come.
-pub const MOST_FRAME: u32 = 1 << 30;
+pub fn most_frame() -> u32
+    ensures { result ≡ wanted.most_frame }
+{
+    1 << 30
+}
 
 /// How many bytes are read at once.
 pub const PIECE: usize = 65_536;

@@ -1,7 +1,8 @@
 //! What is said of peers and links.
 
-ghost use Rattle.std.specs.Prelude.{◌≡◌};
-ghost use Rattle.zq_site.specs.Words.{is_memory, words_of_node, words_of_unheard};
+ghost use Rattle.std.specs.Fmt.{DisplaysOnOk};
+ghost use Rattle.std.specs.Prelude.{Some, ◌≡◌};
+ghost use Rattle.zq_site.specs.Words.{is_memory, words_of_node, words_of_unheard, words_of_warning};
 
 use crate::loss::Loss;
 use std::fmt;
@@ -36,27 +37,41 @@ pub struct Words {
 }
 
 impl fmt::Display for Words {
+    ghost output = { λ words. Some (words_of_warning words.site words.warning) };
+
     /// The warning, on one line.
     fn fmt<W: fmt::Write>(&self, f: &mut fmt::Formatter<W>) -> fmt::Result {
-        let site = self.site.value();
-        match self.warning {
-            Warning::Refuses(refusal) => write!(f, "site {site} refuses a peer: {refusal}"),
-            Warning::Loses(peer, loss) => {
-                let peer = peer.value();
-                write!(f, "site {site} lost its link to site {peer}: {loss}")
-            }
-            Warning::Drops(peer, why) => {
-                let peer = peer.value();
-                let why = unheard_words(why);
-                write!(f, "site {site} drops a frame of site {peer}: {why}")
-            }
-            Warning::Keeps(peer) => {
-                let peer = peer.value();
-                write!(
-                    f,
-                    "site {site} has a frame for site {peer} that is too long"
-                )
-            }
+        write_warning(f, self.site, self.warning)
+    }
+}
+
+/// Writes what a site warns of, on one line.
+fn write_warning<W: fmt::Write>(
+    f: &mut fmt::Formatter<W>,
+    site: SiteNo,
+    warning: Warning,
+) -> fmt::Result
+    ensures { DisplaysOnOk W.write_str_gives f.old result
+        (Some (words_of_warning site warning)) f.new }
+{
+    let site = site.value();
+    match warning {
+        Warning::Refuses(refusal) => write!(f, "site {site} refuses a peer: {refusal}"),
+        Warning::Loses(peer, loss) => {
+            let peer = peer.value();
+            write!(f, "site {site} lost its link to site {peer}: {loss}")
+        }
+        Warning::Drops(peer, why) => {
+            let peer = peer.value();
+            let why = unheard_words(why);
+            write!(f, "site {site} drops a frame of site {peer}: {why}")
+        }
+        Warning::Keeps(peer) => {
+            let peer = peer.value();
+            write!(
+                f,
+                "site {site} has a frame for site {peer} that is too long"
+            )
         }
     }
 }

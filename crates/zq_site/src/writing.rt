@@ -1,12 +1,13 @@
 //! What sends frames to a peer.
 
-ghost use Rattle.std.specs.Prelude.{length, ◌<◌, ◌^◌};
+ghost use Rattle.std.specs.Prelude.{IsTrue, length, ◌<◌, ◌^◌, ◌↔◌};
+ghost use Rattle.zq_site.specs.Times as wanted;
 ghost use Rattle.zq_site.specs.Written.{IsWritten};
 
 use crate::loss::Loss;
 use crate::peer_link::{PeerLink, Turn};
 use crate::shared::Shared;
-use crate::times::MOST_FRAME;
+use crate::times::most_frame;
 use crate::warning::Warning;
 use crate::warning_log::warn_of;
 use log::Log;
@@ -30,7 +31,7 @@ pub fn write_line<L: Log + Wait>(log: &L, shared: Shared<'_>, line: &PeerLink) {
 /// Sends a frame over its link.
 fn write_turn<L: Log + Wait>(log: &L, shared: Shared<'_>, line: &PeerLink, turn: &Turn) {
     let (site, peer) = (shared.settings.site, line.peer().site);
-    if turn.frame.len() > MOST_FRAME as usize {
+    if is_too_long(&turn.frame) {
         warn_of(log, site, Warning::Keeps(peer));
         return;
     }
@@ -39,6 +40,13 @@ fn write_turn<L: Log + Wait>(log: &L, shared: Shared<'_>, line: &PeerLink, turn:
     if written == Written::Broken && line.lower(log, turn.number) {
         warn_of(log, site, Warning::Loses(peer, Loss::Broken));
     }
+}
+
+/// Whether a frame is longer than a frame may be.
+fn is_too_long(frame: &[u8]) -> bool
+    ensures { IsTrue result ↔ (wanted.most_frame < length frame.now) }
+{
+    frame.len() > most_frame() as usize
 }
 
 /// What became of a frame.

@@ -1,11 +1,12 @@
 //! Peers of a site that the tests play.
 
+use super::clients::is_answered;
 use super::places::connect;
 use log::sink::Locked;
 use log::{LevelFilter, Logged};
 use std::alloc::Global;
 use std::io::{Read, Write};
-use std::net::{Net, SocketAddr, TcpListener, TcpStream};
+use std::net::{Net, Shutdown, SocketAddr, TcpListener, TcpStream};
 use std::random::RandomSource;
 use std::sync::Wait;
 use std::test::Fail;
@@ -35,10 +36,14 @@ pub enum Guests<'a> {
     Strangers(&'a [&'a [u8]], SocketAddr),
     /// A peer of a smaller number, which listens here.
     Dialled(&'a TcpListener),
+    /// Such a peer, which lets go a few times before it says anything.
+    Shy(&'a TcpListener),
     /// Each dials in here, and looks at the nonce that it is given.
     Curious(SocketAddr),
     /// A peer of a greater number, which dials in here again while its first link is up.
     Twice(SocketAddr),
+    /// Such a peer, which says nothing after its greeting.
+    Silent(SocketAddr),
 }
 
 /// Dials in with these bytes, and waits until the site lets go: what the site said.
@@ -93,8 +98,25 @@ pub fn link_up<N: Net<Listener = TcpListener, Stream = TcpStream>, R: Clock>(
     Ok(stream)
 }
 
-/// Puts a second link in the place of the first, which the site then ends, and holds it until the site ends, which is once
-/// its client has left.
+/// Has the site keep 16 members of a mebibyte each.
+pub fn fill(alloc: Global, mut client: &TcpStream) -> Result<(), Fail> {
+    for member in 0..16u8 {
+        client.write_all(b"*4\r\n$4\r\nZADD\r\n$1\r\nq\r\n$1\r\n1\r\n$1048576\r\n")?;
+        client.write_all(&vec![in alloc; member; 1 << 20]?)?;
+        if !is_answered(alloc, client, b"\r\n", b":1\r\n")? {
+            return Err("a member is not added".into());
+        }
+    }
+    Ok(())
+}
+
+/// A Have of each of two heaps, of site 1, which has nothing.
+const LACKS_ALL: &[u8] =
+    b"\x00\x00\x00\x06\x05\x02\x00\x01\x00\x00\x00\x00\x00\x06\x05\x02\x01\x01\x00\x00";
+
+/// Puts a second link in the place of the first, over which the site is writing some mebibytes that nobody reads: a
+/// connection does not hold as much. The site then ends the first. Holds the second until the site ends, which is once its
+/// client has left.
 pub fn link_twice<N: Net<Listener = TcpListener, Stream = TcpStream>, R: Clock>(
     net: &N,
     rt: &R,
@@ -102,12 +124,47 @@ pub fn link_twice<N: Net<Listener = TcpListener, Stream = TcpStream>, R: Clock>(
     door: SocketAddr,
     clients: u16,
 ) -> Result<(), Fail> {
-    let first = link_up(net, rt, door)?;
+    let client = connect(net, rt, clients)?;
+    fill(alloc, &client)?;
+    let mut first = link_up(net, rt, door)?;
+    first.write_all(LACKS_ALL)?;
+    first.read_exact(&mut vec![in alloc; 0u8; 1 << 16]?)?;
     let second = link_up(net, rt, door)?;
     let _ = read_out(alloc, &first);
-    drop(connect(net, rt, clients)?);
+    drop(client);
     let _ = read_out(alloc, &second);
     Ok(())
+}
+
+/// Dials in and says nothing after its greeting. The site gives it up after 20 seconds, and not before. In these it says
+/// four times what it has: as the link comes up, and after 5, 10 and 15 seconds, each time with a Have of each of two heaps.
+pub fn stay_silent<N: Net<Listener = TcpListener, Stream = TcpStream>, R: Clock>(
+    net: &N,
+    rt: &R,
+    alloc: Global,
+    door: SocketAddr,
+) -> Result<(), Fail> {
+    let mut stream = connect(net, rt, door.port())?;
+    let start = Instant::now(rt)?;
+    stream.write_all(greeting(1, 2, 0).as_slice())?;
+    let heard = read_out(alloc, &stream);
+    let time = start.elapsed(rt)?;
+    if time < Duration::from_secs(19) || time > Duration::from_secs(30) {
+        return Err("not given up after 20 seconds".into());
+    }
+    if haves_in(&heard) < 8 {
+        return Err("a Have comes late".into());
+    }
+    Ok(())
+}
+
+/// How many Haves follow a greeting of 13 bytes. All have the length of the first one, since the site has nothing.
+fn haves_in(heard: &[u8]) -> usize {
+    let frames = heard.get(13..).unwrap_or(&[]);
+    match frames {
+        [0, 0, 0, size, ..] => frames.len() / (usize::from(*size) + 4),
+        _ => 0,
+    }
 }
 
 /// Accepts the site, greets it, and sends it these bytes.
@@ -129,12 +186,43 @@ pub fn heard_of<R: Clock>(rt: &R, listener: &TcpListener) -> Result<([u8; 18], b
     Ok((heard, soon))
 }
 
-/// Breaks the link twice, once with a frame that is none and one that is too long, and hears what the site says then. One of
-/// the links that are up brings a Have within three seconds: else the site would say what it has after five, and after five
-/// more.
+/// Says these bytes to the site and nothing after them, and reads until the site ends the link.
+pub fn say(alloc: Global, listener: &TcpListener, bytes: &[u8]) -> Result<(), Fail> {
+    let stream = greet(listener, bytes)?;
+    stream.shutdown(Shutdown::Write)?;
+    let _ = read_out(alloc, &stream);
+    Ok(())
+}
+
+/// How often a shy peer lets the site go.
+const LET_GO: usize = 6;
+
+/// Lets the site go before anything came over a link, so that its pauses grow: they are 6,300 milliseconds from the first
+/// dial to the seventh. Then a frame comes, and the first byte of a frame of a gibibyte. The link ends as no more comes, and
+/// the next pause is 100 milliseconds again, where it would be 5,000 if it grew on.
+pub fn be_shy<R: Clock>(rt: &R, alloc: Global, listener: &TcpListener) -> Result<(), Fail> {
+    let start = Instant::now(rt)?;
+    for _dial in 0..LET_GO {
+        drop(greet(listener, b"")?);
+    }
+    say(alloc, listener, b"\x00\x00\x00\x01\x09\x40\x00\x00\x00\x05")?;
+    if start.elapsed(rt)? < Duration::from_millis(6_300) {
+        return Err("the pauses do not grow".into());
+    }
+    let start = Instant::now(rt)?;
+    drop(listener.accept()?);
+    if start.elapsed(rt)? > Duration::from_secs(4) {
+        return Err("the pauses do not begin again".into());
+    }
+    Ok(())
+}
+
+/// Breaks the link twice, once with a frame that is none and one that is too long, a gibibyte and a byte, and hears what the
+/// site says then. One of the links that are up brings a Have within three seconds: else the site would say what it has after
+/// five, and after five more.
 pub fn break_twice<R: Clock>(rt: &R, alloc: Global, listener: &TcpListener) -> Result<(), Fail> {
     let (_, first_soon) = heard_of(rt, listener)?;
-    let stream = greet(listener, b"\x00\x00\x00\x01\x09\xff\xff\xff\xff")?;
+    let stream = greet(listener, b"\x00\x00\x00\x01\x09\x40\x00\x00\x01")?;
     let _ = read_out(alloc, &stream);
     drop(stream);
     let (heard, then_soon) = heard_of(rt, listener)?;
@@ -162,8 +250,10 @@ pub fn entertain<N: Net<Listener = TcpListener, Stream = TcpStream>, R: Clock>(
             }
         }
         Guests::Dialled(listener) => break_twice(rt, alloc, listener)?,
+        Guests::Shy(listener) => be_shy(rt, alloc, listener)?,
         Guests::Curious(door) => look_at_nonces(net, rt, alloc, *door)?,
         Guests::Twice(door) => return link_twice(net, rt, alloc, *door, clients),
+        Guests::Silent(door) => stay_silent(net, rt, alloc, *door)?,
     }
     drop(connect(net, rt, clients)?);
     Ok(())

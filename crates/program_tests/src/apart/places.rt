@@ -107,7 +107,7 @@ pub fn connect<N: Net<Listener = TcpListener, Stream = TcpStream>, R: Clock>(
 }
 
 /// A stream to the address, once somebody listens there.
-pub fn reach<N: Net<Listener = TcpListener, Stream = TcpStream>, R: Clock>(
+fn reach<N: Net<Listener = TcpListener, Stream = TcpStream>, R: Clock>(
     net: &N,
     rt: &R,
     address: SocketAddr,
