@@ -1,16 +1,16 @@
 //! Nodes that tests begin with, what they do, and what they have.
-ghost use Rattle.std.specs.Prelude.{◌≡◌, IfOk};
+ghost use Rattle.std.specs.Prelude.{◌≡◌};
 ghost use Rattle.zq_dots.specs.declared.rule.Rule.{Rule as Rules};
+ghost use Rattle.zq_model.specs.Sets.{IsHeaps};
 ghost use Rattle.zq_node.specs.Node.{IsNode, IsSameHome};
 ghost use Rattle.zq_spread.specs.Calls.{heaps_of};
 ghost use Rattle.zq_spread.specs.Passes.{IsPassOf};
 
-use super::making::MAKER;
+use super::making::{MAKER, site_of};
 use crate::Node;
 use std::alloc::Global;
 use std::process::Abort;
 use std::sync::Wait;
-use std::test::Fail;
 use zq_dots::SiteNo;
 use zq_links::Frame;
 use zq_resp::{Reader, Request};
@@ -18,168 +18,114 @@ use zq_shard::Shard;
 use zq_spread::{Pass, Site};
 use zq_words::Command;
 
-/// The site of this number, of two heaps, which has done nothing, and its pass.
-pub fn opened(alloc: Global, number: SiteNo) -> Result<(Site, Pass), Fail>
-    ensures number { IfOk result (λ made. made.0.number ≡ number) }
-    ensures heaps { IfOk result (λ made. heaps_of made.0 ≡ 2) }
-    ensures rule { IfOk result (λ made. made.0.rule ≡ Rules.High) }
-    ensures pass { IfOk result (λ made. IsPassOf made.0 made.1) }
+/// The site of this number, of so many heaps, which has done nothing, and its pass.
+pub fn opened(rt: &impl Abort, alloc: Global, number: SiteNo, heaps: u8) -> (Site, Pass)
+    ensures number { result.0.number ≡ number }
+    ensures heaps { heaps_of result.0 ≡ heaps }
+    ensures bounds { IsHeaps heaps }
+    ensures rule { result.0.rule ≡ Rules.High }
+    ensures pass { IsPassOf result.0 result.1 }
 {
-    let Ok((site, mut passes)) = Site::new(alloc, number, 2, 1) else {
-        return Err(Fail::from("no site"));
-    };
-    match passes.pop() {
-        Some(pass) => Ok((site, pass)),
-        None => Err(Fail::from("no pass")),
-    }
+    let (site, mut passes) = Site::new(alloc, number, heaps, 1).expect(rt, "a site");
+    let pass = passes.pop().expect(rt, "a pass");
+    (site, pass)
 }
 
 /// The request of a line's words.
-fn request(alloc: Global, line: &str) -> Result<Request, Fail> {
+fn request(rt: &impl Abort, alloc: Global, line: &str) -> Request {
     let count = line.split(' ').count();
-    let mut bytes = format!(in alloc; "*{count}\r\n")?;
+    let mut bytes = format!(in alloc; "*{count}\r\n").expect(rt, "memory");
     for word in line.split(' ') {
         let length = word.len();
-        let part = format!(in alloc; "${length}\r\n{word}\r\n")?;
-        bytes.push_str(&part)?;
+        let part = format!(in alloc; "${length}\r\n{word}\r\n").expect(rt, "memory");
+        bytes.push_str(&part).expect(rt, "memory");
     }
-    let Ok(mut requests) = Reader::new().feed(alloc, bytes.as_bytes()) else {
-        return Err(Fail::from("no request"));
-    };
-    Ok(requests.pop().ok_or("one request")?)
+    let mut requests = Reader::new()
+        .feed(alloc, bytes.as_bytes())
+        .expect(rt, "requests");
+    requests.pop().expect(rt, "a request")
 }
 
-/// Runs a command at the node's site, by its pass.
-fn call<R: Wait>(rt: &R, alloc: Global, node: &mut Node, command: &Command)
+/// Runs the command of a line's words at the node's site, by its pass.
+pub fn run_line<R: Wait + Abort>(rt: &R, alloc: Global, node: &mut Node, line: &str)
     requires node { IsNode node.old }
     ensures node { IsNode node.new }
     ensures home { IsSameHome node.old node.new }
 {
+    let request = request(rt, alloc, line);
+    let command = Command::read(alloc, &request).expect(rt, "a command");
     let site = node.home.site;
-    drop(site.call(rt, alloc, &mut node.pass, command, 0, 0));
-}
-
-/// Runs the command of a line's words.
-pub fn run_line<R: Wait>(rt: &R, alloc: Global, node: &mut Node, line: &str) -> Result<(), Fail>
-    requires node { IsNode node.old }
-    ensures node { IsNode node.new }
-    ensures home { IsSameHome node.old node.new }
-{
-    let request = request(alloc, line)?;
-    match Command::read(alloc, &request) {
-        Ok(command) => {
-            call(rt, alloc, node, &command);
-            Ok(())
-        }
-        Err(_) => Err(Fail::from("no command")),
-    }
+    drop(site.call(rt, alloc, &mut node.pass, &command, 0, 0));
 }
 
 /// What the node's site has of a heap.
-pub fn shard_at<R: Wait>(rt: &R, alloc: Global, node: &mut Node, heap: u8) -> Result<Shard, Fail>
+pub fn shard_at<R: Wait + Abort>(rt: &R, alloc: Global, node: &mut Node, heap: u8) -> Shard
     requires node { IsNode node.old }
     ensures node { IsNode node.new }
     ensures home { IsSameHome node.old node.new }
 {
-    if heap >= node.home.heaps {
-        return Err(Fail::from("no heap"));
-    }
+    assert!(rt; heap < node.home.heaps);
     let site = node.home.site;
-    match site.state(rt, alloc, &mut node.pass, heap) {
-        Ok(shard) => Ok(shard),
-        Err(_) => Err(Fail::from("no state")),
-    }
+    site.state(rt, alloc, &mut node.pass, heap)
+        .expect(rt, "a heap")
 }
 
-/// What the node says of a heap.
-pub fn have_at<R: Wait>(rt: &R, alloc: Global, node: &mut Node, heap: usize) -> Result<Frame, Fail>
+/// What the node says of a heap, where it says something of each.
+pub fn have_at<R: Wait + Abort>(rt: &R, alloc: Global, node: &mut Node, heap: u8) -> Frame
     requires node { IsNode node.old }
     ensures node { IsNode node.new }
     ensures home { IsSameHome node.old node.new }
 {
-    let Ok(mut frames) = node.haves(rt, alloc) else {
-        return Err(Fail::from("no frames"));
-    };
-    if heap >= frames.len() {
-        return Err(Fail::from("no heap"));
-    }
-    Ok(frames.swap_remove(heap))
+    let mut frames = node.haves(rt, alloc).expect(rt, "frames");
+    assert!(rt; frames.len() == usize::from(node.home.heaps) && heap < node.home.heaps);
+    frames.swap_remove(usize::from(heap))
 }
 
 /// What is sent when the node hears a frame.
-pub fn hear<R: Wait>(
+pub fn hear<R: Wait + Abort>(
     rt: &R,
     alloc: Global,
     node: &mut Node,
     frame: &Frame,
-) -> Result<Vec<(SiteNo, Frame)>, Fail>
+) -> Vec<(SiteNo, Frame)>
     requires node { IsNode node.old }
     ensures node { IsNode node.new }
     ensures home { IsSameHome node.old node.new }
 {
-    match node.hear(rt, alloc, frame) {
-        Ok(sent) => Ok(sent),
-        Err(_) => Err(Fail::from("not heard")),
-    }
+    node.hear(rt, alloc, frame).expect(rt, "heard")
 }
 
 /// What is sent when the node hears these frames in turn.
-pub fn hear_all<R: Wait>(
+pub fn hear_all<R: Wait + Abort>(
     rt: &R,
     alloc: Global,
     node: &mut Node,
     frames: &[(SiteNo, Frame)],
-) -> Result<Vec<(SiteNo, Frame)>, Fail>
+) -> Vec<(SiteNo, Frame)>
     requires node { IsNode node.old }
     ensures node { IsNode node.new }
     ensures home { IsSameHome node.old node.new }
 {
     let mut sent = Vec::new(alloc);
     for told in frames {
-        let mut more = hear(rt, alloc, node, &told.1)?;
-        sent.append(&mut more)?;
+        let mut more = hear(rt, alloc, node, &told.1);
+        sent.append(&mut more).expect(rt, "memory");
     }
-    Ok(sent)
+    sent
 }
 
-/// What a node has: how many operations are parked, how many members queue q has in heap 0, and how many operations of
-/// the maker are known there.
-#[derive(Clone, Copy, Debug, PartialEq, Eq)]
-pub struct Has {
-    pub parked: usize,
-    pub members: usize,
-    pub known: u64,
-}
+/// What a node has: so many operations are parked, queue q has so many members in heap 0, and so many of the maker's
+/// operations are known there.
+#[derive(Clone, Copy, PartialEq, Eq)]
+pub struct Has(pub usize, pub usize, pub u64);
 
 /// What the node has.
-pub fn look_at<R: Wait>(rt: &R, alloc: Global, node: &mut Node) -> Result<Has, Fail>
+pub fn look_at<R: Wait + Abort>(rt: &R, alloc: Global, node: &mut Node) -> Has
     requires node { IsNode node.old }
     ensures node { IsNode node.new }
     ensures home { IsSameHome node.old node.new }
 {
-    let maker = SiteNo::new(MAKER).ok_or("a site")?;
-    let heap = shard_at(rt, alloc, node, 0)?;
-    Ok(Has {
-        parked: node.parked_len(),
-        members: heap.count(b"q"),
-        known: heap.vector().get(maker),
-    })
-}
-
-/// The node hears a frame, after which nothing is sent, and it has this.
-pub fn check_heard<R: Wait + Abort>(
-    rt: &R,
-    alloc: Global,
-    node: &mut Node,
-    frame: &Frame,
-    wanted: Has,
-) -> Result<(), Fail>
-    requires node { IsNode node.old }
-    ensures node { IsNode node.new }
-    ensures home { IsSameHome node.old node.new }
-{
-    let sent = hear(rt, alloc, node, frame)?;
-    assert!(rt; sent.is_empty());
-    assert_eq!(rt; look_at(rt, alloc, node)?, wanted);
-    Ok(())
+    let heap = shard_at(rt, alloc, node, 0);
+    let known = heap.vector().get(site_of(rt, MAKER));
+    Has(node.parked_len(), heap.count(b"q"), known)
 }
