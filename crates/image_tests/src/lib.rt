@@ -2,16 +2,22 @@
 #![tactic(auto)]
 
 #[cfg(test)]
+mod deed;
+#[cfg(test)]
 mod dots;
 #[cfg(test)]
 mod entry;
 #[cfg(test)]
 mod journal;
 #[cfg(test)]
+mod plain;
+#[cfg(test)]
 mod posheap;
 #[cfg(test)]
 mod queue;
 #[cfg(test)]
 mod ranked;
+#[cfg(test)]
+mod rows;
 #[cfg(test)]
 mod shard;

@@ -1,14 +1,14 @@
-//! A table of steps on the members of a key.
-
-use std::alloc::Global;
-use std::process::Abort;
-use std::test::Fail;
-use zq_dots::{Act, Rule, Score, SiteNo};
-use zq_queue::Queue;
+//! A table of steps on the members of a key, and what is read of a queue.
 
 mod side;
 
+use crate::rows::row_holds;
 use side::Side;
+use std::alloc::{AllocError, Global};
+use std::process::Abort;
+use zq_dots::{Rule, SiteNo};
+use zq_entry::Entry;
+use zq_queue::Queue;
 
 /// One of two sides.
 #[derive(Clone, Copy)]
@@ -29,83 +29,6 @@ enum Step {
     Meet,
     /// The queue of a side, in order.
     Shows(Who, &'static [(i128, u8)]),
-}
-
-/// A key at two sides.
-#[derive(Drop)]
-struct Sides {
-    a: Side,
-    b: Side,
-}
-
-impl Sides {
-    fn side(&mut self, who: Who) -> &mut Side {
-        match who {
-            Who::A => &mut self.a,
-            Who::B => &mut self.b,
-        }
-    }
-
-    /// Each side takes what the other has.
-    fn meet(&mut self, rt: &impl Abort, alloc: Global) -> Result<(), Fail> {
-        let (a, b) = (&self.a, &self.b);
-        if a.queue.rule() != b.queue.rule() {
-            return Err("one rule".into());
-        }
-        let first = a.queue.merge(alloc, &a.seen, &b.queue, &b.seen)?;
-        let second = b.queue.merge(alloc, &b.seen, &a.queue, &a.seen)?;
-        assert!(rt; first.same(&second));
-        self.a.queue = first;
-        self.b.queue = second;
-        self.a.seen.join_with(&self.b.seen);
-        self.b.seen = self.a.seen;
-        Ok(())
-    }
-
-    /// Does a step, or asserts what it says.
-    fn follow(
-        &mut self,
-        rt: &impl Abort,
-        alloc: Global,
-        nth: usize,
-        step: &Step,
-    ) -> Result<(), Fail> {
-        match *step {
-            Step::Put(who, member, value) => {
-                drop(self.side(who).take(alloc, member, Act::Put(score(value)?))?);
-            }
-            Step::Drop(who, member) => drop(self.side(who).take(alloc, member, Act::Drop)?),
-            Step::Undone(who, member, value) => {
-                let side = self.side(who);
-                let before = side.take(alloc, member, Act::Put(score(value)?))?;
-                side.queue.put_back(&[member], before)?;
-            }
-            Step::Meet => self.meet(rt, alloc)?,
-            Step::Shows(who, expected) => {
-                let queue = &self.side(who).queue;
-                assert!(rt; shows(&queue.in_order(alloc)?, expected), "step {nth}");
-                assert!(rt; queue.copy(alloc)?.same(queue), "step {nth}");
-            }
-        }
-        Ok(())
-    }
-}
-
-/// Whether the pairs are these, of members of one byte.
-fn shows(pairs: &[(i128, &[u8])], expected: &[(i128, u8)]) -> bool {
-    let mut same = pairs.len() == expected.len();
-    for ((score, member), (wanted, letter)) in pairs.iter().zip(expected) {
-        same = same && score == wanted && *member == [*letter].as_slice();
-    }
-    same
-}
-
-fn score(value: i64) -> Result<Score, &'static str> {
-    Score::new(value).ok_or("a score")
-}
-
-fn site(number: u8) -> Result<SiteNo, &'static str> {
-    SiteNo::new(number).ok_or("a site")
 }
 
 const STEPS: &[Step] = &[
@@ -137,8 +60,118 @@ const STEPS: &[Step] = &[
     Step::Shows(Who::B, &[(-3, b'f'), (1, b'c'), (2, b'e'), (5, b'b')]),
 ];
 
-/// What a member shows in a queue.
+/// A key at two sides.
 #[derive(Drop)]
+struct Sides {
+    a: Side,
+    b: Side,
+}
+
+impl Sides {
+    fn new(alloc: Global) -> Option<Sides> {
+        let (a, b) = (SiteNo::new(0)?, SiteNo::new(7)?);
+        Some(Sides {
+            a: Side::new(alloc, Rule::High, a),
+            b: Side::new(alloc, Rule::High, b),
+        })
+    }
+
+    fn side(&mut self, who: Who) -> &mut Side {
+        match who {
+            Who::A => &mut self.a,
+            Who::B => &mut self.b,
+        }
+    }
+
+    /// Each side takes what the other has: whether both could, and have the same then.
+    fn meet(&mut self, alloc: Global) -> bool {
+        let (a, b) = (&self.a, &self.b);
+        if a.queue.rule() != b.queue.rule() {
+            return false;
+        }
+        let Ok(first) = a.queue.merge(alloc, &a.seen, &b.queue, &b.seen) else {
+            return false;
+        };
+        let Ok(second) = b.queue.merge(alloc, &b.seen, &a.queue, &a.seen) else {
+            return false;
+        };
+        let same = first.same(&second);
+        self.keep(first, second);
+        same
+    }
+
+    /// The sides have these queues, and have seen the same.
+    fn keep(&mut self, first: Queue, second: Queue) {
+        self.a.queue = first;
+        self.b.queue = second;
+        self.a.seen.join_with(&self.b.seen);
+        self.b.seen = self.a.seen;
+    }
+
+    fn index(&mut self, alloc: Global, most: usize) {
+        self.a.queue.index(alloc, most);
+        self.b.queue.index(alloc, most);
+    }
+
+    /// Whether the step could be done, or what it says holds.
+    fn follows(&mut self, alloc: Global, step: &Step) -> bool {
+        match *step {
+            Step::Put(who, member, value) => self.side(who).puts(alloc, member, value),
+            Step::Drop(who, member) => self.side(who).drops(alloc, member),
+            Step::Undone(who, member, value) => self.side(who).undoes(alloc, member, value),
+            Step::Meet => self.meet(alloc),
+            Step::Shows(who, pairs) => shows_queue(&self.side(who).queue, alloc, pairs),
+        }
+    }
+}
+
+/// What a queue lists.
+type Listed<'a> = Result<Vec<(i128, &'a [u8])>, AllocError>;
+
+/// Whether the pairs are these, of members of one byte.
+fn are(listed: Listed<'_>, expected: &[(i128, u8)]) -> bool {
+    match listed {
+        Ok(pairs) => are_pairs(&pairs, expected),
+        Err(AllocError) => false,
+    }
+}
+
+fn are_pairs(pairs: &[(i128, &[u8])], expected: &[(i128, u8)]) -> bool {
+    let mut same = pairs.len() == expected.len();
+    for ((score, member), (wanted, letter)) in pairs.iter().zip(expected) {
+        same = same && score == wanted && *member == [*letter].as_slice();
+    }
+    same
+}
+
+/// Whether a queue has these pairs in order, and so has its copy.
+fn shows_queue(queue: &Queue, alloc: Global, expected: &[(i128, u8)]) -> bool {
+    match queue.copy(alloc) {
+        Ok(copy) => copy.same(queue) && are(queue.in_order(alloc), expected),
+        Err(AllocError) => false,
+    }
+}
+
+/// A queue of more members than so many has an index: none has one, and all but the least have.
+const MOST: [usize; 2] = [usize::MAX, 2];
+
+/// Follows the steps at two sides.
+fn follow(rt: &impl Abort, alloc: Global, most: usize) {
+    let mut sides = Sides::new(alloc).expect(rt, "sides");
+    for (row, step) in STEPS.iter().enumerate() {
+        sides.index(alloc, most);
+        row_holds(rt, "steps", row, sides.follows(alloc, step));
+    }
+}
+
+#[test]
+fn two_sides_agree_when_they_have_met(rt: HostRuntime) {
+    for most in MOST {
+        follow(&rt, rt.alloc(), most);
+    }
+}
+
+/// What a member shows in a queue.
 struct Case {
     member: u8,
     score: i64,
@@ -146,7 +179,7 @@ struct Case {
     turned_rank: usize,
 }
 
-const CASES: [Case; 4] = [
+const CASES: &[Case] = &[
     Case {
         member: b'b',
         score: 1,
@@ -174,7 +207,6 @@ const CASES: [Case; 4] = [
 ];
 
 /// From one place up to another, the pairs there, and those of the turned queue.
-#[derive(Drop)]
 struct Cut {
     from: usize,
     to: usize,
@@ -182,7 +214,7 @@ struct Cut {
     turned: &'static [(i128, u8)],
 }
 
-const CUTS: [Cut; 5] = [
+const CUTS: &[Cut] = &[
     Cut {
         from: 0,
         to: 2,
@@ -215,131 +247,132 @@ const CUTS: [Cut; 5] = [
     },
 ];
 
-/// A queue of more members than so many has an index: none has one, and all but the least have.
-const MOST: [usize; 2] = [usize::MAX, 2];
+/// The first pair of the cases.
+const FIRST: &[(i128, u8)] = &[(-4, b'c')];
 
 /// A side whose queue has the cases.
-fn with_cases(alloc: Global, most: usize) -> Result<Side, Fail> {
-    let mut side = Side::new(alloc, Rule::Low, site(63)?);
-    for case in &CASES {
-        drop(side.take(alloc, case.member, Act::Put(score(case.score)?))?);
+fn with_cases(alloc: Global, most: usize) -> Option<Side> {
+    let mut side = Side::new(alloc, Rule::Low, SiteNo::new(63)?);
+    for case in CASES {
+        if !side.puts(alloc, case.member, case.score) {
+            return None;
+        }
         side.queue.index(alloc, most);
     }
-    Ok(side)
+    Some(side)
 }
 
-/// Follows the steps at two sides.
-fn follow_all(rt: &impl Abort, alloc: Global, most: usize) -> Result<(), Fail> {
-    let mut sides = Sides {
-        a: Side::new(alloc, Rule::High, site(0)?),
-        b: Side::new(alloc, Rule::High, site(7)?),
-    };
-    for (nth, step) in STEPS.iter().enumerate() {
-        sides.a.queue.index(alloc, most);
-        sides.b.queue.index(alloc, most);
-        sides.follow(rt, alloc, nth, step)?;
-    }
-    Ok(())
+fn shows_case(queue: &Queue, case: &Case) -> bool {
+    let member: &[u8] = &[case.member];
+    queue.score(member) == Some(i128::from(case.score))
+        && queue.rank(member) == Some(case.rank)
+        && queue.turned_rank(member) == Some(case.turned_rank)
+        && queue.entry(member).is_some()
+}
+
+/// Whether a queue of the cases shows what it has beside them.
+fn shows_rest(queue: &Queue) -> bool {
+    queue.len() == CASES.len()
+        && !queue.is_empty()
+        && queue.rank(b"z").is_none()
+        && queue.turned_rank(b"z").is_none()
+        && queue.count_below(1, false) == 2
+        && queue.count_below(1, true) == 4
+        && queue.top() == Some((-4, b"c".as_slice()))
 }
 
 #[test]
-fn two_sides_agree_when_they_have_met(rt: HostRuntime) -> Result<(), Fail> {
+fn shows_each_member(rt: HostRuntime) {
     for most in MOST {
-        follow_all(&rt, rt.alloc(), most)?;
+        let side = with_cases(rt.alloc(), most).expect(&rt, "the cases");
+        assert!(rt; shows_rest(&side.queue));
+        for (row, case) in CASES.iter().enumerate() {
+            row_holds(&rt, "cases", row, shows_case(&side.queue, case));
+        }
     }
-    Ok(())
+}
+
+fn shows_cut(queue: &Queue, alloc: Global, cut: &Cut) -> bool {
+    are(queue.slice(alloc, cut.from, cut.to), cut.pairs)
+        && are(queue.slice_turned(alloc, cut.from, cut.to), cut.turned)
+}
+
+#[test]
+fn cuts_by_places(rt: HostRuntime) {
+    for most in MOST {
+        let side = with_cases(rt.alloc(), most).expect(&rt, "the cases");
+        assert!(rt; are(side.queue.first(rt.alloc(), 1), FIRST));
+        for (row, cut) in CUTS.iter().enumerate() {
+            row_holds(&rt, "cuts", row, shows_cut(&side.queue, rt.alloc(), cut));
+        }
+    }
 }
 
 /// What the cases are without b and with e.
 const AFTER: &[(i128, u8)] = &[(-4, b'c'), (0, b'd'), (1, b'a'), (7, b'e')];
 
-#[test]
-fn an_index_stays_until_a_merge(rt: HostRuntime) -> Result<(), Fail> {
-    let alloc = rt.alloc();
-    let mut side = with_cases(alloc, usize::MAX)?;
-    side.queue.index(alloc, CASES.len());
-    assert!(rt; !side.queue.has_index());
-    side.queue.index(alloc, CASES.len() - 1);
-    assert!(rt; side.queue.has_index());
-    drop(side.take(alloc, b'b', Act::Drop)?);
-    drop(side.take(alloc, b'e', Act::Put(score(7)?))?);
-    assert!(rt; side.queue.has_index());
-    let mut merged = side
-        .queue
-        .merge(alloc, &side.seen, &side.queue, &side.seen)?;
-    assert!(rt; !merged.has_index());
+/// Whether a queue of these pairs has no index once it is merged, and then one.
+fn merges_without_index(side: &Side, alloc: Global) -> bool {
+    let queue = &side.queue;
+    let Ok(mut merged) = queue.merge(alloc, &side.seen, queue, &side.seen) else {
+        return false;
+    };
+    let had = merged.has_index();
     merged.index(alloc, 2);
-    assert!(rt; merged.has_index());
-    assert!(rt; shows(&merged.in_order(alloc)?, AFTER));
-    Ok(())
-}
-
-/// Asserts what the cases show.
-fn shows_cases(rt: &impl Abort, alloc: Global, most: usize) -> Result<(), Fail> {
-    let side = with_cases(alloc, most)?;
-    assert_eq!(rt; side.queue.len(), CASES.len());
-    assert!(rt; !side.queue.is_empty());
-    for case in &CASES {
-        let member: &[u8] = &[case.member];
-        assert_eq!(rt; side.queue.score(member), Some(i128::from(case.score)));
-        assert_eq!(rt; side.queue.rank(member), Some(case.rank));
-        assert_eq!(rt; side.queue.turned_rank(member), Some(case.turned_rank));
-        assert!(rt; side.queue.entry(member).is_some());
-    }
-    assert_eq!(rt; side.queue.rank(b"z"), None);
-    assert_eq!(rt; side.queue.turned_rank(b"z"), None);
-    assert_eq!(rt; side.queue.count_below(1, false), 2);
-    assert_eq!(rt; side.queue.count_below(1, true), 4);
-    assert!(rt; side.queue.top() == Some((-4, b"c".as_slice())));
-    Ok(())
+    !had && merged.has_index() && shows_queue(&merged, alloc, AFTER)
 }
 
 #[test]
-fn shows_each_member(rt: HostRuntime) -> Result<(), Fail> {
-    for most in MOST {
-        shows_cases(&rt, rt.alloc(), most)?;
-    }
-    Ok(())
+fn an_index_stays_until_a_merge(rt: HostRuntime) {
+    let alloc = rt.alloc();
+    let mut side = with_cases(alloc, usize::MAX).expect(&rt, "the cases");
+    side.queue.index(alloc, 4);
+    assert!(rt; !side.queue.has_index());
+    side.queue.index(alloc, 3);
+    assert!(rt; side.queue.has_index());
+    assert!(rt; side.drops(alloc, b'b'));
+    assert!(rt; side.puts(alloc, b'e', 7));
+    assert!(rt; side.queue.has_index());
+    assert!(rt; merges_without_index(&side, alloc));
 }
 
-/// Asserts what the cuts show.
-fn shows_cuts(rt: &impl Abort, alloc: Global, most: usize) -> Result<(), Fail> {
-    let side = with_cases(alloc, most)?;
-    for cut in &CUTS {
-        assert!(rt; shows(&side.queue.slice(alloc, cut.from, cut.to)?, cut.pairs));
-        assert!(rt;
-            shows(
-                &side.queue.slice_turned(alloc, cut.from, cut.to)?,
-                cut.turned
-            )
-        );
+/// Appends a member with what it has, where it is not there.
+fn append(queue: &mut Queue, alloc: Global, member: &[u8], entry: &Entry) -> bool {
+    if queue.entry(member).is_some() || entry.is_bare() {
+        return false;
     }
-    assert!(rt; shows(&side.queue.first(alloc, 1)?, &[(-4, b'c')]));
-    Ok(())
+    match entry.copy(alloc) {
+        Ok(copy) => queue.push(member, copy).is_ok(),
+        Err(AllocError) => false,
+    }
 }
 
-#[test]
-fn cuts_by_places(rt: HostRuntime) -> Result<(), Fail> {
-    for most in MOST {
-        shows_cuts(&rt, rt.alloc(), most)?;
-    }
-    Ok(())
-}
-
-#[test]
-fn is_built_of_its_rows(rt: HostRuntime) -> Result<(), Fail> {
-    let side = with_cases(rt.alloc(), 2)?;
-    let rows = side.queue.rows(rt.alloc())?;
-    let mut built = Side::new(rt.alloc(), Rule::Low, site(1)?);
-    built.queue.reserve(rows.len())?;
+/// Appends the rows, each of which has to come behind the one before it.
+fn append_all(built: &mut Queue, alloc: Global, rows: &[(&[u8], &Entry)]) -> bool {
     let mut last: &[u8] = b"";
-    for (member, entry) in &rows {
-        assert!(rt; last < *member);
-        if built.queue.entry(member).is_none() && !entry.is_bare() {
-            built.queue.push(member, entry.copy(rt.alloc())?)?;
+    for (member, entry) in rows {
+        if last >= *member || !append(built, alloc, member, entry) {
+            return false;
         }
         last = *member;
     }
-    assert!(rt; built.queue.same(&side.queue));
-    Ok(())
+    true
+}
+
+/// Whether another queue, made of the rows of this one, is the same.
+fn is_built(queue: &Queue, alloc: Global, built: &mut Queue) -> bool {
+    match queue.rows(alloc) {
+        Ok(rows) => built.reserve(rows.len()).is_ok()
+            && append_all(built, alloc, &rows)
+            && built.same(queue),
+        Err(AllocError) => false,
+    }
+}
+
+#[test]
+fn is_built_of_its_rows(rt: HostRuntime) {
+    let side = with_cases(rt.alloc(), 2).expect(&rt, "the cases");
+    let site = SiteNo::new(1).expect(&rt, "a site");
+    let mut built = Side::new(rt.alloc(), Rule::Low, site);
+    assert!(rt; is_built(&side.queue, rt.alloc(), &mut built.queue));
 }

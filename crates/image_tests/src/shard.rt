@@ -3,21 +3,20 @@
 mod comparison;
 mod steps;
 
-use std::alloc::Global;
-use std::test::Fail;
-use steps::{Site, Step, follow, make, number};
-use zq_dots::{Act, Rule, SiteNo};
+use crate::deed::Deed;
+use crate::rows::row_holds;
+use std::alloc::{AllocError, Global};
+use steps::{Site, Step, Table, follow, make};
+use zq_dots::{Act, Op, Rule, SiteNo};
 use zq_posheap::Seeded;
 use zq_shard::{MakeFault, MergeFault, RowRef, Shard, TakeFault, Taken};
 
-#[test]
-fn what_is_made_stands(rt: HostRuntime) -> Result<(), Fail> {
-    follow(
-        &rt,
-        rt.alloc(),
-        [0, 1],
-        Rule::High,
-        &[
+const TABLES: &[Table] = &[
+    Table {
+        name: "what_is_made_stands",
+        numbers: [0, 1],
+        rule: Rule::High,
+        steps: &[
             Step::Count(Site::A, 0),
             Step::Top(Site::A, None),
             Step::Order(Site::A, b""),
@@ -32,17 +31,12 @@ fn what_is_made_stands(rt: HostRuntime) -> Result<(), Fail> {
             Step::Score(Site::A, b'x', None),
             Step::Count(Site::A, 1),
         ],
-    )
-}
-
-#[test]
-fn a_queue_is_read_in_order(rt: HostRuntime) -> Result<(), Fail> {
-    follow(
-        &rt,
-        rt.alloc(),
-        [7, 63],
-        Rule::High,
-        &[
+    },
+    Table {
+        name: "a_queue_is_read_in_order",
+        numbers: [7, 63],
+        rule: Rule::High,
+        steps: &[
             Step::Put(Site::A, b'd', 4),
             Step::Put(Site::A, b'b', 2),
             Step::Put(Site::B, b'c', 2),
@@ -69,17 +63,12 @@ fn a_queue_is_read_in_order(rt: HostRuntime) -> Result<(), Fail> {
             Step::Drop(Site::A, b'a'),
             Step::Top(Site::A, Some((2, b'b'))),
         ],
-    )
-}
-
-#[test]
-fn a_merge_that_takes_the_first_away_leaves_the_next(rt: HostRuntime) -> Result<(), Fail> {
-    follow(
-        &rt,
-        rt.alloc(),
-        [7, 63],
-        Rule::High,
-        &[
+    },
+    Table {
+        name: "a_merge_that_takes_the_first_away_leaves_the_next",
+        numbers: [7, 63],
+        rule: Rule::High,
+        steps: &[
             Step::Put(Site::A, b'x', 1),
             Step::Put(Site::A, b'y', 2),
             Step::Merge(Site::B),
@@ -95,17 +84,12 @@ fn a_merge_that_takes_the_first_away_leaves_the_next(rt: HostRuntime) -> Result<
             Step::Count(Site::A, 0),
             Step::Same(true),
         ],
-    )
-}
-
-#[test]
-fn bumps_made_apart_add_up(rt: HostRuntime) -> Result<(), Fail> {
-    follow(
-        &rt,
-        rt.alloc(),
-        [7, 63],
-        Rule::Low,
-        &[
+    },
+    Table {
+        name: "bumps_made_apart_add_up",
+        numbers: [7, 63],
+        rule: Rule::Low,
+        steps: &[
             Step::Put(Site::A, b'x', 10),
             Step::Give(Site::B, 0, Taken::New),
             Step::Bump(Site::A, b'x', 5),
@@ -118,17 +102,12 @@ fn bumps_made_apart_add_up(rt: HostRuntime) -> Result<(), Fail> {
             Step::Give(Site::A, 2, Taken::Known),
             Step::Same(true),
         ],
-    )
-}
-
-#[test]
-fn a_removal_keeps_what_it_had_not_seen(rt: HostRuntime) -> Result<(), Fail> {
-    follow(
-        &rt,
-        rt.alloc(),
-        [0, 1],
-        Rule::High,
-        &[
+    },
+    Table {
+        name: "a_removal_keeps_what_it_had_not_seen",
+        numbers: [0, 1],
+        rule: Rule::High,
+        steps: &[
             Step::Put(Site::A, b'x', 3),
             Step::Give(Site::B, 0, Taken::New),
             Step::Drop(Site::A, b'x'),
@@ -138,17 +117,12 @@ fn a_removal_keeps_what_it_had_not_seen(rt: HostRuntime) -> Result<(), Fail> {
             Step::Score(Site::A, b'x', Some(4)),
             Step::Score(Site::B, b'x', Some(4)),
         ],
-    )
-}
-
-#[test]
-fn of_additions_made_apart_the_greatest_counts(rt: HostRuntime) -> Result<(), Fail> {
-    follow(
-        &rt,
-        rt.alloc(),
-        [0, 1],
-        Rule::High,
-        &[
+    },
+    Table {
+        name: "of_additions_made_apart_the_greatest_counts",
+        numbers: [0, 1],
+        rule: Rule::High,
+        steps: &[
             Step::Put(Site::A, b'x', 5),
             Step::Put(Site::B, b'x', 9),
             Step::Give(Site::A, 1, Taken::New),
@@ -156,17 +130,12 @@ fn of_additions_made_apart_the_greatest_counts(rt: HostRuntime) -> Result<(), Fa
             Step::Score(Site::A, b'x', Some(9)),
             Step::Score(Site::B, b'x', Some(9)),
         ],
-    )
-}
-
-#[test]
-fn by_the_other_rule_the_least_counts(rt: HostRuntime) -> Result<(), Fail> {
-    follow(
-        &rt,
-        rt.alloc(),
-        [0, 1],
-        Rule::Low,
-        &[
+    },
+    Table {
+        name: "by_the_other_rule_the_least_counts",
+        numbers: [0, 1],
+        rule: Rule::Low,
+        steps: &[
             Step::Put(Site::A, b'x', 5),
             Step::Put(Site::B, b'x', 9),
             Step::Merge(Site::A),
@@ -174,17 +143,12 @@ fn by_the_other_rule_the_least_counts(rt: HostRuntime) -> Result<(), Fail> {
             Step::Score(Site::A, b'x', Some(5)),
             Step::Top(Site::B, Some((5, b'x'))),
         ],
-    )
-}
-
-#[test]
-fn an_early_operation_waits_for_its_past(rt: HostRuntime) -> Result<(), Fail> {
-    follow(
-        &rt,
-        rt.alloc(),
-        [7, 63],
-        Rule::High,
-        &[
+    },
+    Table {
+        name: "an_early_operation_waits_for_its_past",
+        numbers: [7, 63],
+        rule: Rule::High,
+        steps: &[
             Step::Put(Site::A, b'a', 1),
             Step::Put(Site::A, b'y', 2),
             Step::Give(Site::B, 1, Taken::Early),
@@ -195,17 +159,12 @@ fn an_early_operation_waits_for_its_past(rt: HostRuntime) -> Result<(), Fail> {
             Step::Count(Site::B, 2),
             Step::Same(true),
         ],
-    )
-}
-
-#[test]
-fn what_was_put_and_dropped_leaves_no_trace_but_in_the_vector(rt: HostRuntime) -> Result<(), Fail> {
-    follow(
-        &rt,
-        rt.alloc(),
-        [5, 5],
-        Rule::High,
-        &[
+    },
+    Table {
+        name: "what_was_put_and_dropped_leaves_no_trace_but_in_the_vector",
+        numbers: [5, 5],
+        rule: Rule::High,
+        steps: &[
             Step::Same(true),
             Step::Put(Site::A, b'x', 3),
             Step::Same(false),
@@ -215,104 +174,164 @@ fn what_was_put_and_dropped_leaves_no_trace_but_in_the_vector(rt: HostRuntime) -
             Step::Drop(Site::B, b'z'),
             Step::Same(true),
         ],
-    )
+    },
+];
+
+#[test]
+fn sites_follow_the_tables(rt: HostRuntime) {
+    for table in TABLES {
+        follow(&rt, rt.alloc(), table, usize::MAX);
+        follow(&rt, rt.alloc(), table, 2);
+    }
+}
+
+/// Whether a heap is the same as its copy, of one member, and alone has one more then.
+fn goes_on(shard: &mut Shard, alloc: Global, copy: &Shard) -> bool {
+    copy.same(shard)
+        && make(shard, alloc, 0, b'y', Deed::Put(4)).is_some()
+        && copy.count(b"q") == 1
+        && shard.count(b"q") == 2
 }
 
 #[test]
-fn a_copy_goes_on_alone(rt: HostRuntime) -> Result<(), Fail> {
+fn a_copy_goes_on_alone(rt: HostRuntime) {
     let alloc = rt.alloc();
     let mut shard = Shard::new(alloc, 0, 1);
-    drop(make(&mut shard, alloc, 0, b'x', Act::Put(number(3)?))?);
-    let copy = shard.copy(alloc)?;
-    assert!(rt; copy.same(&shard));
-    drop(make(&mut shard, alloc, 0, b'y', Act::Put(number(4)?))?);
-    assert_eq!(rt; (copy.count(b"q"), shard.count(b"q")), (1, 2));
-    Ok(())
+    assert!(rt; make(&mut shard, alloc, 0, b'x', Deed::Put(3)).is_some());
+    let copy = shard.copy(alloc).expect(&rt, "a copy");
+    assert!(rt; goes_on(&mut shard, alloc, &copy));
+}
+
+/// Whether a site cannot make an operation on the member a of the key q, which lies in another heap.
+fn refuses_a(shard: &Shard, alloc: Global, site: SiteNo) -> bool {
+    match shard.draft(alloc, site, b"q", b"a", Act::Drop) {
+        Err(fault) => fault == MakeFault::WrongHeap,
+        Ok(_) => false,
+    }
+}
+
+/// Whether heap 0 refuses an operation.
+fn is_refused(alloc: Global, op: &Op) -> bool {
+    Shard::new(alloc, 0, 2).judge(op) == Err(TakeFault::WrongHeap)
+}
+
+/// Whether site 0 makes its first operation on the member x, which heap 0 refuses.
+fn makes_x(shard: &mut Shard, alloc: Global, site: SiteNo) -> bool {
+    match make(shard, alloc, 0, b'x', Deed::Put(3)) {
+        Some(op) => op.dot().n == 1 && shard.vector().get(site) == 1 && is_refused(alloc, &op),
+        None => false,
+    }
 }
 
 #[test]
-fn a_member_of_another_heap_is_refused(rt: HostRuntime) -> Result<(), Fail> {
+fn a_member_of_another_heap_is_refused(rt: HostRuntime) {
     let alloc = rt.alloc();
     let mut shard = Shard::new(alloc, 1, 2);
-    let site = SiteNo::new(0).ok_or("a site")?;
-    assert_eq!(rt;
-        (shard.heap(), shard.heaps(), shard.rule()),
-        (1, 2, Rule::High)
-    );
-    let elsewhere = shard.draft(alloc, site, b"q", b"a", Act::Drop).err();
-    assert_eq!(rt; elsewhere, Some(MakeFault::WrongHeap));
-    let op = make(&mut shard, alloc, 0, b'x', Act::Put(number(3)?))?;
-    assert_eq!(rt; (op.dot().n, shard.vector().get(site)), (1, 1));
-    let other = Shard::new(alloc, 0, 2).judge(&op).err();
-    assert_eq!(rt; other, Some(TakeFault::WrongHeap));
-    Ok(())
+    let site = SiteNo::new(0).expect(&rt, "a site");
+    assert!(rt; shard.heap() == 1);
+    assert!(rt; shard.heaps() == 2);
+    assert!(rt; shard.rule() == Rule::High);
+    assert!(rt; refuses_a(&shard, alloc, site));
+    assert!(rt; makes_x(&mut shard, alloc, site));
+}
+
+/// Whether a heap refuses to merge another with this fault.
+fn refuses(shard: &mut Shard, alloc: Global, other: Shard, fault: MergeFault) -> bool {
+    shard.merge(alloc, &other) == Err(fault)
 }
 
 #[test]
-fn what_is_not_of_one_kind_is_not_merged(rt: HostRuntime) -> Result<(), Fail> {
+fn what_is_not_of_one_kind_is_not_merged(rt: HostRuntime) {
     let alloc = rt.alloc();
     let mut shard = Shard::new(alloc, 0, 2);
-    let heap = Shard::new(alloc, 1, 2);
-    let heaps = Shard::new(alloc, 0, 3);
-    let rule = Shard::new_ruled(alloc, 0, 2, Rule::Low, Seeded::new(0));
-    let faults = [
-        shard.merge(alloc, &heap).err(),
-        shard.merge(alloc, &heaps).err(),
-        shard.merge(alloc, &rule).err(),
-    ];
-    let expected = [
-        Some(MergeFault::WrongHeap),
-        Some(MergeFault::WrongHeap),
-        Some(MergeFault::WrongRule),
-    ];
-    assert_eq!(rt; faults, expected);
-    Ok(())
+    assert!(rt;
+        refuses(
+            &mut shard,
+            alloc,
+            Shard::new(alloc, 1, 2),
+            MergeFault::WrongHeap
+        )
+    );
+    assert!(rt;
+        refuses(
+            &mut shard,
+            alloc,
+            Shard::new(alloc, 0, 3),
+            MergeFault::WrongHeap
+        )
+    );
+    let low = Shard::new_ruled(alloc, 0, 2, Rule::Low, Seeded::new(0));
+    assert!(rt; refuses(&mut shard, alloc, low, MergeFault::WrongRule));
 }
 
-/// Whether these rows are of these keys and members of one byte each.
-fn are_rows(rows: &[RowRef<'_>], places: &[(u8, u8)]) -> bool {
-    if rows.len() != places.len() {
-        return false;
+/// Keys and members of one byte each, as they are put,
+const PLACES: [(u8, u8); 5] = [
+    (b'q', b'x'),
+    (b'p', b'z'),
+    (b'q', b'a'),
+    (b'r', b'b'),
+    (b'p', b'c'),
+];
+
+/// and as they are listed, without the one that is dropped.
+const SORTED: [(u8, u8); 4] = [(b'p', b'c'), (b'p', b'z'), (b'q', b'a'), (b'q', b'x')];
+
+/// Whether these rows are of these keys and members.
+fn are_rows(rows: Result<Vec<RowRef<'_>>, AllocError>, places: &[(u8, u8)]) -> bool {
+    match rows {
+        Ok(rows) => are_rows_of(&rows, places),
+        Err(AllocError) => false,
     }
+}
+
+fn are_rows_of(rows: &[RowRef<'_>], places: &[(u8, u8)]) -> bool {
+    let mut same = rows.len() == places.len();
     for (row, (key, member)) in rows.iter().zip(places) {
-        if row.key != [*key].as_slice()
-            || row.member != [*member].as_slice()
-            || row.entry.is_bare()
-        {
-            return false;
-        }
+        same = same
+            && row.key == [*key].as_slice()
+            && row.member == [*member].as_slice()
+            && !row.entry.is_bare();
     }
-    true
+    same
+}
+
+/// Whether an act of site 63 on a member of a key could be made.
+fn acts(shard: &mut Shard, alloc: Global, (key, member): (u8, u8), deed: Deed) -> bool {
+    match (SiteNo::new(63), deed.act()) {
+        (Some(site), Some(act)) => shard.make(alloc, site, &[key], &[member], act).is_ok(),
+        _ => false,
+    }
 }
 
 #[test]
-fn rows_come_by_key_and_then_by_member(rt: HostRuntime) -> Result<(), Fail> {
-    let alloc = rt.alloc();
-    let mut shard = Shard::new(alloc, 0, 1);
-    let site = SiteNo::new(63).ok_or("a site")?;
-    let places = [
-        (b'q', b'x'),
-        (b'p', b'z'),
-        (b'q', b'a'),
-        (b'r', b'b'),
-        (b'p', b'c'),
-    ];
-    for (key, member) in places {
-        drop(shard.make(alloc, site, &[key], &[member], Act::Put(number(1)?))?);
+fn rows_come_by_key_and_then_by_member(rt: HostRuntime) {
+    let mut shard = Shard::new(rt.alloc(), 0, 1);
+    for (row, place) in PLACES.iter().enumerate() {
+        row_holds(
+            &rt,
+            "places",
+            row,
+            acts(&mut shard, rt.alloc(), *place, Deed::Put(1)),
+        );
     }
-    drop(shard.make(alloc, site, b"r", b"b", Act::Drop)?);
-    let sorted = [(b'p', b'c'), (b'p', b'z'), (b'q', b'a'), (b'q', b'x')];
-    assert!(rt; are_rows(&shard.rows(alloc)?, &sorted));
-    Ok(())
+    assert!(rt; acts(&mut shard, rt.alloc(), (b'r', b'b'), Deed::Drop));
+    assert!(rt; are_rows(shard.rows(rt.alloc()), &SORTED));
+}
+
+/// Whether the heap of no rows and of another's vector has that vector and nothing else.
+fn is_of_no_rows(alloc: Global, made: &Shard) -> bool {
+    match Shard::of_rows(alloc, 0, 1, made.vector(), &[], Rule::Low, Seeded::new(1)) {
+        Ok(shard) => shard.vector() == made.vector()
+            && shard.rule() == Rule::Low
+            && shard.count(b"q") == 0,
+        Err(_) => false,
+    }
 }
 
 #[test]
-fn of_no_rows_is_the_heap_of_the_vector(rt: HostRuntime) -> Result<(), Fail> {
+fn of_no_rows_is_the_heap_of_the_vector(rt: HostRuntime) {
     let alloc = rt.alloc();
     let mut made = Shard::new(alloc, 0, 1);
-    drop(make(&mut made, alloc, 7, b'x', Act::Drop)?);
-    let shard = Shard::of_rows(alloc, 0, 1, Rule::Low, made.vector(), &[], Seeded::new(1))?;
-    assert!(rt; shard.vector() == made.vector() && shard.rule() == Rule::Low);
-    assert_eq!(rt; shard.count(b"q"), 0);
-    Ok(())
+    assert!(rt; make(&mut made, alloc, 7, b'x', Deed::Drop).is_some());
+    assert!(rt; is_of_no_rows(alloc, &made));
 }

@@ -1,11 +1,11 @@
 //! A member at one side, as the tests play it.
 
-ghost use Rattle.std.specs.Prelude.{◌≡◌, ◌≤◌, ◌+◌, IfOk, slice_index};
+ghost use Rattle.std.specs.Prelude.{◌≡◌, ◌≤◌, ◌+◌, IfSome, slice_index};
 ghost use Rattle.zq_model.specs.Sets as sets;
 
+use crate::deed::Deed;
 use std::alloc::Global;
 use std::marker::Model;
-use std::test::Fail;
 use zq_dots::{Dot, Score, SiteNo, Vector};
 use zq_entry::Entry;
 
@@ -30,13 +30,10 @@ impl Model for Side {
 }
 
 /// The site's next dot.
-fn next(seen: &Vector, site: SiteNo) -> Result<Dot, Fail>
-    ensures dot { IfOk result (λ d. (d.site ≡ site) × (d.n ≡ slice_index seen.now site + 1) × (d.n ≤ sets.LAST)) }
+fn next(seen: &Vector, site: SiteNo) -> Option<Dot>
+    ensures dot { IfSome result (λ d. (d.site ≡ site) × (d.n ≡ slice_index seen.now site + 1) × (d.n ≤ sets.LAST)) }
 {
-    match seen.next(site) {
-        Ok(dot) => Ok(dot),
-        Err(_) => Err("a counter".into()),
-    }
+    seen.next(site).ok()
 }
 
 impl Side {
@@ -51,35 +48,56 @@ impl Side {
         &self.entry
     }
 
-    pub fn put(&mut self, alloc: Global, site: SiteNo, score: Score) -> Result<(), Fail> {
-        let dot = next(&self.seen, site)?;
-        let n = dot.n;
-        self.entry.put(alloc, dot, score, &self.seen)?;
-        self.seen.set(site, n);
-        Ok(())
+    /// Whether an operation of the site could be made.
+    pub fn does(&mut self, alloc: Global, site: SiteNo, deed: Deed) -> bool {
+        match deed {
+            Deed::Put(value) => match Score::new(value) {
+                Some(score) => self.put(alloc, site, score).is_some(),
+                None => false,
+            },
+            Deed::Bump(value) => match Score::new(value) {
+                Some(increment) => self.bump(alloc, site, increment).is_some(),
+                None => false,
+            },
+            Deed::Drop => self.drop_seen(site).is_some(),
+        }
     }
 
-    pub fn bump(&mut self, alloc: Global, site: SiteNo, increment: Score) -> Result<(), Fail> {
+    fn put(&mut self, alloc: Global, site: SiteNo, score: Score) -> Option<()> {
         let dot = next(&self.seen, site)?;
         let n = dot.n;
-        self.entry.bump(alloc, dot, increment, &self.seen)?;
+        let Ok(()) = self.entry.put(alloc, dot, score, &self.seen) else {
+            return None;
+        };
         self.seen.set(site, n);
-        Ok(())
+        Some(())
     }
 
-    pub fn drop_seen(&mut self, site: SiteNo) -> Result<(), Fail> {
+    fn bump(&mut self, alloc: Global, site: SiteNo, increment: Score) -> Option<()> {
+        let dot = next(&self.seen, site)?;
+        let n = dot.n;
+        let Ok(()) = self.entry.bump(alloc, dot, increment, &self.seen) else {
+            return None;
+        };
+        self.seen.set(site, n);
+        Some(())
+    }
+
+    fn drop_seen(&mut self, site: SiteNo) -> Option<()> {
         let dot = next(&self.seen, site)?;
         self.entry.drop_seen(&self.seen);
         self.seen.set(site, dot.n);
-        Ok(())
+        Some(())
     }
 
-    pub fn merge(&self, alloc: Global, other: &Side) -> Result<Side, Fail> {
-        let entry = self
-            .entry
-            .merge(alloc, &self.seen, &other.entry, &other.seen)?;
+    /// The side that has what both have, and `None` where memory is short.
+    pub fn merge(&self, alloc: Global, other: &Side) -> Option<Side> {
+        let (mine, theirs) = (&self.entry, &other.entry);
+        let Ok(entry) = mine.merge(alloc, &self.seen, theirs, &other.seen) else {
+            return None;
+        };
         let mut seen = self.seen;
         seen.join_with(&other.seen);
-        Ok(Side { entry, seen })
+        Some(Side { entry, seen })
     }
 }

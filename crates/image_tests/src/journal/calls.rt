@@ -1,45 +1,27 @@
 //! Calls of one book, for the tests.
+
+use crate::deed::Deed;
 use std::alloc::Global;
-use std::test::Fail;
-use zq_dots::{Act, Op, Score, SiteNo, Vector};
+use zq_dots::{Act, Op, SiteNo, Vector};
 use zq_journal::{Book, MergeFault, Since, TakeFault};
 use zq_shard::{MakeFault, Shard, Taken};
 
-/// What a site does to a member.
-#[derive(Clone, Copy)]
-pub(crate) enum Deed {
-    Put(i64),
-    Bump(i64),
-    Drop,
-}
-
 /// A heap in which site 0 has put x at 1 and y at 2.
-pub(crate) fn two_members(alloc: Global) -> Result<Shard, Fail> {
+pub(crate) fn two_members(alloc: Global) -> Option<Shard> {
     let mut shard = Shard::new(alloc, 0, 1);
-    add(&mut shard, alloc, b"x", 1)?;
-    add(&mut shard, alloc, b"y", 2)?;
-    Ok(shard)
-}
-
-pub(crate) fn act(deed: Deed) -> Result<Act, &'static str> {
-    match deed {
-        Deed::Put(score) => Score::new(score).map(Act::Put).ok_or("a score"),
-        Deed::Bump(increment) => Score::new(increment).map(Act::Bump).ok_or("an increment"),
-        Deed::Drop => Ok(Act::Drop),
+    if add(&mut shard, alloc, b"x", Deed::Put(1)) && add(&mut shard, alloc, b"y", Deed::Put(2)) {
+        Some(shard)
+    } else {
+        None
     }
 }
 
-/// Puts a member of the key q, as site 0.
-pub(crate) fn add(
-    shard: &mut Shard,
-    alloc: Global,
-    member: &[u8; 1],
-    score: i64,
-) -> Result<(), Fail> {
-    let site = SiteNo::new(0).ok_or("a site")?;
-    let score = Score::new(score).ok_or("a score")?;
-    shard.make(alloc, site, b"q", member, Act::Put(score))?;
-    Ok(())
+/// Whether site 0 could act on a member of the key q.
+fn add(shard: &mut Shard, alloc: Global, member: &[u8; 1], deed: Deed) -> bool {
+    match (SiteNo::new(0), deed.act()) {
+        (Some(site), Some(act)) => shard.make(alloc, site, b"q", member, act).is_ok(),
+        _ => false,
+    }
 }
 
 /// Makes the next operation of a site at the book's stamp, and copies it.
@@ -48,11 +30,12 @@ pub(crate) fn make(
     alloc: Global,
     site: SiteNo,
     member: u8,
-    act: Act,
-) -> Result<Op, Fail> {
+    deed: Deed,
+) -> Option<Op> {
+    let act = deed.act()?;
     let stamp = book.stamp();
-    book.make(alloc, site, stamp, b"q", &[member], act)?;
-    Ok(book.newest(alloc)?.ok_or("a record")?)
+    book.make(alloc, site, stamp, b"q", &[member], act).ok()?;
+    book.newest(alloc).ok()?
 }
 
 /// Hands an operation to a book, at the book's stamp.
@@ -61,11 +44,14 @@ pub(crate) fn take(book: &mut Book, alloc: Global, op: &Op) -> Result<Taken, Tak
     book.take(alloc, stamp, op)
 }
 
-pub(crate) fn take_all(book: &mut Book, alloc: Global, ops: &[Op]) -> Result<(), Fail> {
+/// Hands operations to a book: whether it takes them.
+pub(crate) fn takes_all(book: &mut Book, alloc: Global, ops: &[Op]) -> bool {
     for op in ops {
-        take(book, alloc, op)?;
+        if take(book, alloc, op).is_err() {
+            return false;
+        }
     }
-    Ok(())
+    true
 }
 
 /// Merges a state into a book, at the book's stamp.
@@ -74,63 +60,71 @@ pub(crate) fn merge(book: &mut Book, alloc: Global, state: &Shard) -> Result<(),
     book.merge(alloc, stamp, state)
 }
 
-/// A site drops the member a of the key q, at the book's stamp.
-pub(crate) fn drop_a(book: &mut Book, alloc: Global, site: SiteNo) -> Result<(), MakeFault> {
+/// Whether a book refuses, as worn, to drop the member a of the key q.
+pub(crate) fn is_worn_for(book: &mut Book, alloc: Global, site: SiteNo) -> bool {
     let stamp = book.stamp();
-    book.make(alloc, site, stamp, b"q", b"a", Act::Drop)?;
-    Ok(())
+    book.make(alloc, site, stamp, b"q", b"a", Act::Drop) == Err(MakeFault::Worn)
 }
 
+/// Touches a book at a stamp from its own up to 9: whether it is one.
 #[tactic(auto, unfolding(zq_journal::specs::Books::LAST_STAMP))]
-pub(crate) fn touch(book: &mut Book, stamp: u64) -> Result<(), &'static str> {
+pub(crate) fn touches(book: &mut Book, stamp: u64) -> bool {
     if stamp < book.stamp() || stamp > 9 {
-        return Err("a stamp");
+        return false;
     }
     book.touch(stamp);
-    Ok(())
+    true
 }
 
-pub(crate) fn cut(book: &mut Book, records: usize) -> Result<(), Fail> {
-    if records > book.tail_len() {
-        return Err(Fail::from("records"));
-    }
-    Ok(book.advance(records)?)
+/// Drops so many of the oldest records, where there are as many.
+pub(crate) fn cuts(book: &mut Book, records: usize) -> bool {
+    records <= book.tail_len() && book.advance(records).is_ok()
 }
 
-/// What a peer is given that has the first operations of site 0.
+/// What a peer is given that has the first operations of site 0, 9999 at most.
 #[tactic(auto, unfolding(zq_model::specs::Sets::LAST))]
-pub(crate) fn since(book: &Book, alloc: Global, first: u64) -> Result<Since, Fail> {
-    let mut vector = Vector::new();
+pub(crate) fn since(book: &Book, alloc: Global, first: u64) -> Option<Since> {
     if first > 9999 {
-        return Err(Fail::from("a counter"));
+        return None;
     }
-    vector.set(SiteNo::new(0).ok_or("a site")?, first);
-    Ok(book.since(alloc, &vector)?)
+    let mut vector = Vector::new();
+    vector.set(SiteNo::new(0)?, first);
+    book.since(alloc, &vector).ok()
 }
 
-/// The members of the operations that such a peer is given, and `None` for `TooOld`.
-pub(crate) fn given(book: &Book, alloc: Global, first: u64) -> Result<Option<Vec<u8>>, Fail> {
-    match since(book, alloc, first)? {
-        Since::TooOld => Ok(None),
-        Since::Ops(ops) => {
-            let mut members = Vec::new(alloc);
-            for op in &ops {
-                members.extend_from_slice(op.member())?;
-            }
-            Ok(Some(members))
-        }
+/// Whether such a peer is given operations on these members, in this order, or `TooOld`.
+pub(crate) fn gives(book: &Book, alloc: Global, first: u64, members: Option<&[u8]>) -> bool {
+    match (since(book, alloc, first), members) {
+        (Some(Since::TooOld), None) => true,
+        (Some(Since::Ops(ops)), Some(members)) => are_on(&ops, members),
+        _ => false,
     }
 }
 
-/// How many operations such a peer is given, and `None` for `TooOld`.
-pub(crate) fn number_given(book: &Book, alloc: Global, first: u64) -> Result<Option<usize>, Fail> {
-    match since(book, alloc, first)? {
-        Since::TooOld => Ok(None),
-        Since::Ops(ops) => Ok(Some(ops.len())),
+/// Whether the operations are on these members of one byte, in this order.
+fn are_on(ops: &[Op], members: &[u8]) -> bool {
+    let mut same = ops.len() == members.len();
+    for (op, member) in ops.iter().zip(members) {
+        same = same && op.member() == [*member].as_slice();
+    }
+    same
+}
+
+/// Whether such a peer is given so many operations, or `TooOld`.
+pub(crate) fn gives_number(book: &Book, alloc: Global, first: u64, count: Option<usize>) -> bool {
+    match (since(book, alloc, first), count) {
+        (Some(Since::TooOld), None) => true,
+        (Some(Since::Ops(ops)), Some(count)) => ops.len() == count,
+        _ => false,
     }
 }
 
-/// The stamp, the count and the number of records.
-pub(crate) fn shown(book: &Book) -> (u64, u64, usize) {
-    (book.stamp(), book.count(), book.tail_len())
+/// Whether a book has this stamp, this count and so many records.
+pub(crate) fn shows(book: &Book, stamp: u64, count: u64, records: usize) -> bool {
+    book.stamp() == stamp && book.count() == count && book.tail_len() == records
+}
+
+/// Whether a book passes its audit.
+pub(crate) fn is_sound(book: &Book, alloc: Global) -> bool {
+    matches!(book.audit(alloc), Ok(true))
 }

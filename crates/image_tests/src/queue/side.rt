@@ -5,8 +5,7 @@ ghost use Rattle.zq_model.specs.Operation.{is_bump};
 ghost use Rattle.zq_model.specs.Sets.{LAST};
 
 use std::alloc::Global;
-use std::test::Fail;
-use zq_dots::{Act, Dot, Rule, SiteNo, Vector};
+use zq_dots::{Act, Dot, Rule, Score, SiteNo, Vector};
 use zq_entry::Entry;
 use zq_posheap::Seeded;
 use zq_queue::{Effect, Queue};
@@ -28,14 +27,35 @@ impl Side {
         }
     }
 
+    /// Puts a member of one byte at this score: whether it could.
+    pub fn puts(&mut self, alloc: Global, member: u8, value: i64) -> bool {
+        match Score::new(value) {
+            Some(score) => self.take(alloc, member, Act::Put(score)).is_some(),
+            None => false,
+        }
+    }
+
+    /// Drops a member of one byte: whether it could.
+    pub fn drops(&mut self, alloc: Global, member: u8) -> bool {
+        self.take(alloc, member, Act::Drop).is_some()
+    }
+
+    /// Puts a member of one byte at this score, and the member gets back what it had: whether it could.
+    pub fn undoes(&mut self, alloc: Global, member: u8, value: i64) -> bool {
+        let Some(score) = Score::new(value) else {
+            return false;
+        };
+        match self.take(alloc, member, Act::Put(score)) {
+            Some(before) => self.queue.put_back(&[member], before).is_ok(),
+            None => false,
+        }
+    }
+
     /// Makes an operation on a member of one byte, and answers what the member had.
-    pub fn take(&mut self, alloc: Global, member: u8, act: Act) -> Result<Option<Entry>, Fail>
+    fn take(&mut self, alloc: Global, member: u8, act: Act) -> Option<Option<Entry>>
         requires { is_bump (act_of act) ≡ false }
     {
-        let dot = match self.seen.next(self.site) {
-            Ok(dot) => dot,
-            Err(_) => return Err("a counter".into()),
-        };
+        let dot = self.seen.next(self.site).ok()?;
         put(&mut self.queue, &mut self.seen, alloc, dot, member, act)
     }
 }
@@ -49,13 +69,13 @@ fn put(
     dot: Dot,
     member: u8,
     act: Act,
-) -> Result<Option<Entry>, Fail>
+) -> Option<Option<Entry>>
     requires counter { (1 ≤ dot.n) × (dot.n ≤ LAST) }
     requires act { is_bump (act_of act) ≡ false }
 {
     let Dot { site, n } = dot;
     let effect = Effect { dot, act, seen };
-    let before = queue.take(alloc, &[member], &effect)?;
+    let before = queue.take(alloc, &[member], &effect).ok()?;
     seen.set(site, n);
-    Ok(before)
+    Some(before)
 }

@@ -1,10 +1,10 @@
 //! Three sites against a plain list of operations, which is read by the words of the definitions.
 
+use crate::rows::row_holds;
 use rand_core::{Rng, SeedableRng};
 use rand_pcg::Pcg64;
 use std::alloc::Global;
 use std::process::Abort;
-use std::test::Fail;
 use zq_dots::{Act, Op, Rule, Score, SiteNo};
 use zq_posheap::Seeded;
 use zq_shard::{Shard, Taken};
@@ -15,6 +15,40 @@ const SITES: usize = 3;
 const NUMBERS: [u8; SITES] = [0, 7, 63];
 
 const MEMBERS: [&[u8; 1]; 3] = [b"a", b"b", b"c"];
+
+/// A heap at each of the sites.
+#[derive(Drop)]
+struct Heaps {
+    a: Shard,
+    b: Shard,
+    c: Shard,
+}
+
+impl Heaps {
+    fn new(alloc: Global, rule: Rule) -> Heaps {
+        Heaps {
+            a: Shard::new_ruled(alloc, 0, 1, rule, Seeded::new(1)),
+            b: Shard::new_ruled(alloc, 0, 1, rule, Seeded::new(2)),
+            c: Shard::new_ruled(alloc, 0, 1, rule, Seeded::new(3)),
+        }
+    }
+
+    fn at(&self, site: usize) -> &Shard {
+        match site {
+            0 => &self.a,
+            1 => &self.b,
+            _ => &self.c,
+        }
+    }
+
+    fn at_mut(&mut self, site: usize) -> &mut Shard {
+        match site {
+            0 => &mut self.a,
+            1 => &mut self.b,
+            _ => &mut self.c,
+        }
+    }
+}
 
 /// An operation, and which of the sites have taken it.
 #[derive(Drop)]
@@ -113,23 +147,33 @@ fn expected_score(rule: Rule, records: &[Record], site: usize, member: &[u8]) ->
     best
 }
 
+fn is_score(score: Option<i128>, expected: Option<i64>) -> bool {
+    match (score, expected) {
+        (Some(score), Some(value)) => score == i128::from(value),
+        (None, None) => true,
+        _ => false,
+    }
+}
+
 /// Whether the site's heap has the scores, the number of members and the first that the list gives it.
 fn is_as_expected(rule: Rule, shard: &Shard, records: &[Record], site: usize) -> bool {
-    let mut count = 0;
-    let mut first: Option<i64> = None;
+    let mut count: usize = 0;
+    let mut first = None;
     for member in MEMBERS {
         let score = expected_score(rule, records, site, member);
-        if shard.score(b"q", member) != score.map(i128::from) {
+        if !is_score(shard.score(b"q", member), score) {
             return false;
         }
         if let Some(score) = score {
-            first = Some(first.map_or(score, |first| first.min(score)));
-            if count < 3 {
-                count += 1;
-            }
+            first = Some(preferred(Rule::Low, first, score));
+            count = count.saturating_add(1);
         }
     }
-    shard.count(b"q") == count && shard.top(b"q").map(|top| top.0) == first.map(i128::from)
+    let top = match shard.top(b"q") {
+        Some((score, _)) => Some(score),
+        None => None,
+    };
+    shard.count(b"q") == count && is_score(top, first)
 }
 
 /// How many members go before one by the scores that the list gives them.
@@ -157,108 +201,120 @@ fn is_ranked(rule: Rule, shard: &Shard, records: &[Record], site: usize) -> bool
 }
 
 /// An act, a Drop one time in four and a Bump one time in four.
-fn act(draws: &mut Pcg64) -> Result<Act, Fail> {
-    let value = i64::try_from(draws.next_u64() % 9)
-        .ok()
-        .and_then(|value| Score::new(value.saturating_sub(4)))
-        .ok_or("a score")?;
-    Ok(match draws.next_u64() % 4 {
-        0 => Act::Drop,
-        1 => Act::Bump(value),
-        _ => Act::Put(value),
-    })
+fn act(draws: &mut Pcg64) -> Option<Act> {
+    let drawn = i64::try_from(draws.next_u64() % 9).ok()?;
+    let value = Score::new(drawn.saturating_sub(4))?;
+    match draws.next_u64() % 4 {
+        0 => Some(Act::Drop),
+        1 => Some(Act::Bump(value)),
+        _ => Some(Act::Put(value)),
+    }
 }
 
 /// Makes an operation at a site.
-fn make(shard: &mut Shard, alloc: Global, draws: &mut Pcg64, site: usize) -> Result<Record, Fail> {
-    let number = SiteNo::new(NUMBERS[site % SITES]).ok_or("a site")?;
+fn make(shard: &mut Shard, alloc: Global, draws: &mut Pcg64, site: usize) -> Option<Record> {
+    let number = SiteNo::new(NUMBERS[site % SITES])?;
     let member = MEMBERS[(draws.next_u64() % 3) as usize];
-    let op = shard.make(alloc, number, b"q", member, act(draws)?)?;
+    let op = shard.make(alloc, number, b"q", member, act(draws)?).ok()?;
     let mut taken = [false; SITES];
     taken[site % SITES] = true;
-    Ok(Record { op, taken })
+    Some(Record { op, taken })
 }
 
-/// One site takes all that another has.
-fn merge(
-    shards: &mut [Shard; SITES],
+/// Makes an operation at a site, and lists it: whether it could.
+fn makes(
+    shard: &mut Shard,
     alloc: Global,
-    records: &mut [Record],
+    records: &mut Vec<Record>,
+    draws: &mut Pcg64,
     site: usize,
-    from: usize,
-) -> Result<(), Fail> {
-    let other = shards[from % SITES].copy(alloc)?;
-    shards[site % SITES].merge(alloc, &other)?;
-    drop(other);
+) -> bool {
+    match make(shard, alloc, draws, site) {
+        Some(record) => records.push(record).is_ok(),
+        None => false,
+    }
+}
+
+/// One site takes all that another has: whether it could.
+fn merges(heaps: &mut Heaps, alloc: Global, site: usize, from: usize) -> bool {
+    match heaps.at(from).copy(alloc) {
+        Ok(other) => heaps.at_mut(site).merge(alloc, &other).is_ok(),
+        Err(_) => false,
+    }
+}
+
+/// Notes that a site has taken all that another has.
+fn note_merged(records: &mut [Record], site: usize, from: usize) {
     for record in records {
         if record.is_taken(from) {
             record.taken[site % SITES] = true;
         }
     }
-    Ok(())
 }
 
-/// Draws what happens next: an operation is made, handed on or merged.
-fn step(
-    rt: &impl Abort,
+/// Notes that a site has taken an operation.
+fn note_taken(records: &mut [Record], at: usize, site: usize) {
+    if let Some(record) = records.get_mut(at) {
+        record.taken[site % SITES] = true;
+    }
+}
+
+/// Hands an operation to a site: whether it answers as it should.
+fn hands(shard: &mut Shard, alloc: Global, records: &mut [Record], at: usize, site: usize) -> bool {
+    let Some(record) = records.get(at) else {
+        return false;
+    };
+    let answer = expected(records, site, record);
+    let answers = shard.take(alloc, &record.op) == Ok(answer);
+    if answer == Taken::New {
+        note_taken(records, at, site);
+    }
+    answers
+}
+
+/// Draws what happens next, which is made, handed on or merged: whether it could be, with the answer that it should have.
+fn steps(
+    heaps: &mut Heaps,
     alloc: Global,
-    shards: &mut [Shard; SITES],
     records: &mut Vec<Record>,
     draws: &mut Pcg64,
     site: usize,
-) -> Result<(), Fail> {
+) -> bool {
     let kind = draws.next_u64() % 6;
     if records.is_empty() || kind < 2 {
-        records.push(make(&mut shards[site % SITES], alloc, draws, site)?)?;
-        return Ok(());
+        return makes(heaps.at_mut(site), alloc, records, draws, site);
     }
     if kind == 2 {
         let from = (draws.next_u64() % 3) as usize;
-        return merge(shards, alloc, records, site, from);
+        note_merged(records, site, from);
+        return merges(heaps, alloc, site, from);
     }
     let at = (draws.next_u64() % records.len() as u64) as usize;
-    let answer = expected(records, site, &records[at]);
-    let taken = shards[site % SITES].take(alloc, &records[at].op)?;
-    assert_eq!(rt; taken, answer);
-    if answer == Taken::New {
-        records[at].taken[site % SITES] = true;
-    }
-    Ok(())
+    hands(heaps.at_mut(site), alloc, records, at, site)
 }
 
 /// Plays a run of three sites, whose heaps have an index past so many members, and compares a site with the list after
 /// each of its steps.
-fn play(
-    rt: &impl Abort,
-    alloc: Global,
-    rule: Rule,
-    most: usize,
-    draws: &mut Pcg64,
-) -> Result<(), Fail> {
-    let mut shards = [
-        Shard::new_ruled(alloc, 0, 1, rule, Seeded::new(1)),
-        Shard::new_ruled(alloc, 0, 1, rule, Seeded::new(2)),
-        Shard::new_ruled(alloc, 0, 1, rule, Seeded::new(3)),
-    ];
+fn play(rt: &impl Abort, alloc: Global, rule: Rule, most: usize, draws: &mut Pcg64) {
+    let mut heaps = Heaps::new(alloc, rule);
     let mut records: Vec<Record> = Vec::new(alloc);
-    for _ in 0..60 {
+    for step in 0..60 {
         let site = (draws.next_u64() % 3) as usize;
-        step(rt, alloc, &mut shards, &mut records, draws, site)?;
-        shards[site].index(alloc, b"q", most);
-        assert!(rt; is_as_expected(rule, &shards[site], &records, site));
-        assert!(rt; is_ranked(rule, &shards[site], &records, site));
+        let done = steps(&mut heaps, alloc, &mut records, draws, site);
+        heaps.at_mut(site).index(alloc, b"q", most);
+        let holds = is_as_expected(rule, heaps.at(site), &records, site)
+            && is_ranked(rule, heaps.at(site), &records, site);
+        row_holds(rt, "drawn steps", step, done && holds);
     }
-    Ok(())
 }
 
 #[test]
-fn sites_hold_what_they_have_taken(rt: HostRuntime) -> Result<(), Fail> {
+fn sites_hold_what_they_have_taken(rt: HostRuntime) {
     let mut draws = Pcg64::seed_from_u64(1);
     for _ in 0..8 {
         for most in [usize::MAX, 1] {
-            play(&rt, rt.alloc(), Rule::High, most, &mut draws)?;
-            play(&rt, rt.alloc(), Rule::Low, most, &mut draws)?;
+            play(&rt, rt.alloc(), Rule::High, most, &mut draws);
+            play(&rt, rt.alloc(), Rule::Low, most, &mut draws);
         }
     }
-    Ok(())
 }

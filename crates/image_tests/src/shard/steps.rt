@@ -1,11 +1,10 @@
 //! Steps of two sites on a heap, in a table, and what does them.
-ghost use Rattle.std.specs.Prelude.{◌<◌};
-ghost use Rattle.zq_model.specs.Sets.{IsHeaps};
 
-use std::alloc::Global;
+use crate::deed::Deed;
+use crate::rows::row_holds;
+use std::alloc::{AllocError, Global};
 use std::process::Abort;
-use std::test::Fail;
-use zq_dots::{Act, Op, Rule, Score, SiteNo};
+use zq_dots::{Op, Rule, SiteNo};
 use zq_posheap::Seeded;
 use zq_shard::{Shard, Taken};
 
@@ -52,21 +51,27 @@ pub enum Step {
     Same(bool),
 }
 
-/// A heap at two sites, their numbers, and what they made there.
+/// Steps of two sites with these numbers, from an empty heap of a rule.
+pub struct Table {
+    pub name: &'static str,
+    pub numbers: [u8; 2],
+    pub rule: Rule,
+    pub steps: &'static [Step],
+}
+
+/// A heap at two sites, and what they made there.
 #[derive(Drop)]
 struct Sites {
     a: Shard,
     b: Shard,
-    numbers: [u8; 2],
     made: Vec<Op>,
 }
 
 impl Sites {
-    fn new(alloc: Global, numbers: [u8; 2], rule: Rule) -> Sites {
+    fn new(alloc: Global, rule: Rule) -> Sites {
         Sites {
             a: Shard::new_ruled(alloc, 0, 1, rule, Seeded::new(1)),
             b: Shard::new_ruled(alloc, 0, 1, rule, Seeded::new(2)),
-            numbers,
             made: Vec::new(alloc),
         }
     }
@@ -78,103 +83,104 @@ impl Sites {
         }
     }
 
-    /// A site makes an operation on a member of the key q.
-    fn make(&mut self, alloc: Global, site: Site, member: u8, act: Act) -> Result<(), Fail> {
-        let op = match site {
-            Site::A => make(&mut self.a, alloc, self.numbers[0], member, act)?,
-            Site::B => make(&mut self.b, alloc, self.numbers[1], member, act)?,
-        };
-        Ok(self.made.push(op)?)
-    }
-
-    /// A site is handed the operation that was made as the nth.
-    fn give(&mut self, alloc: Global, site: Site, nth: usize) -> Result<Taken, Fail> {
-        let op = self.made.get(nth).ok_or("an operation")?;
-        match site {
-            Site::A => Ok(self.a.take(alloc, op)?),
-            Site::B => Ok(self.b.take(alloc, op)?),
-        }
-    }
-
-    /// A site merges what the other has.
-    fn merge(&mut self, alloc: Global, site: Site) -> Result<(), Fail> {
-        match site {
-            Site::A => Ok(self.a.merge(alloc, &self.b)?),
-            Site::B => Ok(self.b.merge(alloc, &self.a)?),
-        }
-    }
-
-    /// Does the step with this number, or asserts what it says.
-    fn follow(
+    /// A site makes an operation on a member of the key q: whether it could.
+    fn makes(
         &mut self,
-        rt: &impl Abort,
         alloc: Global,
-        nth: usize,
-        step: &Step,
-    ) -> Result<(), Fail> {
+        numbers: [u8; 2],
+        site: Site,
+        member: u8,
+        deed: Deed,
+    ) -> bool {
+        let [a, b] = numbers;
+        let made = match site {
+            Site::A => make(&mut self.a, alloc, a, member, deed),
+            Site::B => make(&mut self.b, alloc, b, member, deed),
+        };
+        match made {
+            Some(op) => self.made.push(op).is_ok(),
+            None => false,
+        }
+    }
+
+    /// A site is handed the operation that was made as the nth: whether it answers so.
+    fn gives(&mut self, alloc: Global, site: Site, nth: usize, answer: Taken) -> bool {
+        match (self.made.get(nth), site) {
+            (Some(op), Site::A) => self.a.take(alloc, op) == Ok(answer),
+            (Some(op), Site::B) => self.b.take(alloc, op) == Ok(answer),
+            (None, _) => false,
+        }
+    }
+
+    /// Whether the step could be done, or what it says holds.
+    fn follows(&mut self, alloc: Global, numbers: [u8; 2], step: &Step) -> bool {
+        if let Some((site, member, deed)) = deed_of(step) {
+            return self.makes(alloc, numbers, site, member, deed);
+        }
         match *step {
-            Step::Put(site, member, score) => {
-                self.make(alloc, site, member, Act::Put(number(score)?))?
-            }
-            Step::Bump(site, member, score) => {
-                self.make(alloc, site, member, Act::Bump(number(score)?))?
-            }
-            Step::Drop(site, member) => self.make(alloc, site, member, Act::Drop)?,
-            Step::Give(site, op, answer) => {
-                assert_eq!(rt; self.give(alloc, site, op)?, answer, "step {nth}");
-            }
-            Step::Merge(site) => self.merge(alloc, site)?,
-            Step::Same(same) => assert_eq!(rt; self.a.same(&self.b), same, "step {nth}"),
-            _ => assert!(rt; shows(alloc, step, self)?, "step {nth}"),
+            Step::Give(site, nth, answer) => self.gives(alloc, site, nth, answer),
+            Step::Merge(Site::A) => self.a.merge(alloc, &self.b).is_ok(),
+            Step::Merge(Site::B) => self.b.merge(alloc, &self.a).is_ok(),
+            Step::Same(same) => self.a.same(&self.b) == same,
+            _ => self.shows(alloc, step),
         }
-        Ok(())
     }
-}
 
-/// Whether a site shows what the step says.
-fn shows(alloc: Global, step: &Step, sites: &Sites) -> Result<bool, Fail> {
-    match *step {
-        Step::Score(site, member, score) => Ok(sites.at(site).score(b"q", &[member]) == score),
-        Step::Count(site, count) => Ok(sites.at(site).count(b"q") == count),
-        Step::Top(site, first) => Ok(is_top(sites.at(site), first)),
-        Step::Ranks(site, member, rank, turned) => {
-            let shard = sites.at(site);
-            Ok(shard.rank(b"q", &[member]) == rank && shard.turned_rank(b"q", &[member]) == turned)
-        }
-        Step::Around(site, score, member, before, after) => {
-            let shard = sites.at(site);
-            Ok(
+    /// Whether a site shows what the step says.
+    fn shows(&self, alloc: Global, step: &Step) -> bool {
+        match *step {
+            Step::Score(site, member, score) => self.at(site).score(b"q", &[member]) == score,
+            Step::Count(site, count) => self.at(site).count(b"q") == count,
+            Step::Top(site, first) => is_top(self.at(site).top(b"q"), first),
+            Step::Ranks(site, member, rank, turned) => {
+                let shard = self.at(site);
+                shard.rank(b"q", &[member]) == rank && shard.turned_rank(b"q", &[member]) == turned
+            }
+            Step::Around(site, score, member, before, after) => {
+                let shard = self.at(site);
                 shard.count_before(b"q", score, &[member]) == before
-                    && shard.count_after(b"q", score, &[member]) == after,
-            )
-        }
-        Step::Below(site, score, below, at) => {
-            let shard = sites.at(site);
-            Ok(
+                    && shard.count_after(b"q", score, &[member]) == after
+            }
+            Step::Below(site, score, below, at) => {
+                let shard = self.at(site);
                 shard.count_below(b"q", score, false) == below
-                    && shard.count_below(b"q", score, true) == at,
-            )
+                    && shard.count_below(b"q", score, true) == at
+            }
+            _ => self.lists(alloc, step),
         }
-        Step::Order(site, members) => Ok(are(&sites.at(site).in_order(alloc, b"q")?, members)),
-        Step::First(site, count, members) => {
-            Ok(are(&sites.at(site).first(alloc, b"q", count)?, members))
+    }
+
+    /// Whether a site lists what the step says.
+    fn lists(&self, alloc: Global, step: &Step) -> bool {
+        match *step {
+            Step::Order(site, members) => are(self.at(site).in_order(alloc, b"q"), members),
+            Step::First(site, count, members) => {
+                are(self.at(site).first(alloc, b"q", count), members)
+            }
+            Step::Slice(site, from, to, members) => {
+                are(self.at(site).slice(alloc, b"q", from, to), members)
+            }
+            Step::Turned(site, from, to, members) => {
+                are(self.at(site).slice_turned(alloc, b"q", from, to), members)
+            }
+            _ => false,
         }
-        Step::Slice(site, from, to, members) => {
-            Ok(are(&sites.at(site).slice(alloc, b"q", from, to)?, members))
-        }
-        Step::Turned(site, from, to, members) => {
-            Ok(are(
-                &sites.at(site).slice_turned(alloc, b"q", from, to)?,
-                members,
-            ))
-        }
-        _ => Ok(false),
     }
 }
 
-/// Whether the first of the key q has this score and this member of one byte.
-fn is_top(shard: &Shard, first: Option<(i128, u8)>) -> bool {
-    match (shard.top(b"q"), first) {
+/// What the step does to which member at which site, where it makes an operation.
+fn deed_of(step: &Step) -> Option<(Site, u8, Deed)> {
+    match *step {
+        Step::Put(site, member, score) => Some((site, member, Deed::Put(score))),
+        Step::Bump(site, member, score) => Some((site, member, Deed::Bump(score))),
+        Step::Drop(site, member) => Some((site, member, Deed::Drop)),
+        _ => None,
+    }
+}
+
+/// Whether the first pair has this score and this member of one byte.
+fn is_top(top: Option<(i128, &[u8])>, first: Option<(i128, u8)>) -> bool {
+    match (top, first) {
         (Some((score, member)), Some((expected, byte))) => score == expected
             && member == [byte].as_slice(),
         (None, None) => true,
@@ -182,60 +188,42 @@ fn is_top(shard: &Shard, first: Option<(i128, u8)>) -> bool {
     }
 }
 
-/// Whether these pairs are of these members of one byte each.
-fn are(pairs: &[(i128, &[u8])], members: &[u8]) -> bool {
-    if pairs.len() != members.len() {
-        return false;
+/// What a heap lists.
+type Listed<'a> = Result<Vec<(i128, &'a [u8])>, AllocError>;
+
+/// Whether the pairs are of these members of one byte each.
+fn are(listed: Listed<'_>, members: &[u8]) -> bool {
+    match listed {
+        Ok(pairs) => are_of(&pairs, members),
+        Err(AllocError) => false,
     }
-    for (pair, member) in pairs.iter().zip(members) {
-        if pair.1 != [*member].as_slice() {
-            return false;
-        }
-    }
-    true
 }
 
-pub fn number(score: i64) -> Result<Score, &'static str> {
-    Score::new(score).ok_or("a score")
+fn are_of(pairs: &[(i128, &[u8])], members: &[u8]) -> bool {
+    let mut same = pairs.len() == members.len();
+    for (pair, member) in pairs.iter().zip(members) {
+        same = same && pair.1 == [*member].as_slice();
+    }
+    same
 }
 
 /// Makes the next operation of a site on a member of the key q.
-pub fn make(shard: &mut Shard, alloc: Global, site: u8, member: u8, act: Act) -> Result<Op, Fail> {
-    let site = SiteNo::new(site).ok_or("a site")?;
-    Ok(shard.make(alloc, site, b"q", &[member], act)?)
+pub fn make(shard: &mut Shard, alloc: Global, site: u8, member: u8, deed: Deed) -> Option<Op> {
+    let (site, act) = (SiteNo::new(site)?, deed.act()?);
+    shard.make(alloc, site, b"q", &[member], act).ok()
 }
 
-/// Follows the steps from two empty heaps of sites with these numbers: once with no index, and once with one wherever the
-/// key q has more than 2 members.
-pub fn follow(
-    rt: &impl Abort,
-    alloc: Global,
-    numbers: [u8; 2],
-    rule: Rule,
-    steps: &[Step],
-) -> Result<(), Fail> {
-    for most in [usize::MAX, 2] {
-        let sites = Sites::new(alloc, numbers, rule);
-        follow_all(rt, alloc, sites, steps, most)?;
-    }
-    Ok(())
-}
-
-/// The same with an index past so many members.
-///
-/// A table of steps and one loop, since a proof of a test grows with its calls times the values that
-/// are alive at them.
-fn follow_all(
-    rt: &impl Abort,
-    alloc: Global,
-    mut sites: Sites,
-    steps: &[Step],
-    most: usize,
-) -> Result<(), Fail> {
-    for (nth, step) in steps.iter().enumerate() {
+/// Follows the steps of a table, with an index wherever the key q has more than so many members.
+pub fn follow(rt: &impl Abort, alloc: Global, table: &Table, most: usize) {
+    let mut sites = Sites::new(alloc, table.rule);
+    for (row, step) in table.steps.iter().enumerate() {
         sites.a.index(alloc, b"q", most);
         sites.b.index(alloc, b"q", most);
-        sites.follow(rt, alloc, nth, step)?;
+        row_holds(
+            rt,
+            table.name,
+            row,
+            sites.follows(alloc, table.numbers, step),
+        );
     }
-    Ok(())
 }

@@ -24,5 +24,5 @@ invariant_of-self-2 c =
     let below : s < SITES = search rules in
     let less : slice_index v s < n = omega (arith, dot.1) in
     let amount : IsWithin MOST c.args.increment = search rules in
-    let entry : c.bump.new.self ≡ entry_after (Bump c.args.increment) s n v e = c.in_ok-bump.ensures.bumped ∙ ap (λ t. entry_after (Bump c.args.increment) t n v e) dot.0 in
+    let entry : c.bump.new.self ≡ entry_after (Bump c.args.increment) s n v e = c.in-Ok.ensures.bumped ∙ ap (λ t. entry_after (Bump c.args.increment) t n v e) dot.0 in
     rw c.set.ensures (length-set v s n ∙ c.self.invariant.0, subst (λ (x : Entry). IsEntryWithin (slice_set v s n) x) (sym entry) (within-bump v v s n c.args.increment e c.self.invariant.0 below less amount c.self.invariant.1))

@@ -10,4 +10,4 @@ invariant_of-result c =
     let u = c.self.inside.seen in
     let v = c.other.inside.seen in
     let within = within-merge u v c.self.inside.entry c.other.inside.entry c.self.invariant.0 c.other.invariant.0 c.self.invariant.1 c.other.invariant.1 in
-    rw c.join_with.ensures (length-by_site (λ t. max (slice_index u t) (slice_index v t)), subst (λ (x : Entry). IsEntryWithin (join_vector u v) x) (sym c.in_ok-entry.ensures) within)
+    rw c.join_with.ensures (length-by_site (λ t. max (slice_index u t) (slice_index v t)), subst (λ (x : Entry). IsEntryWithin (join_vector u v) x) (sym c.in-Ok.ensures) within)

@@ -16,5 +16,5 @@ invariant_of-self-2 c =
     let dot = c.in_ok-dot.ensures.dot in
     let below : s < SITES = search rules in
     let less : slice_index v s < n = omega (arith, dot.1) in
-    let entry : c.put.new.self ≡ entry_after (Put c.args.score) s n v e = c.in_ok-put.ensures.put ∙ ap (λ t. entry_after (Put c.args.score) t n v e) dot.0 in
+    let entry : c.put.new.self ≡ entry_after (Put c.args.score) s n v e = c.in-Ok.ensures.put ∙ ap (λ t. entry_after (Put c.args.score) t n v e) dot.0 in
     rw c.set.ensures (length-set v s n ∙ c.self.invariant.0, subst (λ (x : Entry). IsEntryWithin (slice_set v s n) x) (sym entry) (within-put v v s n c.args.score e c.self.invariant.0 below less c.self.invariant.1))
