@@ -12,10 +12,13 @@
 
 mod hearing;
 mod links;
+mod nodes;
 mod playing;
 mod texts;
 mod working;
 
+use links::{DOUBLES, LOSES};
+use nodes::{Hearing, at_node};
 use std::alloc::{AllocError, Global};
 use std::env::Env;
 use std::process::ExitCode;
@@ -95,10 +98,10 @@ fn case<R: Threads + Wait + Sync>(rt: &R, alloc: Global, name: &str) -> Option<E
     match name {
         "play" => playing::world(alloc),
         "work" => working::workers(rt, alloc),
-        "hear" => hearing::hear(rt, alloc, false),
-        "hear-turned" => hearing::hear(rt, alloc, true),
-        "link-loses" => links::losing(rt, alloc),
-        "link-doubles" => links::doubling(rt, alloc),
+        "hear" => at_node(rt, alloc, Hearing::Frame { is_turned: false }),
+        "hear-turned" => at_node(rt, alloc, Hearing::Frame { is_turned: true }),
+        "link-loses" => at_node(rt, alloc, Hearing::Link(LOSES)),
+        "link-doubles" => at_node(rt, alloc, Hearing::Link(DOUBLES)),
         _ => zq_trials::case(rt, alloc, name),
     }
 }

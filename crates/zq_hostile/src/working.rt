@@ -22,40 +22,34 @@ impl Gate for Open {
     fn after(&self, _call: u64) {}
 }
 
-/// Site 0 of two heaps, two passes for workers, and one that looks at it.
-fn opened(alloc: Global) -> Option<(Site, Vec<Pass>, Pass)>
-    ensures heaps { IfSome result (λ made. heaps_of made.0 ≡ 2) }
-    ensures count { IfSome result (λ made. length made.1.items ≡ 2) }
-    ensures passes { IfSome result (λ made. All (IsPassOf made.0) made.1.items) }
-    ensures looks { IfSome result (λ made. IsPassOf made.0 made.2) }
-{
-    let (site, mut passes) = opened_with(alloc, SiteNo::new(0)?, 3)?;
-    let looks = last_pass(&site, &mut passes)?;
-    Some((site, passes, looks))
-}
-
 /// The requests of a worker.
-fn requests(alloc: Global, lines: [&str; 2]) -> Option<Vec<Request>> {
+fn requests(alloc: Global, lines: &[&str]) -> Option<Vec<Request>> {
     let mut requests = Vec::new(alloc);
     for line in lines {
-        requests.push(request(alloc, line)?).ok()?;
+        let request = request(alloc, line)?;
+        requests.push(request).ok()?;
     }
     Some(requests)
+}
+
+/// A job that asks a request, if it is a command.
+fn job(alloc: Global, request: &Request) -> Option<Job<'_>> {
+    match Command::read(alloc, request) {
+        Ok(command) => Some(Job {
+            number: 0,
+            command,
+            w1: 0,
+            w2: 0,
+        }),
+        Err(_) => None,
+    }
 }
 
 /// A job of each request.
 fn jobs<'a>(alloc: Global, requests: &'a [Request]) -> Option<Vec<Job<'a>>> {
     let mut jobs = Vec::new(alloc);
     for request in requests {
-        let Ok(command) = Command::read(alloc, request) else {
-            return None;
-        };
-        let job = Job {
-            number: 0,
-            command,
-            w1: 0,
-            w2: 0,
-        };
+        let job = job(alloc, request)?;
         jobs.push(job).ok()?;
     }
     Some(jobs)
@@ -66,8 +60,10 @@ fn lists<'a>(alloc: Global, one: &'a [Request], other: &'a [Request]) -> Option<
     ensures { IfSome result (λ lists. length lists.items ≡ 2) }
 {
     let mut lists = Vec::new(alloc);
-    lists.push(jobs(alloc, one)?).ok()?;
-    lists.push(jobs(alloc, other)?).ok()?;
+    let first = jobs(alloc, one)?;
+    lists.push(first).ok()?;
+    let second = jobs(alloc, other)?;
+    lists.push(second).ok()?;
     Some(lists)
 }
 
@@ -91,8 +87,11 @@ fn all_added(done: &[(Vec<Reply>, Pass)]) -> usize {
     count
 }
 
-/// The lines of each worker.
-const LINES: [[&str; 2]; 2] = [["ZADD q 1 a", "ZADD q 2 b"], ["ZADD q 3 c", "ZADD q 4 d"]];
+/// The lines of the workers.
+const LINES: [&str; 4] = ["ZADD q 1 a", "ZADD q 2 b", "ZADD q 3 c", "ZADD q 4 d"];
+
+/// So many lines are the first worker's, the others the second one's.
+const FIRST: usize = 2;
 
 /// What ZCARD says by how many members were added.
 const COUNTS: [&str; 5] = [":0\r\n", ":1\r\n", ":2\r\n", ":3\r\n", ":4\r\n"];
@@ -129,27 +128,29 @@ fn last_of<R: Wait>(rt: &R, alloc: Global, site: &Site, looks: &mut Pass) -> Opt
     requires { IsPassOf site.now looks.old }
     ensures { IsPassOf site.now looks.new }
 {
-    for line in [LINES[0][0], LINES[0][1], LINES[1][0], LINES[1][1]] {
+    for line in &LINES {
         answer(rt, alloc, site, looks, line)?;
     }
     answer(rt, alloc, site, looks, "ZRANGE q 0 -1")
 }
 
-/// How many calls of two workers say that they added a member. `None` where the work was not done to its end.
+/// How many calls of two workers say that they added a member, `None` within where the work was not done to its end.
 fn worked<R: Threads + Wait + Sync>(
     rt: &R,
     alloc: Global,
     site: &Site,
     passes: Vec<Pass>,
-    lists: Vec<Vec<Job>>,
-) -> Option<usize>
-    requires lists { length passes.items ≡ length lists.items }
+    one: &[Request],
+    other: &[Request],
+) -> Option<Option<usize>>
+    requires count { length passes.items ≡ 2 }
     requires passes { All (IsPassOf site.now) passes.items }
 {
-    match work(rt, alloc, site, passes, lists, &Open) {
+    let lists = lists(alloc, one, other)?;
+    Some(match work(rt, alloc, site, passes, lists, &Open) {
         Ok(done) => Some(all_added(&done)),
         Err(WorkFault::NoMemory | WorkFault::Start) => None,
-    }
+    })
 }
 
 /// How the workers end of which so many calls say that they added a member, where so many stand and ZRANGE says this in the
@@ -165,14 +166,38 @@ fn in_the_end(added: Option<usize>, done: usize, last: &[u8]) -> Option<Ended> {
     }
 }
 
+/// How the workers end, of which so many calls say that they added a member.
+fn looked_at<R: Wait>(
+    rt: &R,
+    alloc: Global,
+    site: &Site,
+    looks: &mut Pass,
+    added: Option<usize>,
+) -> Option<Ended>
+    requires pass { IsPassOf site.now looks.old }
+    requires heaps { heaps_of site.now ≡ 2 }
+{
+    let done = count(rt, alloc, site, looks, added)?;
+    let last = last_of(rt, alloc, site, looks)?;
+    in_the_end(added, done, &last)
+}
+
+/// How the workers of a new site end that have these requests, of which a third pass looks at what they did.
+fn at_site<R: Threads + Wait + Sync>(
+    rt: &R,
+    alloc: Global,
+    one: &[Request],
+    other: &[Request],
+) -> Option<Ended> {
+    let (site, mut passes) = opened_with(alloc, SiteNo::new(0)?, 3)?;
+    let mut looks = last_pass(&site, &mut passes)?;
+    let added = worked(rt, alloc, &site, passes, one, other)?;
+    looked_at(rt, alloc, &site, &mut looks, added)
+}
+
 /// Two workers add two members each. Where one has no memory the calls that were made stand.
 pub fn workers<R: Threads + Wait + Sync>(rt: &R, alloc: Global) -> Option<Ended> {
-    let one = requests(alloc, LINES[0])?;
-    let other = requests(alloc, LINES[1])?;
-    let lists = lists(alloc, &one, &other)?;
-    let (site, passes, mut looks) = opened(alloc)?;
-    let added = worked(rt, alloc, &site, passes, lists);
-    let done = count(rt, alloc, &site, &mut looks, added)?;
-    let last = last_of(rt, alloc, &site, &mut looks)?;
-    in_the_end(added, done, &last)
+    let one = requests(alloc, &LINES[..FIRST])?;
+    let other = requests(alloc, &LINES[FIRST..])?;
+    at_site(rt, alloc, &one, &other)
 }

@@ -1,20 +1,28 @@
-//! A site over books, of which a growth is refused when it is made.
-ghost use Rattle.std.specs.Prelude.{◌≡◌, IfSome, length};
-ghost use Rattle.zq_model.specs.Rule.{Greatest};
+//! Books of heap 0, and a site over books of which a growth is refused when it is made.
+ghost use Rattle.std.specs.Prelude.{◌≡◌, IfErr, IfSome, All, length};
+ghost use Rattle.zq_spread.specs.Calls.{heaps_of};
 ghost use Rattle.zq_spread.specs.Makers.{AreOfHeaps};
+ghost use Rattle.zq_spread.specs.Passes.{IsPassOf};
+ghost use Rattle.zq_trials.specs.Books.{IsEven};
 
 use crate::ended::{Ended, Tried, judge};
-use crate::shards::{OURS, is_written, operations, taken};
+use crate::shards::{OURS, is_written, operations, put_by, written};
 use std::alloc::Global;
 use zq_dots::{Op, SiteNo};
 use zq_journal::Book;
-use zq_merge::write_state;
 use zq_shard::Shard;
-use zq_spread::{Site, SiteFault};
+use zq_spread::{Pass, Site, SiteFault};
+
+/// The book of heap 0 of two, in which nothing was done.
+pub fn empty(alloc: Global) -> Book
+    ensures { IsEven result }
+{
+    Book::new(alloc, Shard::new(alloc, 0, 2))
+}
 
 /// This book of heap 0, and one of an empty heap 1.
 pub fn both(alloc: Global, even: Book) -> Option<Vec<Book>>
-    requires { (even.heap ≡ 0) × (even.heaps ≡ 2) × (even.rule ≡ Greatest) }
+    requires { IsEven even }
     ensures heaps { IfSome result (λ books. AreOfHeaps books.items) }
     ensures count { IfSome result (λ books. length books.items ≡ 2) }
 {
@@ -26,48 +34,79 @@ pub fn both(alloc: Global, even: Book) -> Option<Vec<Book>>
 }
 
 /// The book of heap 0 with the members of site 0, each with its record.
-fn even(alloc: Global) -> Option<Book>
-    ensures { IfSome result (λ book. (book.heap ≡ 0) × (book.heaps ≡ 2) × (book.rule ≡ Greatest)) }
+pub fn recorded(alloc: Global) -> Option<Book>
+    ensures { IfSome result IsEven }
 {
     let ops = operations(alloc, 0, &OURS)?;
-    let [first, second] = ops.as_slice() else {
-        return None;
-    };
-    let book = with(alloc, Book::new(alloc, Shard::new(alloc, 0, 2)), first)?;
-    with(alloc, book, second)
+    let mut book = empty(alloc);
+    if take_all(alloc, &mut book, &ops) {
+        Some(book)
+    } else {
+        None
+    }
 }
 
-/// The book, with an operation that it takes.
-fn with(alloc: Global, mut book: Book, op: &Op) -> Option<Book>
-    ensures heap { IfSome result (λ after. after.heap ≡ book.heap) }
-    ensures heaps { IfSome result (λ after. after.heaps ≡ book.heaps) }
-    ensures rule { IfSome result (λ after. after.rule ≡ book.rule) }
+/// Takes these operations, and says whether each was taken.
+fn take_all(alloc: Global, book: &mut Book, ops: &[Op]) -> bool
+    requires { IsEven book.old }
+    ensures { IsEven book.new }
 {
-    let stamp = book.stamp();
-    book.take(alloc, stamp, op).ok()?;
-    Some(book)
+    for op in ops {
+        let stamp = book.stamp();
+        if book.take(alloc, stamp, op).is_err() {
+            return false;
+        }
+    }
+    true
 }
 
-/// Whether the first book is the one that was given: by its bytes, and by its records.
-fn is_even(alloc: Global, books: &[Book], bytes: &[u8]) -> Option<bool> {
-    let book = books.first()?;
-    let same = is_written(alloc, book.shard(), bytes)?;
-    Some(same && book.tail_len() == OURS.len() && book.audit(alloc).ok()?)
+/// Whether a book has this state, so many records, and a state that its records give.
+pub fn is_book(alloc: Global, book: &Book, bytes: &[u8], records: usize) -> Option<bool> {
+    let state = is_written(alloc, book.shard(), bytes)?;
+    let audit = book.audit(alloc).ok()?;
+    Some(state && audit && book.tail_len() == records)
+}
+
+/// Site 0 over this book and an empty one, and its pass.
+pub fn opened_over(alloc: Global, even: Book) -> Option<(Site, Vec<Pass>)>
+    requires { IsEven even }
+    ensures heaps { IfSome result (λ made. heaps_of made.0 ≡ 2) }
+    ensures passes { IfSome result (λ made. All (IsPassOf made.0) made.1.items) }
+{
+    let books = both(alloc, even)?;
+    match Site::of_books(alloc, SiteNo::new(0)?, books, 1) {
+        Ok(made) => Some(made),
+        Err(_) => None,
+    }
+}
+
+/// Makes a site with three passes over these books, which come back where there is no memory.
+fn settled(alloc: Global, number: SiteNo, books: Vec<Book>) -> Result<Tried, Vec<Book>>
+    requires { AreOfHeaps books.items }
+    ensures { IfErr result (λ back. back.items ≡ books.items) }
+{
+    match Site::of_books(alloc, number, books, 3) {
+        Ok((_, passes)) => Ok(if passes.len() == 3 {
+            Tried::Done
+        } else {
+            Tried::Other
+        }),
+        Err((SiteFault::NoMemory, back)) => Err(back),
+        Err(_) => Ok(Tried::Other),
+    }
 }
 
 /// A site over two books, which come back where there is no memory.
 pub fn books(alloc: Global) -> Option<Ended> {
     let number = SiteNo::new(5)?;
-    let shard = taken(alloc, &operations(alloc, 0, &OURS)?)?;
-    let bytes = write_state(alloc, &shard).ok()?;
-    let given = both(alloc, even(alloc)?)?;
-    match Site::of_books(alloc, number, given, 3) {
-        Ok((_, passes)) => Some(judge(Tried::Done, true, passes.len() == 3)),
-        Err((SiteFault::NoMemory, back)) => {
-            let kept = is_even(alloc, &back, &bytes)?;
-            let again = Site::of_books(alloc, number, back, 3).is_ok();
-            Some(judge(Tried::Refused, kept, again))
+    let bytes = written(alloc, &put_by(alloc, 0, &OURS)?)?;
+    let given = both(alloc, recorded(alloc)?)?;
+    match settled(alloc, number, given) {
+        Ok(tried) => Some(judge(tried, true, true)),
+        Err(back) => {
+            let kept = is_book(alloc, back.first()?, &bytes, OURS.len())?;
+            let again = settled(alloc, number, back);
+            Some(judge(Tried::Refused, kept, matches!(again, Ok(Tried::Done))))
         }
-        Err(_) => Some(Ended::Wrong),
     }
 }

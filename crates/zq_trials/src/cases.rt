@@ -1,9 +1,10 @@
 //! The cases, by their names.
 
-use crate::commands::{ROWS, command};
-use crate::devices::Trial;
+use crate::commands::ROWS;
+use crate::devices::{Trial, devices};
 use crate::ended::Ended;
-use crate::{books, careless, devices, feeding, indexes, making, merging, worn};
+use crate::visits::{Visit, visited};
+use crate::{books, careless, feeding, making, merging};
 use std::alloc::Global;
 use std::sync::Wait;
 
@@ -13,19 +14,19 @@ pub fn case<R: Wait>(rt: &R, alloc: Global, name: &str) -> Option<Ended> {
     match name {
         "merge-shard" => merging::shard(alloc),
         "merge-book" => merging::book(alloc),
-        "merge-site" => merging::site(rt, alloc),
+        "merge-site" => visited(rt, alloc, Visit::Merge),
         "read-state" => merging::state(alloc),
-        "feed" => feeding::feed(alloc),
-        "declared" => feeding::declared(alloc),
+        "feed" => Some(feeding::feed(alloc)),
+        "declared" => Some(feeding::declared(alloc)),
         "session" => feeding::hold(alloc),
         "lock" => making::lock(alloc),
         "site" => making::site(alloc),
         "books" => books::books(alloc),
-        "cuts" => devices::devices(rt, alloc, Trial::Cuts),
-        "reads" => devices::devices(rt, alloc, Trial::Reads),
-        "writes" => devices::devices(rt, alloc, Trial::Writes),
-        "index" => indexes::index(rt, alloc),
-        "worn" => worn::worn(rt, alloc),
+        "cuts" => devices(rt, alloc, Trial::Cuts),
+        "reads" => devices(rt, alloc, Trial::Reads),
+        "writes" => devices(rt, alloc, Trial::Writes),
+        "index" => visited(rt, alloc, Visit::Index),
+        "worn" => visited(rt, alloc, Visit::Worn),
         "careless" => careless::careless(alloc),
         _ => command_named(rt, alloc, name),
     }
@@ -35,7 +36,7 @@ pub fn case<R: Wait>(rt: &R, alloc: Global, name: &str) -> Option<Ended> {
 fn command_named<R: Wait>(rt: &R, alloc: Global, name: &str) -> Option<Ended> {
     for row in &ROWS {
         if row.name == name {
-            return command(rt, alloc, row);
+            return visited(rt, alloc, Visit::Command(row));
         }
     }
     Some(Ended::Wrong)

@@ -4,7 +4,7 @@ ghost use Rattle.zq_spread.specs.Calls.{heaps_of};
 ghost use Rattle.zq_spread.specs.Passes.{IsPassOf};
 
 use crate::ended::Ended;
-use crate::sites::{answer, are_audited, is_answered, made, opened};
+use crate::sites::{answer, is_answered, made};
 use std::alloc::Global;
 use std::sync::Wait;
 use zq_spread::{Pass, Site};
@@ -240,28 +240,31 @@ fn judged<R: Wait>(
     }
 }
 
-/// How a command ends at a site that has done nothing.
-fn followed<R: Wait>(
-    rt: &R,
-    alloc: Global,
-    site: &Site,
-    pass: &mut Pass,
-    row: &Row,
-) -> Option<Ended>
+/// Asks the line before a command, if there is one. `None` where it did not make what it makes.
+fn prepared<R: Wait>(rt: &R, alloc: Global, site: &Site, pass: &mut Pass, row: &Row) -> Option<()>
     requires pass { IsPassOf site.now pass.old }
     requires heaps { heaps_of site.now ≡ 2 }
     ensures { IsPassOf site.now pass.new }
 {
-    if !row.before.is_empty() {
-        answer(rt, alloc, site, pass, row.before)?;
-        if made(rt, alloc, site, pass)? != row.made {
-            return None;
-        }
+    if row.before.is_empty() {
+        return Some(());
     }
+    answer(rt, alloc, site, pass, row.before)?;
+    if made(rt, alloc, site, pass)? == row.made {
+        Some(())
+    } else {
+        None
+    }
+}
+
+/// How a command ends that is asked now.
+fn asked<R: Wait>(rt: &R, alloc: Global, site: &Site, pass: &mut Pass, row: &Row) -> Option<Ended>
+    requires pass { IsPassOf site.now pass.old }
+    requires heaps { heaps_of site.now ≡ 2 }
+    ensures { IsPassOf site.now pass.new }
+{
     let told = answer(rt, alloc, site, pass, row.asked)?;
-    let ended = judged(rt, alloc, site, pass, row, &told)?;
-    let last = answer(rt, alloc, site, pass, "ZRANGE q 0 -1 WITHSCORES")?;
-    in_the_end(row, ended, &last)
+    judged(rt, alloc, site, pass, row, &told)
 }
 
 /// How a command ends after which ZRANGE says this. Where it had its memory and ZRANGE had none, there is nothing to say of it.
@@ -273,13 +276,20 @@ fn in_the_end(row: &Row, ended: Ended, last: &[u8]) -> Option<Ended> {
     }
 }
 
-/// How the command of a row ends.
-pub fn command<R: Wait>(rt: &R, alloc: Global, row: &Row) -> Option<Ended> {
-    let (site, mut pass) = opened(alloc)?;
-    let ended = followed(rt, alloc, &site, &mut pass, row)?;
-    if are_audited(alloc, &site, pass)? {
-        Some(ended)
-    } else {
-        Some(Ended::Wrong)
-    }
+/// How the command of a row ends at a site that has done nothing.
+pub fn followed<R: Wait>(
+    rt: &R,
+    alloc: Global,
+    site: &Site,
+    pass: &mut Pass,
+    row: &Row,
+) -> Option<Ended>
+    requires pass { IsPassOf site.now pass.old }
+    requires heaps { heaps_of site.now ≡ 2 }
+    ensures { IsPassOf site.now pass.new }
+{
+    prepared(rt, alloc, site, pass, row)?;
+    let ended = asked(rt, alloc, site, pass, row)?;
+    let last = answer(rt, alloc, site, pass, "ZRANGE q 0 -1 WITHSCORES")?;
+    in_the_end(row, ended, &last)
 }

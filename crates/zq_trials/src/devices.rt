@@ -2,10 +2,11 @@
 ghost use Rattle.zq_spread.specs.Passes.{IsPassOf};
 
 use crate::ended::Ended;
-use crate::sites::opened;
-use crate::streams::{Pieces, Taken};
+use crate::sites::{last_pass, opened_with};
+use crate::streams::{MOST_TAKEN, Pieces, Taken};
 use std::alloc::Global;
 use std::sync::Wait;
+use zq_dots::SiteNo;
 use zq_session::{End, Passing, SessionFault, session};
 use zq_spread::{Draws, Pass, Site};
 
@@ -81,17 +82,98 @@ impl Stream {
     }
 }
 
-/// How a session with a new site ends.
-fn held<R: Wait>(
-    rt: &R,
-    alloc: Global,
-    reader: &mut Pieces,
-    writer: &mut Taken,
-) -> Option<Result<End, SessionFault>> {
-    let (site, pass) = opened(alloc)?;
-    Some(held_at(rt, alloc, &site, pass, reader, writer))
+/// What is tried.
+#[derive(Clone, Copy)]
+pub enum Trial {
+    /// The stream comes in two pieces, cut at each byte in turn.
+    Cuts,
+    /// The stream comes byte by byte, and each read in turn fails.
+    Reads,
+    /// What is written is taken byte by byte, and each write in turn fails.
+    Writes,
 }
 
+/// A session that is tried: its reader, what its writer takes and where that fails, how it has to end, and what it has to
+/// write.
+struct Attempt<'a> {
+    reader: Pieces<'a>,
+    most: usize,
+    fails: usize,
+    end: Result<End, SessionFault>,
+    owed: &'a [u8],
+}
+
+/// A session over the stream, cut at this byte.
+fn cut_at(stream: &Stream, at: usize) -> Attempt<'_> {
+    let at = at.min(stream.bytes.len());
+    Attempt {
+        reader: Pieces::whole(&stream.bytes[..at], &stream.bytes[at..]),
+        most: usize::MAX,
+        fails: usize::MAX,
+        end: Ok(stream.end),
+        owed: stream.owed,
+    }
+}
+
+/// A session of which this read, of a byte each, fails.
+fn read_fails(stream: &Stream, fails: usize) -> Attempt<'_> {
+    let end = if stream.breaks <= fails {
+        Ok(End::Protocol)
+    } else {
+        Err(SessionFault::Read)
+    };
+    Attempt {
+        reader: Pieces {
+            first: stream.bytes,
+            second: b"",
+            most: 1,
+            fails,
+            reads: 0,
+        },
+        most: usize::MAX,
+        fails: usize::MAX,
+        end,
+        owed: stream.owed_for(fails),
+    }
+}
+
+/// A session of which this write, of a byte each, fails.
+fn write_fails(stream: &Stream, fails: usize) -> Attempt<'_> {
+    let end = if fails < stream.owed.len() {
+        Err(SessionFault::Write)
+    } else {
+        Ok(stream.end)
+    };
+    Attempt {
+        reader: Pieces::whole(stream.bytes, b""),
+        most: 1,
+        fails,
+        end,
+        owed: &stream.owed[..fails.min(stream.owed.len())],
+    }
+}
+
+impl Trial {
+    /// How often it is tried over a stream.
+    fn most(self, stream: &Stream) -> usize {
+        match self {
+            Trial::Cuts => stream.bytes.len(),
+            Trial::Reads => stream.bytes.len().saturating_add(1),
+            Trial::Writes => stream.owed.len().saturating_add(1),
+        }
+    }
+
+    /// The session that is tried at this place.
+    fn attempt(self, stream: &Stream, at: usize) -> Attempt<'_> {
+        match self {
+            Trial::Cuts => cut_at(stream, at),
+            Trial::Reads => read_fails(stream, at),
+            Trial::Writes => write_fails(stream, at),
+        }
+    }
+}
+
+/// How a session with the site ends.
 fn held_at<R: Wait>(
     rt: &R,
     alloc: Global,
@@ -106,87 +188,44 @@ fn held_at<R: Wait>(
     session(alloc, &mut server, reader, writer)
 }
 
-/// What is tried.
-#[derive(Clone, Copy)]
-pub enum Trial {
-    /// The stream comes in two pieces, cut at each byte in turn.
-    Cuts,
-    /// The stream comes byte by byte, and each read in turn fails.
-    Reads,
-    /// What is written is taken byte by byte, and each write in turn fails.
-    Writes,
+/// How a session with a new site ends.
+fn held<R: Wait>(
+    rt: &R,
+    alloc: Global,
+    reader: &mut Pieces,
+    writer: &mut Taken,
+) -> Option<Result<End, SessionFault>> {
+    let (site, mut passes) = opened_with(alloc, SiteNo::new(0)?, 1)?;
+    let pass = last_pass(&site, &mut passes)?;
+    Some(held_at(rt, alloc, &site, pass, reader, writer))
 }
 
-/// Whether a session over the stream, cut at this byte, goes as it is owed.
-fn is_owed_cut<R: Wait>(rt: &R, alloc: Global, stream: &Stream, at: usize) -> Option<bool> {
-    let at = at.min(stream.bytes.len());
-    let mut reader = Pieces {
-        first: &stream.bytes[..at],
-        second: &stream.bytes[at..],
-        most: usize::MAX,
-        fails: usize::MAX,
-        reads: 0,
-    };
-    let mut writer = Taken::new(alloc, usize::MAX, usize::MAX).ok()?;
-    let end = held(rt, alloc, &mut reader, &mut writer)?;
-    Some(end == Ok(stream.end) && writer.bytes.as_slice() == stream.owed)
-}
-
-/// Whether a session goes as it is owed of which this read, of a byte each, fails.
-fn is_owed_read<R: Wait>(rt: &R, alloc: Global, stream: &Stream, fails: usize) -> Option<bool> {
-    let mut reader = Pieces {
-        first: stream.bytes,
-        second: b"",
-        most: 1,
+/// Whether the session goes as it is owed, `None` where memory was refused.
+fn is_owed<R: Wait>(rt: &R, alloc: Global, attempt: Attempt) -> Option<bool> {
+    let Attempt {
+        mut reader,
+        most,
         fails,
-        reads: 0,
+        end,
+        owed,
+    } = attempt;
+    let mut bytes = Vec::with_capacity(alloc, MOST_TAKEN).ok()?;
+    let mut writer = Taken {
+        bytes: &mut bytes,
+        most,
+        fails,
+        writes: 0,
     };
-    let mut writer = Taken::new(alloc, usize::MAX, usize::MAX).ok()?;
-    let end = held(rt, alloc, &mut reader, &mut writer)?;
-    let owed_end = if stream.breaks <= fails {
-        Ok(End::Protocol)
-    } else {
-        Err(SessionFault::Read)
-    };
-    let owed = stream.owed_for(fails);
-    Some(end == owed_end && writer.bytes.as_slice() == owed)
+    let ended = held(rt, alloc, &mut reader, &mut writer)?;
+    Some(ended == end && bytes.as_slice() == owed)
 }
 
-/// Whether a session goes as it is owed of which this write, of a byte each, fails.
-fn is_owed_write<R: Wait>(rt: &R, alloc: Global, stream: &Stream, fails: usize) -> Option<bool> {
-    let mut reader = Pieces {
-        first: stream.bytes,
-        second: b"",
-        most: usize::MAX,
-        fails: usize::MAX,
-        reads: 0,
-    };
-    let mut writer = Taken::new(alloc, 1, fails).ok()?;
-    let end = held(rt, alloc, &mut reader, &mut writer)?;
-    let owed_end = if fails < stream.owed.len() {
-        Err(SessionFault::Write)
-    } else {
-        Ok(stream.end)
-    };
-    let owed = &stream.owed[..fails.min(stream.owed.len())];
-    Some(end == owed_end && writer.bytes.as_slice() == owed)
-}
-
-/// How many tries of a stream go as they are owed, `None` where memory was refused, and nothing more is tried after one
-/// that does not.
+/// How many tries of a stream go as they are owed, and whether all do: nothing more is tried after one that does not.
+/// `None` where memory was refused.
 fn tried<R: Wait>(rt: &R, alloc: Global, stream: &Stream, trial: Trial) -> Option<(usize, bool)> {
-    let most = match trial {
-        Trial::Cuts => stream.bytes.len(),
-        Trial::Reads => stream.bytes.len().saturating_add(1),
-        Trial::Writes => stream.owed.len().saturating_add(1),
-    };
+    let most = trial.most(stream);
     for at in 0..most {
-        let is_owed = match trial {
-            Trial::Cuts => is_owed_cut(rt, alloc, stream, at)?,
-            Trial::Reads => is_owed_read(rt, alloc, stream, at)?,
-            Trial::Writes => is_owed_write(rt, alloc, stream, at)?,
-        };
-        if !is_owed {
+        if !is_owed(rt, alloc, trial.attempt(stream, at))? {
             return Some((at, false));
         }
     }

@@ -1,7 +1,7 @@
 //! How a case ends.
 
 /// What a call said that was tried.
-#[derive(Clone, Copy, Debug, PartialEq, Eq)]
+#[derive(Clone, Copy, PartialEq, Eq)]
 pub enum Tried {
     /// It did what it does.
     Done,
@@ -12,7 +12,7 @@ pub enum Tried {
 }
 
 /// How a case ended.
-#[derive(Clone, Copy, Debug, PartialEq, Eq)]
+#[derive(Clone, Copy)]
 pub enum Ended {
     /// So many tries went as they are owed, and no memory was missed.
     Owed(usize),

@@ -33,24 +33,28 @@ pub fn lock(alloc: Global) -> Option<Ended> {
     }
 }
 
-/// Whether a site was made that has so many passes.
-fn is_made(made: &Result<(Site, Vec<Pass>), SiteFault>, passes: usize) -> bool {
+/// What the making of a site with three passes said.
+fn said(made: &Result<(Site, Vec<Pass>), SiteFault>) -> Tried {
     match made {
-        Ok((_, all)) => all.len() == passes,
-        Err(_) => false,
+        Ok((_, passes)) if passes.len() == 3 => Tried::Done,
+        Err(SiteFault::NoMemory) => Tried::Refused,
+        _ => Tried::Other,
     }
 }
 
-/// A site of two heaps with three passes.
+/// Makes a site of two heaps with three passes.
+fn made(alloc: Global, number: SiteNo) -> Tried {
+    let made = Site::new(alloc, number, 2, 3);
+    said(&made)
+}
+
+/// A site is made, and once more where it had no memory.
 pub fn site(alloc: Global) -> Option<Ended> {
     let number = SiteNo::new(5)?;
-    let made = Site::new(alloc, number, 2, 3);
-    match &made {
-        Ok(_) => Some(judge(Tried::Done, true, is_made(&made, 3))),
-        Err(SiteFault::NoMemory) => {
-            let again = Site::new(alloc, number, 2, 3);
-            Some(judge(Tried::Refused, true, is_made(&again, 3)))
-        }
-        Err(_) => Some(Ended::Wrong),
-    }
+    let tried = made(alloc, number);
+    let again = match tried {
+        Tried::Refused => made(alloc, number),
+        other => other,
+    };
+    Some(judge(tried, true, again == Tried::Done))
 }

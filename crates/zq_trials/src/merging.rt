@@ -3,13 +3,14 @@ ghost use Rattle.std.specs.Prelude.{◌≡◌};
 ghost use Rattle.zq_spread.specs.Calls.{heaps_of};
 ghost use Rattle.zq_spread.specs.Passes.{IsPassOf};
 
+use crate::books::{is_book, recorded};
 use crate::ended::{Ended, Tried, judge};
-use crate::shards::{OURS, THEIRS, is_written, operations, taken, together};
-use crate::sites::{are_audited, is_answered, opened};
+use crate::shards::{OURS, THEIRS, is_written, put_by, together, written};
+use crate::sites::is_answered;
 use std::alloc::Global;
 use std::sync::Wait;
 use zq_journal::Book;
-use zq_merge::{StateFault, read_state, write_state};
+use zq_merge::{StateFault, read_state};
 use zq_posheap::Seeded;
 use zq_shard::Shard;
 use zq_spread::{Pass, Site};
@@ -22,18 +23,29 @@ fn merged_in_shard(alloc: Global, ours: &mut Shard, theirs: &Shard) -> Tried {
     }
 }
 
+/// How a merge ends of a heap with these bytes, which has those that are owed in the end.
+fn shard_merges(
+    alloc: Global,
+    ours: &mut Shard,
+    theirs: &Shard,
+    before: &[u8],
+    owed: &[u8],
+) -> Option<Ended> {
+    let tried = merged_in_shard(alloc, ours, theirs);
+    let kept = is_written(alloc, ours, before)?;
+    if tried == Tried::Refused {
+        merged_in_shard(alloc, ours, theirs);
+    }
+    Some(judge(tried, kept, is_written(alloc, ours, owed)?))
+}
+
 /// A heap merges another one.
 pub fn shard(alloc: Global) -> Option<Ended> {
-    let mut ours = taken(alloc, &operations(alloc, 0, &OURS)?)?;
-    let theirs = taken(alloc, &operations(alloc, 1, &THEIRS)?)?;
-    let before = write_state(alloc, &ours).ok()?;
-    let tried = merged_in_shard(alloc, &mut ours, &theirs);
-    let kept = is_written(alloc, &ours, &before)?;
-    if let Tried::Refused = tried {
-        merged_in_shard(alloc, &mut ours, &theirs);
-    }
+    let mut ours = put_by(alloc, 0, &OURS)?;
+    let theirs = put_by(alloc, 1, &THEIRS)?;
+    let before = written(alloc, &ours)?;
     let owed = together(alloc)?;
-    Some(judge(tried, kept, is_written(alloc, &ours, &owed)?))
+    shard_merges(alloc, &mut ours, &theirs, &before, &owed)
 }
 
 fn merged_in_book(alloc: Global, ours: &mut Book, theirs: &Shard) -> Tried {
@@ -45,35 +57,29 @@ fn merged_in_book(alloc: Global, ours: &mut Book, theirs: &Shard) -> Tried {
     }
 }
 
-/// The book of site 0 over its operations, each with its record.
-fn recorded(alloc: Global) -> Option<Book> {
-    let mut book = Book::new(alloc, Shard::new(alloc, 0, 2));
-    for op in &operations(alloc, 0, &OURS)? {
-        let stamp = book.stamp();
-        book.take(alloc, stamp, op).ok()?;
+/// How a merge ends of a book whose state has these bytes, which has those that are owed, and no records, in the end.
+fn book_merges(
+    alloc: Global,
+    ours: &mut Book,
+    theirs: &Shard,
+    before: &[u8],
+    owed: &[u8],
+) -> Option<Ended> {
+    let tried = merged_in_book(alloc, ours, theirs);
+    let kept = is_book(alloc, ours, before, OURS.len())?;
+    if tried == Tried::Refused {
+        merged_in_book(alloc, ours, theirs);
     }
-    Some(book)
-}
-
-/// Whether a book has this state, so many records, and a state that its records give.
-fn is_book(alloc: Global, book: &Book, bytes: &[u8], records: usize) -> Option<bool> {
-    let state = is_written(alloc, book.shard(), bytes)?;
-    let audit = book.audit(alloc).ok()?;
-    Some(state && audit && book.tail_len() == records)
+    Some(judge(tried, kept, is_book(alloc, ours, owed, 0)?))
 }
 
 /// A book merges a heap.
 pub fn book(alloc: Global) -> Option<Ended> {
     let mut ours = recorded(alloc)?;
-    let theirs = taken(alloc, &operations(alloc, 1, &THEIRS)?)?;
-    let before = write_state(alloc, ours.shard()).ok()?;
-    let tried = merged_in_book(alloc, &mut ours, &theirs);
-    let kept = is_book(alloc, &ours, &before, OURS.len())?;
-    if let Tried::Refused = tried {
-        merged_in_book(alloc, &mut ours, &theirs);
-    }
+    let theirs = put_by(alloc, 1, &THEIRS)?;
+    let before = written(alloc, ours.shard())?;
     let owed = together(alloc)?;
-    Some(judge(tried, kept, is_book(alloc, &ours, &owed, 0)?))
+    book_merges(alloc, &mut ours, &theirs, &before, &owed)
 }
 
 fn merged_in_site<R: Wait>(
@@ -94,7 +100,7 @@ fn merged_in_site<R: Wait>(
 }
 
 /// Whether heap 0 of a site has these bytes.
-fn is_at_site<R: Wait>(
+pub fn is_at_site<R: Wait>(
     rt: &R,
     alloc: Global,
     site: &Site,
@@ -109,30 +115,37 @@ fn is_at_site<R: Wait>(
     is_written(alloc, &shard, bytes)
 }
 
-/// What a site says that merges a heap, and whether it then has what it had before. Where it had no memory it merges the
-/// heap once more.
-fn tried_in_site<R: Wait>(
+/// How a merge ends at a site whose heap 0 has these bytes, which has those that are owed in the end.
+fn site_merges<R: Wait>(
     rt: &R,
     alloc: Global,
     site: &Site,
     pass: &mut Pass,
     theirs: &Shard,
     before: &[u8],
-) -> Option<(Tried, bool)>
+    owed: &[u8],
+) -> Option<Ended>
     requires pass { IsPassOf site.now pass.old }
     requires heaps { heaps_of site.now ≡ 2 }
     ensures { IsPassOf site.now pass.new }
 {
     let tried = merged_in_site(rt, alloc, site, pass, theirs);
     let kept = is_at_site(rt, alloc, site, pass, before)?;
-    if let Tried::Refused = tried {
+    if tried == Tried::Refused {
         merged_in_site(rt, alloc, site, pass, theirs);
     }
-    Some((tried, kept))
+    let is_owed = is_at_site(rt, alloc, site, pass, owed)?;
+    Some(judge(tried, kept, is_owed))
 }
 
-/// How a merge at a site ends that has put its members there.
-fn met<R: Wait>(rt: &R, alloc: Global, site: &Site, pass: &mut Pass) -> Option<Ended>
+/// The bytes of the heap of site 0.
+fn ours(alloc: Global) -> Option<Vec<u8>> {
+    let ours = put_by(alloc, 0, &OURS)?;
+    written(alloc, &ours)
+}
+
+/// A site that has done nothing puts its members there, and merges a heap of another site.
+pub fn met<R: Wait>(rt: &R, alloc: Global, site: &Site, pass: &mut Pass) -> Option<Ended>
     requires pass { IsPassOf site.now pass.old }
     requires heaps { heaps_of site.now ≡ 2 }
     ensures { IsPassOf site.now pass.new }
@@ -140,34 +153,32 @@ fn met<R: Wait>(rt: &R, alloc: Global, site: &Site, pass: &mut Pass) -> Option<E
     if !is_answered(rt, alloc, site, pass, "ZADD q 1 a 2 c", ":2\r\n")? {
         return None;
     }
-    let theirs = taken(alloc, &operations(alloc, 1, &THEIRS)?)?;
-    let before = write_state(alloc, &taken(alloc, &operations(alloc, 0, &OURS)?)?).ok()?;
-    let (tried, kept) = tried_in_site(rt, alloc, site, pass, &theirs, &before)?;
+    let theirs = put_by(alloc, 1, &THEIRS)?;
+    let before = ours(alloc)?;
     let owed = together(alloc)?;
-    let is_owed = is_at_site(rt, alloc, site, pass, &owed)?;
-    Some(judge(tried, kept, is_owed))
+    site_merges(rt, alloc, site, pass, &theirs, &before, &owed)
 }
 
-/// A site merges a heap of another site.
-pub fn site<R: Wait>(rt: &R, alloc: Global) -> Option<Ended> {
-    let (site, mut pass) = opened(alloc)?;
-    let ended = met(rt, alloc, &site, &mut pass)?;
-    if are_audited(alloc, &site, pass)? {
-        Some(ended)
-    } else {
-        Some(Ended::Wrong)
+/// What the reading of a state said, which has to have these bytes again.
+fn read(alloc: Global, bytes: &[u8]) -> Option<Tried> {
+    match read_state(alloc, bytes, Seeded::new(1)) {
+        Ok(shard) => Some(if is_written(alloc, &shard, bytes)? {
+            Tried::Done
+        } else {
+            Tried::Other
+        }),
+        Err(StateFault::NoMemory) => Some(Tried::Refused),
+        Err(_) => Some(Tried::Other),
     }
 }
 
-/// A state is read from its bytes.
+/// A state is read from its bytes, and once more where there was no memory.
 pub fn state(alloc: Global) -> Option<Ended> {
     let bytes = together(alloc)?;
-    match read_state(alloc, &bytes, Seeded::new(1)) {
-        Ok(shard) => Some(judge(Tried::Done, true, is_written(alloc, &shard, &bytes)?)),
-        Err(StateFault::NoMemory) => {
-            let shard = read_state(alloc, &bytes, Seeded::new(1)).ok()?;
-            Some(judge(Tried::Refused, true, is_written(alloc, &shard, &bytes)?))
-        }
-        Err(_) => Some(Ended::Wrong),
-    }
+    let tried = read(alloc, &bytes)?;
+    let again = match tried {
+        Tried::Refused => read(alloc, &bytes)?,
+        other => other,
+    };
+    Some(judge(tried, true, again == Tried::Done))
 }

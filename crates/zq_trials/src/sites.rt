@@ -40,29 +40,25 @@ pub fn last_pass(_site: &Site, passes: &mut Vec<Pass>) -> Option<Pass>
     passes.pop()
 }
 
-/// Site 0 of two heaps, which has done nothing, and its pass.
-pub fn opened(alloc: Global) -> Option<(Site, Pass)>
-    ensures heaps { IfSome result (λ made. heaps_of made.0 ≡ 2) }
-    ensures pass { IfSome result (λ made. IsPassOf made.0 made.1) }
-{
-    let (site, mut passes) = opened_with(alloc, SiteNo::new(0)?, 1)?;
-    let pass = last_pass(&site, &mut passes)?;
-    Some((site, pass))
+/// A line's words as a request is sent.
+fn sent(alloc: Global, line: &str) -> Option<String> {
+    let count = line.split(' ').count();
+    let mut text = format!(in alloc; "*{count}\r\n").ok()?;
+    for word in line.split(' ') {
+        let length = word.len();
+        let part = format!(in alloc; "${length}\r\n{word}\r\n").ok()?;
+        text.push_str(&part).ok()?;
+    }
+    Some(text)
 }
 
 /// The request of a line's words.
 pub fn request(alloc: Global, line: &str) -> Option<Request> {
-    let count = line.split(' ').count();
-    let mut bytes = format!(in alloc; "*{count}\r\n").ok()?;
-    for word in line.split(' ') {
-        let length = word.len();
-        let part = format!(in alloc; "${length}\r\n{word}\r\n").ok()?;
-        bytes.push_str(&part).ok()?;
+    let text = sent(alloc, line)?;
+    match Reader::new().feed(alloc, text.as_bytes()) {
+        Ok(mut requests) => requests.pop(),
+        Err(_) => None,
     }
-    let Ok(mut requests) = Reader::new().feed(alloc, bytes.as_bytes()) else {
-        return None;
-    };
-    requests.pop()
 }
 
 /// What the site answers a request.

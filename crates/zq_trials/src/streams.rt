@@ -2,7 +2,6 @@
 
 ghost use Rattle.std.specs.Prelude.{IfOk, ◌≤◌, length};
 
-use std::alloc::{AllocError, Global};
 use std::io;
 use std::io::{ErrorKind, Read, Write};
 
@@ -15,6 +14,19 @@ pub struct Pieces<'a> {
     pub most: usize,
     pub fails: usize,
     pub reads: usize,
+}
+
+impl<'a> Pieces<'a> {
+    /// A reader that gives each piece whole, and does not fail.
+    pub fn whole(first: &'a [u8], second: &'a [u8]) -> Pieces<'a> {
+        Pieces {
+            first,
+            second,
+            most: usize::MAX,
+            fails: usize::MAX,
+            reads: 0,
+        }
+    }
 }
 
 impl Read for Pieces<'_> {
@@ -35,31 +47,19 @@ impl Read for Pieces<'_> {
     }
 }
 
+/// A writer of these cases takes at most so many bytes, and has memory for them before.
+pub const MOST_TAKEN: usize = 256;
+
 /// A writer that takes at most so many bytes a write. Its write of the number `fails`, counted from 0, fails.
 #[derive(Drop)]
-pub struct Taken {
-    pub bytes: Vec<u8>,
+pub struct Taken<'a> {
+    pub bytes: &'a mut Vec<u8>,
     pub most: usize,
     pub fails: usize,
     pub writes: usize,
 }
 
-/// A writer of these cases takes at most so many bytes.
-const MOST_TAKEN: usize = 256;
-
-impl Taken {
-    /// A writer that has its memory, and has taken nothing.
-    pub fn new(alloc: Global, most: usize, fails: usize) -> Result<Taken, AllocError> {
-        Ok(Taken {
-            bytes: Vec::with_capacity(alloc, MOST_TAKEN)?,
-            most,
-            fails,
-            writes: 0,
-        })
-    }
-}
-
-impl Write for Taken {
+impl Write for Taken<'_> {
     fn write(&mut self, bytes: &[u8]) -> io::Result<usize> {
         let at = self.writes;
         self.writes = at.saturating_add(1);

@@ -1,4 +1,4 @@
-use Rattle.zq_trials.proofs.worn.are_answered.Given as goal
+use Rattle.zq_trials.proofs.lines.all_asked.Given as goal
 use Rattle.zq_spread.specs.Passes.{IsPassOf}
 
 abbrev pub invariant-loop-line : goal.invariant-loop-line
