@@ -77,24 +77,10 @@ fn hear_each<R: Wait>(rt: &R, alloc: Global, node: &mut Node, frames: &[Vec<u8>]
     Some(true)
 }
 
-/// Whether the link passes on a frame of the operation so often, and a node hears all of that.
-fn carry_one<R: Wait>(
-    rt: &R,
-    alloc: Global,
-    node: &mut Node,
-    link: &mut Faulty,
-    op: &Op,
-    fault: Fault,
-) -> Option<bool>
-    requires { IsNode node.old }
-    ensures { IsNode node.new }
-{
+/// What the link passes on of a frame of the operation.
+fn passed_on(alloc: Global, link: &mut Faulty, op: &Op, fault: Fault) -> Option<Vec<Vec<u8>>> {
     let frame = framed(alloc, op)?;
-    match link.pass(alloc, fault.word, frame) {
-        Ok(passed) if passed.len() == fault.copies => hear_each(rt, alloc, node, &passed),
-        Ok(_) => Some(false),
-        Err(_) => None,
-    }
+    link.pass(alloc, fault.word, frame).ok()
 }
 
 /// Whether a link passes on each frame so often, and a node hears all of that.
@@ -103,7 +89,8 @@ fn carry<R: Wait>(rt: &R, alloc: Global, node: &mut Node, ops: &[Op], fault: Fau
 {
     let mut link = Faulty::new();
     for op in ops {
-        if !carry_one(rt, alloc, node, &mut link, op, fault)? {
+        let passed = passed_on(alloc, &mut link, op, fault)?;
+        if passed.len() != fault.copies || !hear_each(rt, alloc, node, &passed)? {
             return Some(false);
         }
     }
