@@ -10,13 +10,15 @@ use std::test::Fail;
 use vectors::VECTORS;
 use zq_delta::{OpFault, append_op, read_op, write_op};
 
-// A Put of 3 on the member a of the key q, the first operation of site 0, in heap 0 of 2: in version 1 and in version 2.
+// A Put of 3 on the member a of the key q, the first operation of site 0, in heap 0 of 2: in
+// version 1 and in version 2.
 const PUTS: [&str; 2] = [
     "010200000000000000000000000000000000000000000000000000000000000000000000000000000000000000000000000000000000000000000000000000000000000000000000000000000300000001710000000161",
     "020200000000000000000000000300000001710000000161",
 ];
 
-/// What a frame is read as: the fault, or how many bytes the operation has and what it is then written as.
+/// What a frame is read as: the fault, or how many bytes the operation has and what it is then
+/// written as.
 fn told_of(alloc: Global, bytes: &[u8]) -> Result<String, AllocError> {
     let mut told = String::new(alloc);
     match read_op(alloc, bytes) {
@@ -55,8 +57,8 @@ fn a_beginning_is_short(rt: HostRuntime) -> Result<(), Fail> {
     Ok(())
 }
 
-/// An operation that is read is written behind what stands there, and read again as itself. In version 2 it is written
-/// as the bytes that it was read from.
+/// An operation that is read is written behind what stands there, and read again as itself. In
+/// version 2 it is written as the bytes that it was read from.
 fn check_again(rt: &impl Abort, alloc: Global, bytes: &[u8]) -> Result<(), Fail> {
     let Ok((op, used)) = read_op(alloc, bytes) else {
         return Ok(());

@@ -11,7 +11,8 @@ use vectors::VECTORS;
 use zq_merge::{StateFault, read_state, write_state};
 use zq_posheap::Seeded;
 
-// The member a of the key q with a Put of 3, the first operation of site 0, in heap 0 of 2: in each version.
+// The member a of the key q with a Put of 3, the first operation of site 0, in heap 0 of 2: in each
+// version.
 const STATES: [&str; 3] = [
     "0102000000000000000001000000000000000000000000000000000000000000000000000000000000000000000000000000000000000000000000000000000000000000000000000000010000000171000000000000000100000001610100000000000000000100000000000000030000000000000000000000000000000000000000000000000000000000000000000000000000000000000000000000000000000000000000000000000000000000000000000000000000000000000000000000000000000000000000000000000000000000000000000000000000000000000000000000000000000000000000",
     "02020001000000000000000001000000000000000100000001710000000000000001000000016101000000000000000001000000000000000300",
@@ -56,8 +57,8 @@ fn a_beginning_is_short(rt: HostRuntime) -> Result<(), Fail> {
     Ok(())
 }
 
-/// A state that is read is written and read again as itself. In version 3 it is written as the bytes that it was read
-/// from.
+/// A state that is read is written and read again as itself. In version 3 it is written as the
+/// bytes that it was read from.
 fn check_again(rt: &impl Abort, alloc: Global, bytes: &[u8]) -> Result<(), Fail> {
     let Ok(shard) = read_state(alloc, bytes, Seeded::new(1)) else {
         return Ok(());

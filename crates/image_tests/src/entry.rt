@@ -150,8 +150,8 @@ fn an_entry_has_an_addition_of_each_site(rt: HostRuntime) {
     assert!(rt; copy.same(&entry));
 }
 
-/// Whether an entry of one addition, of a site at -1 and the 40 that another added, has its score, and is the entry of its
-/// additions.
+/// Whether an entry of one addition, of a site at -1 and the 40 that another added, has its score,
+/// and is the entry of its additions.
 fn is_remade(alloc: Global, site: SiteNo, other: SiteNo) -> Option<bool> {
     let score = Score::new(-1)?;
     let mut sums = Vec::new(alloc);

@@ -1,4 +1,5 @@
-//! Tests of one heap: dots, entries, the positioned heap, the ranked list, queues, the image and its book.
+//! Tests of one heap: dots, entries, the positioned heap, the ranked list, queues, the image and
+//! its book.
 #![tactic(auto)]
 
 #[cfg(test)]

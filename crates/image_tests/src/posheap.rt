@@ -98,8 +98,8 @@ fn follows_an_ordered_map(rt: HostRuntime) {
     }
 }
 
-/// A member, its score and its value; how many pairs go before it, how many scores are below its own, and how many are
-/// at most its own, once all are there.
+/// A member, its score and its value; how many pairs go before it, how many scores are below its
+/// own, and how many are at most its own, once all are there.
 struct Case {
     member: &'static [u8],
     score: i128,
@@ -187,7 +187,8 @@ fn sum_of_values(heap: &PosHeap<u32>) -> u32 {
     sum
 }
 
-/// Whether a heap of the cases lists the first three pairs, and the second and the third of them, and has their values.
+/// Whether a heap of the cases lists the first three pairs, and the second and the third of them,
+/// and has their values.
 fn shows_rest(heap: &PosHeap<u32>, alloc: Global) -> bool {
     are(heap.first(alloc, 3), &FIRSTS)
         && are(heap.slice(alloc, 1, 3), &FIRSTS[1..])

@@ -202,7 +202,8 @@ fn a_copy_goes_on_alone(rt: HostRuntime) {
     assert!(rt; goes_on(&mut shard, alloc, &copy));
 }
 
-/// Whether a site cannot make an operation on the member a of the key q, which lies in another heap.
+/// Whether a site cannot make an operation on the member a of the key q, which lies in another
+/// heap.
 fn refuses_a(shard: &Shard, alloc: Global, site: SiteNo) -> bool {
     match shard.draft(alloc, site, b"q", b"a", Act::Drop) {
         Err(fault) => fault == MakeFault::WrongHeap,

@@ -31,7 +31,8 @@ const RANGE: &[u8] = b"*4\r\n$6\r\nZRANGE\r\n$1\r\nq\r\n$1\r\n0\r\n$2\r\n-1\r\n"
 
 const BOTH: &[u8] = b"*2\r\n$1\r\na\r\n$1\r\nb\r\n";
 
-// Site 2, of two heaps and the first rule, says that it has a secret, and gives 16 bytes and an answer that it guesses.
+// Site 2, of two heaps and the first rule, says that it has a secret, and gives 16 bytes and an
+// answer that it guesses.
 const GUESSED: &[u8] =
     b"zq-peer\n\x01\x02\x02\x00\x01sixteen bytes...................................";
 
@@ -47,7 +48,8 @@ fn steps_to(last: usize) -> [Step<'static>; 6] {
     ]
 }
 
-/// Serves sites at these places with a secret, the clients of the first and of the last of which find what both were told.
+/// Serves sites at these places with a secret, the clients of the first and of the last of which
+/// find what both were told.
 fn meet<R>(rt: &R, alloc: Global, places: &[Place], secret: Option<&str>) -> Result<bool, Fail>
 where
     R: Net<Listener = TcpListener, Stream = TcpStream>
@@ -221,7 +223,8 @@ fn no_loss_is_warned_of_where_a_newer_link_or_the_end_came(rt: HostRuntime) -> R
     Ok(())
 }
 
-// The port is taken at 127.0.0.1, so that a site that listens there for its clients, or at all addresses, is not served.
+// The port is taken at 127.0.0.1, so that a site that listens there for its clients, or at all
+// addresses, is not served.
 #[test]
 fn clients_are_heard_at_the_address_of_bind(rt: HostRuntime) -> Result<(), Fail> {
     let alloc = rt.alloc();

@@ -8,14 +8,15 @@ use std::test::Fail;
 /// How many ports a test takes at most.
 const MOST: usize = 8;
 
-/// The first port that tests take. Systems hand out ports from 32,768 on, so no other program comes by one of these unless it
-/// asks for it.
+/// The first port that tests take. Systems hand out ports from 32,768 on, so no other program comes
+/// by one of these unless it asks for it.
 const FIRST: u32 = 20_000;
 
 /// How many tests have ports of their own.
 const TESTS: u32 = 1_500;
 
-/// Ports on which nobody listens. Each test is a process, and tests that run at the same time take other ports.
+/// Ports on which nobody listens. Each test is a process, and tests that run at the same time take
+/// other ports.
 pub fn free_ports<R: Net<Listener = TcpListener, Stream = TcpStream>>(
     rt: &R,
     process: Process,

@@ -98,7 +98,8 @@ fn awaited<R: Net<Listener = TcpListener, Stream = TcpStream> + Clock>(
     replied(&mut stream, RANGE)
 }
 
-/// What clients are answered, each at the port of its site, while the sites are served, and what is written and logged.
+/// What clients are answered, each at the port of its site, while the sites are served, and what is
+/// written and logged.
 #[derive(Drop)]
 struct Served {
     ended: Result<(), ServeFault>,
@@ -161,7 +162,8 @@ fn clients_are_served_by_the_site_of_their_port(rt: HostRuntime) -> Result<(), F
     Ok(())
 }
 
-/// What a client of the second site finds there of what a client of the first one adds, and how serving ends.
+/// What a client of the second site finds there of what a client of the first one adds, and how
+/// serving ends.
 fn served_apart<R>(
     rt: &R,
     alloc: Global,

@@ -1,5 +1,5 @@
-//! Commands by their words over the books of two sites, with one heap and with two. Expected bytes are those of Redis
-//! and of the rules for merging.
+//! Commands by their words over the books of two sites, with one heap and with two. Expected bytes
+//! are those of Redis and of the rules for merging.
 
 ghost use Rattle.zq_model.specs.Sets.{IsHeaps};
 
@@ -321,7 +321,8 @@ fn take_step(
     Ok(())
 }
 
-/// Does all steps, with an index of the key q in each book that has more than so many of its members.
+/// Does all steps, with an index of the key q in each book that has more than so many of its
+/// members.
 fn follow(rt: &impl Abort, alloc: Global, heaps: u8, most: usize) -> Result<(), Fail>
     requires { IsHeaps heaps }
 {

@@ -257,7 +257,8 @@ fn opened_by(
 
 #[test]
 fn the_answer_is_written_once_however_the_peer_is_cut(rt: HostRuntime) -> Result<(), Fail> {
-    // The bytes of site 2, which end in the front of a frame; how many come at once; what is left of them once it is welcome.
+    // The bytes of site 2, which end in the front of a frame; how many come at once; what is left
+    // of them once it is welcome.
     let all =
         b"zq-peer\n\x01\x02\x04\x01\x01\xf0\xf1\xf2\xf3\xf4\xf5\xf6\xf7\xf8\xf9\xfa\xfb\xfc\xfd\xfe\xff\
         \x5a\xcc\xd1\xdf\xc3\x69\x37\xc4\x34\xec\x06\x72\xea\x51\x70\x74\x69\x90\x7e\x03\x60\xdc\x14\x5c\xfc\x20\x4f\x5c\xa7\xfc\x99\xaa\

@@ -1,5 +1,5 @@
-//! Tests of what reads and writes bytes: fields, requests and replies, words, settings, streams, greetings, tags, and
-//! what waits for a peer.
+//! Tests of what reads and writes bytes: fields, requests and replies, words, settings, streams,
+//! greetings, tags, and what waits for a peer.
 #![tactic(auto)]
 
 #[cfg(test)]

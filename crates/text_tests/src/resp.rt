@@ -104,8 +104,8 @@ fn a_request_is_its_words(rt: HostRuntime) -> Result<(), Fail> {
     Ok(())
 }
 
-/// Sixteen words of 1,048,576 bytes are within the limits of a word, and too much for one request: 5 bytes of count and
-/// 15 times 1,048,588 bytes leave 1,048,391 for the last word.
+/// Sixteen words of 1,048,576 bytes are within the limits of a word, and too much for one request:
+/// 5 bytes of count and 15 times 1,048,588 bytes leave 1,048,391 for the last word.
 #[test]
 fn byte_16777217_of_a_request_is_too_long(rt: HostRuntime) -> Result<(), Fail> {
     let mut word = Vec::from_slice(rt.alloc(), b"$1048576\r\n")?;
@@ -126,8 +126,8 @@ fn byte_16777217_of_a_request_is_too_long(rt: HostRuntime) -> Result<(), Fail> {
     Ok(())
 }
 
-/// tools/refused-memory runs the next three too, with one allocation refused. This one with the first of all: it
-/// must pass, since a count and a length take no memory.
+/// tools/refused-memory runs the next three too, with one allocation refused. This one with the
+/// first of all: it must pass, since a count and a length take no memory.
 #[test]
 fn a_declared_count_takes_no_memory(rt: HostRuntime) -> Result<(), Fail> {
     let mut reader = Reader::new();
@@ -140,8 +140,8 @@ fn a_declared_count_takes_no_memory(rt: HostRuntime) -> Result<(), Fail> {
     Ok(())
 }
 
-/// This one with the fourth: it must fail, since a word takes memory again and again as its bytes come. It would pass if the
-/// whole length were reserved at the first byte.
+/// This one with the fourth: it must fail, since a word takes memory again and again as its bytes
+/// come. It would pass if the whole length were reserved at the first byte.
 #[test]
 fn a_declared_length_takes_memory_as_bytes_come(rt: HostRuntime) {
     let mut reader = Reader::new();
@@ -153,7 +153,8 @@ fn a_declared_length_takes_memory_as_bytes_come(rt: HostRuntime) {
     }
 }
 
-/// This one with the fourth, which is for the second request's word: the first request is handed out all the same.
+/// This one with the fourth, which is for the second request's word: the first request is handed
+/// out all the same.
 #[test]
 fn requests_before_want_of_memory_are_handed_out(rt: HostRuntime) {
     let mut reader = Reader::new();
@@ -173,7 +174,8 @@ struct Round {
     requests: &'static [&'static [&'static [u8]]],
 }
 
-/// Each request is given back before the next one is read: its memory is used again, and its bytes are not.
+/// Each request is given back before the next one is read: its memory is used again, and its bytes
+/// are not.
 const ROUNDS: [Round; 5] = [
     Round {
         piece: b"*4\r\n$4\r\nZADD\r\n$5\r\nboard\r\n$3\r\n100\r\n$12\r\nabcdefghijkl\r\n*1\r\n$4\r\nPING\r\n",

@@ -54,7 +54,8 @@ fn frames_come_byte_by_byte(rt: HostRuntime) -> Result<(), Fail> {
     Ok(())
 }
 
-// The most bytes of a frame, a piece, and what comes of it and of a second piece, which is a whole frame.
+// The most bytes of a frame, a piece, and what comes of it and of a second piece, which is a whole
+// frame.
 const FAULTS: [(u32, &[u8], &[u8]); 4] = [
     (1, STREAM, b"LO"),
     (2, STREAM, b"ab,,LO"),

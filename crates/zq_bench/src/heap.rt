@@ -1,5 +1,5 @@
-//! Steps a second of a `PosHeap`, which gives members, of so many, drawn scores, and then as often takes the first member
-//! out and puts it back with a later score.
+//! Steps a second of a `PosHeap`, which gives members, of so many, drawn scores, and then as often
+//! takes the first member out and puts it back with a later score.
 mod work;
 
 use crate::clock::{now, rate, since};
@@ -10,7 +10,8 @@ use std::rt::Clock;
 use work::{set_drawn, take_and_put_back};
 use zq_posheap::PosHeap;
 
-/// How many steps of each kind are taken, over how many members, and whether each has a value of 64 bytes or none.
+/// How many steps of each kind are taken, over how many members, and whether each has a value of 64
+/// bytes or none.
 #[derive(Clone, Copy)]
 pub struct Sizes {
     pub steps: u32,
@@ -32,7 +33,8 @@ pub fn read(words: &[String]) -> Option<Sizes> {
     })
 }
 
-/// Standard output has a checksum of what was taken, and standard error the steps a second of both kinds.
+/// Standard output has a checksum of what was taken, and standard error the steps a second of both
+/// kinds.
 pub fn measure<R: Clock + Print + Eprint>(rt: &R, alloc: Global, sizes: Sizes) -> Option<()> {
     if sizes.is_wide {
         time(rt, alloc, sizes, [0u64; 8])

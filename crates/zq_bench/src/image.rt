@@ -1,4 +1,5 @@
-//! How long steps over a heap's image take, with a wait in which its memory can be looked at. Members are of one key.
+//! How long steps over a heap's image take, with a wait in which its memory can be looked at.
+//! Members are of one key.
 mod book;
 mod frame;
 mod makes;
@@ -20,19 +21,21 @@ use zq_shard::Shard;
 /// What is done over so many members.
 #[derive(Clone, Copy)]
 pub enum Part {
-    /// Two shards are made, of which each has so many members and they share half; the first is copied, and the second
-    /// merged into the copy.
+    /// Two shards are made, of which each has so many members and they share half; the first is
+    /// copied, and the second merged into the copy.
     Merge { members: u32 },
     /// The state is written, its bytes are copied and read, and what was read is written.
     Frame { members: u32 },
-    /// The members are added to a shard, and so many operations made over them; then the program waits for the end of its
-    /// input.
+    /// The members are added to a shard, and so many operations made over them; then the program
+    /// waits for the end of its input.
     Shard { members: u32, makes: u32 },
-    /// The same with a book, whose tail is cut to its newer half each time that it has so many records.
+    /// The same with a book, whose tail is cut to its newer half each time that it has so many
+    /// records.
     Book { members: u32, makes: u32, long: u32 },
 }
 
-/// What the words `merge MEMBERS`, `frame MEMBERS`, `shard MEMBERS MAKES` or `book MEMBERS MAKES LONG` ask for.
+/// What the words `merge MEMBERS`, `frame MEMBERS`, `shard MEMBERS MAKES` or `book MEMBERS MAKES
+/// LONG` ask for.
 pub fn read(words: &[String]) -> Option<Part> {
     let (name, numbers) = words.split_first()?;
     match (name.as_str(), numbers) {
@@ -55,7 +58,8 @@ pub fn read(words: &[String]) -> Option<Part> {
     }
 }
 
-/// Standard output has the number of members in the end, and standard error the nanoseconds of each kind of step.
+/// Standard output has the number of members in the end, and standard error the nanoseconds of each
+/// kind of step.
 pub fn measure<R: Clock + Print + Eprint + Input>(rt: &R, alloc: Global, part: Part) -> Option<()> {
     match part {
         Part::Merge { members } => tell_merge(rt, alloc, members),

@@ -21,8 +21,8 @@ const HALF_MICROSECOND: u32 = 300;
 /// What is asked of each lock.
 #[derive(Clone, Copy)]
 pub enum Contest {
-    /// Its lockings a second by 1, 2, 4, 16 and 64 threads, for so many milliseconds each, with nothing done under it and
-    /// with about half a microsecond of work.
+    /// Its lockings a second by 1, 2, 4, 16 and 64 threads, for so many milliseconds each, with
+    /// nothing done under it and with about half a microsecond of work.
     Rates { milliseconds: u32 },
     /// How often each of 64 threads takes it in so many milliseconds.
     Spread { milliseconds: u32 },
@@ -41,8 +41,9 @@ pub fn read(words: &[String]) -> Option<Contest> {
     }
 }
 
-/// Standard output has a line for each number of threads and each kind of work, or one for each lock: the lockings of the
-/// thread that took it least, of the median one, and of the one that took it most.
+/// Standard output has a line for each number of threads and each kind of work, or one for each
+/// lock: the lockings of the thread that took it least, of the median one, and of the one that took
+/// it most.
 pub fn measure<R: Clock + Print + Threads + Wait + Sync>(
     rt: &R,
     alloc: Global,

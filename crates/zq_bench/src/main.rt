@@ -12,9 +12,9 @@
 //! | `world EVENTS` | events a second of a world of sites |
 //! | `all` | small sizes of each but the lock |
 //!
-//! Figures that swing are on standard error, but for those of the lock, and what has to be the same each time on standard
-//! output. The status is 0 where the measurement was made, 1 where memory or a device was missing, and 3 where the words ask
-//! for none, which standard error then lists.
+//! Figures that swing are on standard error, but for those of the lock, and what has to be the same
+//! each time on standard output. The status is 0 where the measurement was made, 1 where memory or
+//! a device was missing, and 3 where the words ask for none, which standard error then lists.
 #![tactic(auto)]
 
 mod checksum;

@@ -1,7 +1,9 @@
-//! How long a node takes to catch up with another one, by frames that are written and read as bytes.
+//! How long a node takes to catch up with another one, by frames that are written and read as
+//! bytes.
 //!
-//! Operations are made at site 0, each a ZADD of another member, and after each so many of them the node of site 1 catches
-//! up. A site keeps some thousand records of a heap: a peer that lacks older ones is told whole heaps, and else operations.
+//! Operations are made at site 0, each a ZADD of another member, and after each so many of them the
+//! node of site 1 catches up. A site keeps some thousand records of a heap: a peer that lacks older
+//! ones is told whole heaps, and else operations.
 mod catching;
 mod making;
 mod rounds;
@@ -15,7 +17,8 @@ use std::alloc::Global;
 use std::rt::Clock;
 use std::sync::Wait;
 
-/// What the words `OPERATIONS ROUND` ask for, or `OPERATIONS` alone, after all of which the other node catches up.
+/// What the words `OPERATIONS ROUND` ask for, or `OPERATIONS` alone, after all of which the other
+/// node catches up.
 pub fn read(words: &[String]) -> Option<Plan> {
     let (operations, round) = match words {
         [operations] => (operations, operations),
@@ -28,8 +31,9 @@ pub fn read(words: &[String]) -> Option<Plan> {
     })
 }
 
-/// Standard output has the members that each site has in the end, and whether their vectors are equal. Standard error has
-/// the nanoseconds in which the operations were made and those of the catching up, and the frames and bytes of the latter.
+/// Standard output has the members that each site has in the end, and whether their vectors are
+/// equal. Standard error has the nanoseconds in which the operations were made and those of the
+/// catching up, and the frames and bytes of the latter.
 pub fn measure<R: Clock + Print + Eprint + Wait>(rt: &R, alloc: Global, plan: Plan) -> Option<()> {
     let outcome = catch_up_in_rounds(rt, alloc, plan)?;
     tell(rt, outcome)

@@ -1,5 +1,6 @@
-//! Nanoseconds a step of a `Ranked` and of a `PosHeap`: they put in so many pairs of drawn scores, take so many steps of
-//! each kind over them, take half of the pairs out, and then the first until none is left.
+//! Nanoseconds a step of a `Ranked` and of a `PosHeap`: they put in so many pairs of drawn scores,
+//! take so many steps of each kind over them, take half of the pairs out, and then the first until
+//! none is left.
 mod heap_times;
 mod heap_work;
 mod ranked_times;
@@ -29,7 +30,8 @@ pub fn read(words: &[String]) -> Option<Sizes> {
     })
 }
 
-/// Standard output has a checksum of what the `Ranked` answered, and standard error a line for each kind of step.
+/// Standard output has a checksum of what the `Ranked` answered, and standard error a line for each
+/// kind of step.
 pub fn measure<R: Clock + Print + Eprint>(rt: &R, alloc: Global, sizes: Sizes) -> Option<()> {
     ranked_times::time_all(rt, alloc, sizes)?;
     heap_times::time_all(rt, alloc, sizes)

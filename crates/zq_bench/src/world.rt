@@ -1,5 +1,5 @@
-//! Events a second of a world of 8 sites: so many events are drawn, and merges added after which all sites have the same;
-//! all are played, and then each site answers the whole queue.
+//! Events a second of a world of 8 sites: so many events are drawn, and merges added after which
+//! all sites have the same; all are played, and then each site answers the whole queue.
 mod answers;
 mod script;
 
@@ -20,8 +20,8 @@ pub fn read(words: &[String]) -> Option<u32> {
     number_of(events)
 }
 
-/// Standard output has the number of events, and whether all sites answered alike. Standard error has the events a second,
-/// the operations that were made, and the nanoseconds of an answer.
+/// Standard output has the number of events, and whether all sites answered alike. Standard error
+/// has the events a second, the operations that were made, and the nanoseconds of an answer.
 pub fn measure<R: Clock + Print + Eprint>(rt: &R, alloc: Global, events: u32) -> Option<()> {
     let script = drawn(alloc, events)?;
     time(rt, alloc, &script)
@@ -50,7 +50,8 @@ fn time<R: Clock + Print + Eprint>(rt: &R, alloc: Global, script: &Script) -> Op
     time_answers(rt, alloc, &world, script.events().len(), played)
 }
 
-/// Times the answers of a world that so many events made in so many nanoseconds, and writes what both took.
+/// Times the answers of a world that so many events made in so many nanoseconds, and writes what
+/// both took.
 fn time_answers<R: Clock + Print + Eprint>(
     rt: &R,
     alloc: Global,

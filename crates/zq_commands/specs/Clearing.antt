@@ -13,10 +13,12 @@ use Rattle.zq_semantics.specs.Run.{ForCopies, IsWhyOf}
 -- all of them where there was no cut, and else why the next was not made
 abbrev pub IsLeft : ℕ → List ℕ → Lending → Lending → ℕ → Option Stopped → Type 0
 IsLeft site key old new made None = made ≡ length (queues_in old key)
-IsLeft site key old new made (Some cut) = IsWhyOf ForCopies site (slice_get (drops key (queues_in old key)) made) new.books (want_of cut)
+IsLeft site key old new made (Some cut) =
+    IsWhyOf ForCopies site (slice_get (drops key (queues_in old key)) made) new.books (want_of cut)
 
 -- the first pairs were dropped, so many as are counted
-pub record Clears (site stamp : ℕ) (key : List ℕ) (before : ℕ) (old new : Lending) (cleared : Cleared) : Type 0 where
+pub record Clears (site stamp : ℕ) (key : List ℕ) (before : ℕ) (old new : Lending)
+    (cleared : Cleared) : Type 0 where
   pub made : ℕ
   pub done : cleared.done ≡ before + made
   pub within : made ≤ length (queues_in old key)

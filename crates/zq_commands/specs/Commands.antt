@@ -30,7 +30,9 @@ is_reading (Zrevrank key member) = true
 is_reading (Zrange key range is_turned with_scores) = true
 is_reading command = false
 
--- the command's plan runs over the books, whole or in part, and only what is short was cut for want of memory
+-- the command's plan runs over the books, whole or in part, and only what is short was cut for want
+-- of memory
 abbrev pub IsRunOver : ℕ → ℕ → Command → Lending → Lending → Word → Bool → Type 0
 IsRunOver site stamp command old new reply short =
-    EndsOver site stamp (takes_of command (queues_in old)) (plan_of command (queues_in old)) (cut_reply command (queues_in old)) old new reply short
+    EndsOver site stamp (takes_of command (queues_in old)) (plan_of command (queues_in old))
+    (cut_reply command (queues_in old)) old new reply short

@@ -35,6 +35,7 @@ pub record DropsFirst (site stamp : ℕ) (key : List ℕ) (old new : Lending) : 
   pub left : queues_in new key ≡ rest
 
 -- and its member and its score are behind the parts of a reply
-pub record PopsFirst (site stamp : ℕ) (key : List ℕ) (old new : Lending) (before later : List Word) : Type 0 where
+pub record PopsFirst (site stamp : ℕ) (key : List ℕ) (old new : Lending)
+    (before later : List Word) : Type 0 where
   pub drops : DropsFirst site stamp key old new
   pub parts : later ≡ before ++ map bulk (parts_of_pair true drops.first)

@@ -1,4 +1,5 @@
--- The books that are lent to a command, by what rule their scores are read, and how many heaps there are.
+-- The books that are lent to a command, by what rule their scores are read, and how many heaps
+-- there are.
 
 use Rattle.std.specs.Prelude.{List, Option, Some, filter, length, map, option_map, slice_get, true, ℕ, ◌++◌, ◌<◌, ◌≡◌, ◌≤◌}
 use Rattle.zq_model.specs.Books.{Book}
@@ -13,7 +14,8 @@ pub record Lending : Type 0 where
   pub rule : Rule
   pub heaps : ℕ
   pub books : List Book
-  -- the operations that were made so far, the oldest first, where the books' holder keeps a list of them
+  -- the operations that were made so far, the oldest first, where the books' holder keeps a list of
+  -- them
   pub told : Option (List Operation)
 
 abbrev pub queues_in : Lending → Queues
@@ -31,7 +33,8 @@ HasBook key member lent = HasHome key member lent.books
 -- and this is the place of its book
 pub record IsHomeAt (key member : List ℕ) (place : ℕ) (lent : Lending) : Type 0 where
   pub inside : place < length lent.books
-  pub home : (book : Book) → slice_get lent.books place ≡ Some book → is_home_of key member book ≡ true
+  pub home : (book : Book) → slice_get lent.books place ≡ Some book →
+      is_home_of key member book ≡ true
 
 -- the operation that a move makes over books, which is that of the book of its heap
 abbrev pub operations_by : ℕ → Move → List Book → List Operation
@@ -43,8 +46,14 @@ told_by site move books told = option_map (λ before. before ++ operations_by si
 
 -- the books after a move, and what is told then
 abbrev pub lent_after : ℕ → ℕ → Move → Lending → Lending
-lent_after site stamp move lent = record lent { books = made site stamp move lent.books; told = told_by site move lent.books lent.told }
+lent_after site stamp move lent =
+    record lent {
+      books = made site stamp move lent.books;
+      told =
+          told_by site move lent.books lent.told;
+    }
 
 -- a call of this stamp may work on the books: it is in range, and none of theirs is later
 abbrev pub IsDated : ℕ → Lending → Type 0
-IsDated stamp lent = (stamp ≤ LAST_COUNT) × ((book : Book) → IsIn book lent.books → book.stamp ≤ stamp)
+IsDated stamp lent = (stamp ≤ LAST_COUNT)
+    × ((book : Book) → IsIn book lent.books → book.stamp ≤ stamp)

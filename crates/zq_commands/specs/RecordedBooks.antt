@@ -27,8 +27,10 @@ recorded_through x y z first second = record {
       let same : z.stamp ≡ y.stamp = omega (arith, w.stamp_is, first.stamp, second.stamp) in
       let half = first.worked start steps (subst (λ s. IsWorked x start s steps) same w) in
       let whole = second.worked start (steps ++ steps_of first.records) (subst (λ s. IsWorked y start s (steps ++ steps_of first.records)) (sym same) half) in
-      let joined : (steps ++ steps_of first.records) ++ steps_of second.records ≡ steps ++ steps_of (first.records ++ second.records) =
-      append_assoc steps (steps_of first.records) (steps_of second.records) ∙ ap (λ l. steps ++ l) (sym (map-append (λ r. Recorded r) first.records second.records)) in
+      let joined : (steps ++ steps_of first.records) ++ steps_of second.records
+      ≡ steps ++ steps_of (first.records ++ second.records) =
+      append_assoc steps (steps_of first.records) (steps_of second.records) ∙ ap (λ l. steps ++ l)
+      (sym (map-append (λ r. Recorded r) first.records second.records)) in
       subst (λ s. IsWorked z start z.stamp s) joined whole;
 }
 
@@ -39,7 +41,8 @@ recorded_books_itself books = record {
   each = λ place before later is then. subst (IsRecordedOn before) (same_Some before later (sym is ∙ then)) (recorded_itself before);
 }
 
-pub recorded_books_through : (x y z : List Book) → AreRecordedOn x y → AreRecordedOn y z → AreRecordedOn x z
+pub recorded_books_through : (x y z : List Book) → AreRecordedOn x y → AreRecordedOn y z →
+    AreRecordedOn x z
 recorded_books_through x y z first second = record {
   number = second.number ∙ first.number;
   each = λ place before later is then.

@@ -12,26 +12,39 @@ use Rattle.zq_semantics.specs.Run.{IsWhyOf, MayLack, Memory, Takes, Want, cut_er
 use Rattle.zq_words.specs.Words.{Word}
 
 -- what is told after moves over books, one after the other
-abbrev pub told_after : ℕ → ℕ → List Move → List Book → Option (List Operation) → Option (List Operation)
+abbrev pub told_after : ℕ → ℕ → List Move → List Book → Option (List Operation) →
+    Option (List Operation)
 told_after site stamp [] books told = told
-told_after site stamp (move ∷ moves) books told = told_after site stamp moves (made site stamp move books) (told_by site move books told)
+told_after site stamp (move ∷ moves) books told =
+    told_after site stamp moves (made site stamp move books) (told_by site move books told)
 
 -- the books after moves, one after the other, and what is told then
 abbrev pub lent_after_all : ℕ → ℕ → List Move → Lending → Lending
-lent_after_all site stamp moves lent = record lent { books = books_after site stamp moves lent.books; told = told_after site stamp moves lent.books lent.told }
+lent_after_all site stamp moves lent =
+    record lent {
+      books = books_after site stamp moves lent.books;
+      told =
+          told_after site stamp moves lent.books lent.told;
+    }
 
 -- the plan runs, whole or in part, and only what is short was cut for want of memory
-pub data EndsOver (site stamp : ℕ) (takes : Takes) (plan : Plan) (cut : ℕ → Want → Reply) (old new : Lending) (reply : Word) (short : Bool) : Type 0 where
-  whole : new ≡ lent_after_all site stamp plan.moves old → reply ≡ bytes_of plan.reply → EndsOver site stamp takes plan cut old new reply short
-  part : (k : ℕ) → (want : Want) → k ≤ length plan.moves → new ≡ lent_after_all site stamp (take k plan.moves) old →
-      IsWhyOf takes site (slice_get plan.moves k) new.books want → reply ≡ bytes_of (cut k want) → (want ≡ Memory → short ≡ true) →
+pub data EndsOver (site stamp : ℕ) (takes : Takes) (plan : Plan) (cut : ℕ → Want →
+    Reply) (old new : Lending) (reply : Word) (short : Bool) : Type 0 where
+  whole : new ≡ lent_after_all site stamp plan.moves old → reply ≡ bytes_of plan.reply →
+      EndsOver site stamp takes plan cut old new reply short
+  part : (k : ℕ) → (want : Want) → k ≤ length plan.moves →
+      new ≡ lent_after_all site stamp (take k plan.moves) old →
+      IsWhyOf takes site (slice_get plan.moves k) new.books want → reply ≡ bytes_of (cut k want) →
+      (want ≡ Memory → short ≡ true) →
       EndsOver site stamp takes plan cut old new reply short
 
 -- the plan runs, whole or in part
 abbrev pub RunsOver : ℕ → ℕ → Takes → Plan → (ℕ → Want → Reply) → Lending → Lending → Word → Type 0
-RunsOver site stamp takes plan cut old new reply = EndsOver site stamp takes plan cut old new reply true
+RunsOver site stamp takes plan cut old new reply =
+    EndsOver site stamp takes plan cut old new reply true
 
--- the bytes of a reply that is read off, or of the error for want of memory, where there may be none
+-- the bytes of a reply that is read off, or of the error for want of memory, where there may be
+-- none
 abbrev pub IsRead : Takes → Reply → Word → Type 0
 IsRead takes reply bytes =
     (bytes ≡ bytes_of reply) ⊎ (MayLack takes 0 None [] × (bytes ≡ bytes_of (cut_error 0 Memory)))

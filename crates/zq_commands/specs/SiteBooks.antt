@@ -33,11 +33,13 @@ pub record IsBookOf (K : ℕ) (rule : Rule) (heap : ℕ) (book : Book) : Type 0 
 -- there is a book for each of 1 to 16 heaps, and all are of one rule
 pub record AreOfSite (books : List Book) : Type 0 where
   pub number : IsHeaps (length books)
-  pub each : (heap : ℕ) (book : Book) → slice_get books heap ≡ Some book → IsBookOf (length books) (rule_in books) heap book
+  pub each : (heap : ℕ) (book : Book) → slice_get books heap ≡ Some book →
+      IsBookOf (length books) (rule_in books) heap book
 
 -- the book of a heap, of K, in which nothing was done
 abbrev pub empty_book : ℕ → Rule → ℕ → Book
-empty_book K rule heap = opened (record { heap = heap; heaps = K; rule = rule; image = empty_image }) 0 0
+empty_book K rule heap =
+    opened (record { heap = heap; heaps = K; rule = rule; image = empty_image }) 0 0
 
 -- work on the book left its heap and its rule, and it is within bounds
 pub record IsKept (old new : Book) : Type 0 where
@@ -47,18 +49,26 @@ pub record IsKept (old new : Book) : Type 0 where
   pub bounded : IsBounded new.heaps new.heap new.state
 
 -- an operation was handed to the book: what was answered, and the book after it
-pub record IsTaken (result : Result Taken TakeFault) (stamp : ℕ) (op : Placed) (old new : Book) : Type 0 where
+pub record IsTaken (result : Result Taken TakeFault) (stamp : ℕ) (op : Placed)
+    (old new : Book) : Type 0 where
   pub wrong_heap : IsErrOf result untaken.WrongHeap ↔ (IsOfHeap (state_of old) op → ⊥)
-  pub worn : IsErrOf result untaken.Worn ↔ (IsOfHeap (state_of old) op × (taken_of old.state.vector op.operation ≡ New) × (old.count ≡ LAST_STAMP))
+  pub worn : IsErrOf result untaken.Worn
+      ↔ (IsOfHeap (state_of old) op × (taken_of old.state.vector op.operation ≡ New)
+      × (old.count ≡ LAST_STAMP))
   pub no_memory : IsErrOf result untaken.NoMemory → taken_of old.state.vector op.operation ≡ New
   pub judged : IfOk result (λ taken. answer_of taken ≡ taken_of old.state.vector op.operation)
   pub book : OnOk result (new ≡ book_taken old stamp op.operation)
-  pub worked : OnOk result ((a : Book) (steps : List Step) → IsWorked old a stamp steps → IsWorked new a stamp (steps ++ steps_taken old stamp op.operation))
+  pub worked : OnOk result ((a : Book) (steps : List Step) → IsWorked old a stamp steps →
+      IsWorked new a stamp (steps ++ steps_taken old stamp op.operation))
 
 -- another heap was merged into the book: what was answered, and the book after it
-pub record IsMerged (result : Result (Unit {0}) MergeFault) (stamp : ℕ) (other : HeapImage) (old new : Book) : Type 0 where
+pub record IsMerged (result : Result (Unit {0}) MergeFault) (stamp : ℕ) (other : HeapImage)
+    (old new : Book) : Type 0 where
   pub wrong_heap : IsErrOf result unmerged.WrongHeap ↔ (IsSameHeap (state_of old) other → ⊥)
-  pub wrong_rule : IsErrOf result unmerged.WrongRule ↔ (IsSameHeap (state_of old) other × (old.rule ≢ other.rule))
-  pub worn : IsErrOf result unmerged.Worn ↔ (IsSameHeap (state_of old) other × (old.rule ≡ other.rule) × (old.count ≡ LAST_STAMP))
+  pub wrong_rule : IsErrOf result unmerged.WrongRule
+      ↔ (IsSameHeap (state_of old) other × (old.rule ≢ other.rule))
+  pub worn : IsErrOf result unmerged.Worn
+      ↔ (IsSameHeap (state_of old) other × (old.rule ≡ other.rule) × (old.count ≡ LAST_STAMP))
   pub book : OnOk result (new ≡ merged old stamp other.image)
-  pub worked : OnOk result ((a : Book) (steps : List Step) → IsWorked old a stamp steps → IsWorked new a stamp (steps ++ Merged stamp other.image ∷ []))
+  pub worked : OnOk result ((a : Book) (steps : List Step) → IsWorked old a stamp steps →
+      IsWorked new a stamp (steps ++ Merged stamp other.image ∷ []))

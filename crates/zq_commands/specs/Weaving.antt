@@ -22,4 +22,5 @@ woven is_turned (suc n) [] [] = []
 woven is_turned (suc n) [] (q ∷ second) = q ∷ woven is_turned n [] second
 woven is_turned (suc n) (p ∷ first) [] = p ∷ woven is_turned n first []
 woven is_turned (suc n) (p ∷ first) (q ∷ second) =
-    if goes_before is_turned p q then p ∷ woven is_turned n first (q ∷ second) else q ∷ woven is_turned n (p ∷ first) second
+    if goes_before is_turned p q then p ∷ woven is_turned n first (q ∷ second) else q
+    ∷ woven is_turned n (p ∷ first) second

@@ -14,7 +14,8 @@ use zq_journal::Book;
 const LAST: u64 = 4_611_686_018_427_387_904;
 
 impl SiteBooks {
-    /// The stamp of the next call: the one after the greatest of the books', and `None` where that is the last.
+    /// The stamp of the next call: the one after the greatest of the books', and `None` where that
+    /// is the last.
     #[tactic(auto, unfolding(zq_journal::specs::Books::LAST_STAMP))]
     pub fn next_stamp(&self) -> Option<u64>
         ensures next { IfSome result (IsNextStamp self.now) }
@@ -24,8 +25,8 @@ impl SiteBooks {
         if stamp < LAST { Some(stamp + 1) } else { None }
     }
 
-    /// Begins a call of this stamp, which is no less than the books': cuts each tail to its limits, and raises each book's
-    /// stamp to the call's. It takes no memory.
+    /// Begins a call of this stamp, which is no less than the books': cuts each tail to its limits,
+    /// and raises each book's stamp to the call's. It takes no memory.
     pub fn begin(&mut self, stamp: u64)
         requires dated { IsDated stamp (lending_of self.old) }
         ensures begun { self.new ≡ map (begun stamp) self.old }
@@ -37,7 +38,8 @@ impl SiteBooks {
 
 /// Begins a call in each of these books.
 fn begin_all(books: &mut [Book], stamp: u64)
-    requires below { (place : ℕ) (book : Books) → slice_get books.old place ≡ Some book → book.stamp ≤ stamp }
+    requires below { (place : ℕ) (book : Books) → slice_get books.old place ≡ Some book →
+        book.stamp ≤ stamp }
     requires bounded { stamp ≤ LAST_STAMP }
     ensures { books.new ≡ map (begun stamp) books.old }
 {

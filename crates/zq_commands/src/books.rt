@@ -25,7 +25,8 @@ pub trait Books {
     /// The books, the rule and the number of heaps.
     ghost lent: { Self → Lending };
 
-    /// What work leaves as it was, or leads on: what else a holder of the books has to know of them.
+    /// What work leaves as it was, or leads on: what else a holder of the books has to know of
+    /// them.
     ghost keeps: { Self → Self → Type 0 };
 
     /// How many.
@@ -38,51 +39,60 @@ pub trait Books {
         requires home { HasBook key.now member.now (lent self.now) }
         requires key { length key.now ≤ LONGEST }
         ensures inside { result < length (lent self.now).books }
-        ensures home { (book : Book) → slice_get (lent self.now).books result ≡ Some book → is_home_of key.now member.now book ≡ true };
+        ensures home { (book : Book) → slice_get (lent self.now).books result ≡ Some book →
+            is_home_of key.now member.now book ≡ true };
 
-    /// The score of a member of a key in the book at a place, and `None` where it does not stand there.
+    /// The score of a member of a key in the book at a place, and `None` where it does not stand
+    /// there.
     fn score(&self, place: usize, key: &[u8], member: &[u8]) -> Option<i128>
         requires lent { IsLending (lent self.now) }
         requires inside { place < length (lent self.now).books }
         ensures { (book : Book) → slice_get (lent self.now).books place ≡ Some book →
-            result ≡ score_of (lent self.now).rule (entry_at book.state.members (key.now, member.now)) };
+            result ≡ score_of (lent self.now).rule
+            (entry_at book.state.members (key.now, member.now)) };
 
     /// The number of members of a key in the book at a place.
     fn count(&self, place: usize, key: &[u8]) -> usize
         requires lent { IsLending (lent self.now) }
         requires inside { place < length (lent self.now).books }
-        ensures { (book : Book) → slice_get (lent self.now).books place ≡ Some book → result ≡ length (queues_of (lent self.now).rule (book ∷ []) key.now) };
+        ensures { (book : Book) → slice_get (lent self.now).books place ≡ Some book →
+            result ≡ length (queues_of (lent self.now).rule (book ∷ []) key.now) };
 
-    /// How many pairs of a key in the book at a place go before this one, which need not stand there.
+    /// How many pairs of a key in the book at a place go before this one, which need not stand
+    /// there.
     fn count_before(&self, place: usize, key: &[u8], score: &i128, member: &[u8]) -> usize
         requires lent { IsLending (lent self.now) }
         requires inside { place < length (lent self.now).books }
         ensures { (book : Book) → slice_get (lent self.now).books place ≡ Some book →
-            result ≡ count_by (λ pair. is_before pair (score.now, member.now)) (queues_of (lent self.now).rule (book ∷ []) key.now) };
+            result ≡ count_by (λ pair. is_before pair (score.now, member.now))
+            (queues_of (lent self.now).rule (book ∷ []) key.now) };
 
     /// How many go after it.
     fn count_after(&self, place: usize, key: &[u8], score: &i128, member: &[u8]) -> usize
         requires lent { IsLending (lent self.now) }
         requires inside { place < length (lent self.now).books }
         ensures { (book : Book) → slice_get (lent self.now).books place ≡ Some book →
-            result ≡ count_by (λ pair. is_before (score.now, member.now) pair) (queues_of (lent self.now).rule (book ∷ []) key.now) };
+            result ≡ count_by (λ pair. is_before (score.now, member.now) pair)
+            (queues_of (lent self.now).rule (book ∷ []) key.now) };
 
     /// How many pairs of a key in the book at a place have a score within these bounds.
     fn count_within(&self, place: usize, key: &[u8], min: &Bound, max: &Bound) -> usize
         requires lent { IsLending (lent self.now) }
         requires inside { place < length (lent self.now).books }
         ensures { (book : Book) → slice_get (lent self.now).books place ≡ Some book →
-            result ≡ count_by (is_within min.now max.now) (queues_of (lent self.now).rule (book ∷ []) key.now) };
+            result ≡ count_by (is_within min.now max.now)
+            (queues_of (lent self.now).rule (book ∷ []) key.now) };
 
     /// The first pair of a key in the book at a place.
     fn top(&self, place: usize, key: &[u8]) -> Option<(i128, &[u8])>
         requires lent { IsLending (lent self.now) }
         requires inside { place < length (lent self.now).books }
         ensures { (book : Book) → slice_get (lent self.now).books place ≡ Some book →
-            option_map lent_pair result ≡ slice_get (queues_of (lent self.now).rule (book ∷ []) key.now) 0 };
+            option_map lent_pair result
+            ≡ slice_get (queues_of (lent self.now).rule (book ∷ []) key.now) 0 };
 
-    /// The pairs of a key in the book at a place, in order or turned round, from one place of theirs on and before
-    /// another; places count from 0.
+    /// The pairs of a key in the book at a place, in order or turned round, from one place of
+    /// theirs on and before another; places count from 0.
     fn slice(
         &self,
         alloc: Global,
@@ -94,19 +104,23 @@ pub trait Books {
     ) -> Result<Vec<(i128, &[u8])>, AllocError>
         requires lent { IsLending (lent self.now) }
         requires inside { place < length (lent self.now).books }
-        ensures { (book : Book) → slice_get (lent self.now).books place ≡ Some book → IfOk result (λ pairs.
-            map lent_pair pairs.items ≡ slice_range (turned_if is_turned (queues_of (lent self.now).rule (book ∷ []) key.now)) from to) };
+        ensures { (book : Book) → slice_get (lent self.now).books place ≡ Some book →
+            IfOk result (λ pairs.
+            map lent_pair pairs.items
+            ≡ slice_range (turned_if is_turned
+            (queues_of (lent self.now).rule (book ∷ []) key.now)) from to) };
 
-    /// Makes an ordered index of a key's members in the book at a place, where it has none and readings in order would
-    /// look at many members. The books stay as they are. Where memory is refused there is none.
+    /// Makes an ordered index of a key's members in the book at a place, where it has none and
+    /// readings in order would look at many members. The books stay as they are. Where memory is
+    /// refused there is none.
     fn index(&mut self, alloc: Global, place: usize, key: &[u8])
         requires lent { IsLending (lent self.old) }
         requires inside { place < length (lent self.old).books }
         ensures same { lent self.new ≡ lent self.old }
         ensures keeps { keeps self.old self.new };
 
-    /// Makes a site's next operation of an act in the book at a place, which is that of the member's heap, and answers
-    /// whether the member stood before.
+    /// Makes a site's next operation of an act in the book at a place, which is that of the
+    /// member's heap, and answers whether the member stood before.
     fn make(
         &mut self,
         alloc: Global,
@@ -118,16 +132,25 @@ pub trait Books {
         act: Act,
     ) -> Result<bool, Stopped>
         requires inside { place < length (lent self.old).books }
-        requires home { (book : Book) → slice_get (lent self.old).books place ≡ Some book → is_home_of key.now member.now book ≡ true }
+        requires home { (book : Book) → slice_get (lent self.old).books place ≡ Some book →
+            is_home_of key.now member.now book ≡ true }
         requires lent { IsLending (lent self.old) }
         requires dated { IsDated stamp (lent self.old) }
         requires key { length key.now ≤ LONGEST }
         requires member { length member.now ≤ LONGEST }
-        ensures made { OnOk result (lent self.new ≡ lent_after site stamp (record { key = key.now; member = member.now; act = act_of act }) (lent self.old)) }
-        ensures stood { IfOk result (λ stood. (book : Book) → slice_get (lent self.old).books place ≡ Some book → stood ≡ is_some (get book.state.members (key.now, member.now))) }
+        ensures made { OnOk result
+            (lent self.new ≡ lent_after site stamp
+            (record { key = key.now; member = member.now; act = act_of act }) (lent self.old)) }
+        ensures stood { IfOk result (λ stood. (book : Book) →
+            slice_get (lent self.old).books place ≡ Some book →
+            stood ≡ is_some (get book.state.members (key.now, member.now))) }
         ensures refused { OnErr result (lent self.new ≡ lent self.old) }
-        ensures worn { IsErrOf result Stopped.Worn → IsWhy site (Some (record { key = key.now; member = member.now; act = act_of act })) (lent self.old).books Number }
-        ensures memory { IsErrOf result Stopped.NoMemory → IsWhy site (Some (record { key = key.now; member = member.now; act = act_of act })) (lent self.old).books Number → ⊥ }
+        ensures worn { IsErrOf result Stopped.Worn →
+            IsWhy site (Some (record { key = key.now; member = member.now; act = act_of act }))
+            (lent self.old).books Number }
+        ensures memory { IsErrOf result Stopped.NoMemory →
+            IsWhy site (Some (record { key = key.now; member = member.now; act = act_of act }))
+            (lent self.old).books Number → ⊥ }
         ensures lent { IsLending (lent self.new) }
         ensures dated { IsDated stamp (lent self.new) }
         ensures keeps { keeps self.old self.new };

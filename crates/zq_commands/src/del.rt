@@ -35,7 +35,8 @@ pub fn clear_keys<B: Books>(
     requires dated { IsDated stamp (B.lent books.old) }
     requires keys { All IsShort (views keys.now) }
     requires few { length keys.now ≤ 65536 }
-    ensures ran { RunsOver site stamp ForCopies (plan.in_turn plan.del_part (views keys.now) (queues_in (B.lent books.old))) cut_error
+    ensures ran { RunsOver site stamp ForCopies
+        (plan.in_turn plan.del_part (views keys.now) (queues_in (B.lent books.old))) cut_error
         (B.lent books.old) (B.lent books.new) (reply_bytes result) }
     ensures lent { IsLending (B.lent books.new) }
     ensures dated { IsDated stamp (B.lent books.new) }
@@ -65,7 +66,8 @@ fn one_if_more(before: u64, done: u64) -> u64
     if before < done { 1 } else { 0 }
 }
 
-/// Drops the first pair of a key until there is none. It counts on from `before`, up to the last number.
+/// Drops the first pair of a key until there is none. It counts on from `before`, up to the last
+/// number.
 fn clear_key<B: Books>(
     books: &mut B,
     alloc: Global,
@@ -77,7 +79,8 @@ fn clear_key<B: Books>(
     requires lent { IsLending (B.lent books.old) }
     requires dated { IsDated stamp (B.lent books.old) }
     requires key { length key.now ≤ LONGEST }
-    ensures cleared { Clears site stamp key.now before (B.lent books.old) (B.lent books.new) result }
+    ensures cleared { Clears site stamp key.now before (B.lent books.old)
+        (B.lent books.new) result }
     ensures lent { IsLending (B.lent books.new) }
     ensures dated { IsDated stamp (B.lent books.new) }
     ensures keeps { B.keeps books.old books.new }
@@ -104,7 +107,8 @@ fn cut_at_last<B: Books>(books: &B, key: &[u8]) -> Option<Stopped>
     requires { IsLending (B.lent books.now) }
     ensures none { result ≡ None → queues_in (B.lent books.now) key.now ≡ [] }
     ensures some { (cut : Cuts) → result ≡ Some cut → cut ≡ Stopped.NoMemory }
-    ensures there { (cut : Cuts) → result ≡ Some cut → IsTrue (plan.is_there (queues_in (B.lent books.now) key.now)) }
+    ensures there { (cut : Cuts) → result ≡ Some cut →
+        IsTrue (plan.is_there (queues_in (B.lent books.now) key.now)) }
 {
     match top_of(books, key) {
         None => None,
@@ -123,11 +127,14 @@ fn drop_first<B: Books>(
     requires lent { IsLending (B.lent books.old) }
     requires dated { IsDated stamp (B.lent books.old) }
     requires key { length key.now ≤ LONGEST }
-    ensures dropped { result ≡ Ok true → DropsFirst site stamp key.now (B.lent books.old) (B.lent books.new) }
+    ensures dropped { result ≡ Ok true →
+        DropsFirst site stamp key.now (B.lent books.old) (B.lent books.new) }
     ensures empty { result ≡ Ok false → queues_in (B.lent books.old) key.now ≡ [] }
     ensures idle { result ≡ Ok false → B.lent books.new ≡ B.lent books.old }
     ensures refused { OnErr result (B.lent books.new ≡ B.lent books.old) }
-    ensures worn { IsErrOf result Stopped.Worn → IsWhy site (slice_get (plan.drops key.now (queues_in (B.lent books.old) key.now)) 0) (B.lent books.old).books Number }
+    ensures worn { IsErrOf result Stopped.Worn →
+        IsWhy site (slice_get (plan.drops key.now (queues_in (B.lent books.old) key.now)) 0)
+        (B.lent books.old).books Number }
     ensures there { OnErr result (IsTrue (plan.is_there (queues_in (B.lent books.old) key.now))) }
     ensures lent { IsLending (B.lent books.new) }
     ensures dated { IsDated stamp (B.lent books.new) }

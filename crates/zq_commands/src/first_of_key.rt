@@ -19,13 +19,16 @@ pub struct Top<'a> {
     pub pair: (i128, &'a [u8]),
 }
 
-/// The first pair of a key, and `None` where it has no members. The place is that of the book in whose heap the member lies.
+/// The first pair of a key, and `None` where it has no members. The place is that of the book in
+/// whose heap the member lies.
 pub fn top_of<'a, B: Books>(books: &'a B, key: &[u8]) -> Option<Top<'a>>
     requires { IsLending (B.lent books.now) }
     ensures top { option_map top_pair result ≡ top_in (B.lent books.now) key.now }
-    ensures home { IfSome result (λ top. IsHomeAt key.now top.pair.1.now top.place (B.lent books.now)) }
+    ensures home { IfSome result
+        (λ top. IsHomeAt key.now top.pair.1.now top.place (B.lent books.now)) }
 {
-    // The first pair of the books from a place on is the least of that book's and of those behind it.
+    // The first pair of the books from a place on is the least of that book's and of those behind
+    // it.
     heading();
     let mut top = None;
     let mut place = books.len();
@@ -41,8 +44,10 @@ fn top_at<'a, B: Books>(books: &'a B, place: usize, key: &[u8]) -> Option<Top<'a
     requires lent { IsLending (B.lent books.now) }
     requires inside { place < length (B.lent books.now).books }
     ensures top { (book : Book) → slice_get (B.lent books.now).books place ≡ Some book →
-        option_map top_pair result ≡ slice_get (queues_of (B.lent books.now).rule (book ∷ []) key.now) 0 }
-    ensures home { IfSome result (λ top. IsHomeAt key.now top.pair.1.now top.place (B.lent books.now)) }
+        option_map top_pair result
+        ≡ slice_get (queues_of (B.lent books.now).rule (book ∷ []) key.now) 0 }
+    ensures home { IfSome result
+        (λ top. IsHomeAt key.now top.pair.1.now top.place (B.lent books.now)) }
 {
     let pair = books.top(place, key)?;
     Some(Top { place, pair })
@@ -50,7 +55,8 @@ fn top_at<'a, B: Books>(books: &'a B, place: usize, key: &[u8]) -> Option<Top<'a
 
 /// The first of two pairs, where there are two.
 fn lesser<'a>(first: Option<Top<'a>>, second: Option<Top<'a>>) -> Option<Top<'a>>
-    ensures least { option_map top_pair result ≡ least (option_map top_pair first.entry) (option_map top_pair second.entry) }
+    ensures least { option_map top_pair result
+        ≡ least (option_map top_pair first.entry) (option_map top_pair second.entry) }
     ensures either { (result ≡ first.entry) ⊎ (result ≡ second.entry) }
 {
     match (first, second) {

@@ -29,8 +29,11 @@ pub struct Copied {
 /// A copy of the first pair of a key.
 pub fn copy_top<B: Books>(books: &B, alloc: Global, key: &[u8]) -> Result<Option<Copied>, Stopped>
     requires lent { IsLending (B.lent books.now) }
-    ensures copied { IfOk result (λ copied. option_map copied_parts copied ≡ option_map (parts_of_pair true) (top_in (B.lent books.now) key.now)) }
-    ensures home { IfOk result (λ copied. IfSome copied (λ pair. IsHomeAt key.now pair.member.items pair.place (B.lent books.now))) }
+    ensures copied { IfOk result (λ copied. option_map copied_parts copied
+        ≡ option_map (parts_of_pair true) (top_in (B.lent books.now) key.now)) }
+    ensures home { IfOk result
+        (λ copied. IfSome copied
+        (λ pair. IsHomeAt key.now pair.member.items pair.place (B.lent books.now))) }
     ensures refused { IsErrOf result Stopped.Worn → ⊥ }
     ensures there { OnErr result (IsTrue (is_there (queues_in (B.lent books.now) key.now))) }
 {
@@ -48,7 +51,8 @@ pub fn copy_top<B: Books>(books: &B, alloc: Global, key: &[u8]) -> Result<Option
     }
 }
 
-/// Drops the first pair of a key, of which this is the member, in the book at the place where it was found.
+/// Drops the first pair of a key, of which this is the member, in the book at the place where it
+/// was found.
 pub fn drop_top<B: Books>(
     books: &mut B,
     alloc: Global,
@@ -62,10 +66,14 @@ pub fn drop_top<B: Books>(
     requires dated { IsDated stamp (B.lent books.old) }
     requires key { length key.now ≤ LONGEST }
     requires home { IsHomeAt key.now member.now place (B.lent books.old) }
-    requires top { option_map (λ pair. pair.1) (top_in (B.lent books.old) key.now) ≡ Some member.now }
-    ensures dropped { OnOk result (DropsFirst site stamp key.now (B.lent books.old) (B.lent books.new)) }
+    requires top { option_map (λ pair. pair.1) (top_in (B.lent books.old) key.now)
+        ≡ Some member.now }
+    ensures dropped { OnOk result
+        (DropsFirst site stamp key.now (B.lent books.old) (B.lent books.new)) }
     ensures refused { OnErr result (B.lent books.new ≡ B.lent books.old) }
-    ensures worn { IsErrOf result Stopped.Worn → IsWhy site (slice_get (drops key.now (queues_in (B.lent books.old) key.now)) 0) (B.lent books.old).books Number }
+    ensures worn { IsErrOf result Stopped.Worn →
+        IsWhy site (slice_get (drops key.now (queues_in (B.lent books.old) key.now)) 0)
+        (B.lent books.old).books Number }
     ensures lent { IsLending (B.lent books.new) }
     ensures dated { IsDated stamp (B.lent books.new) }
     ensures keeps { B.keeps books.old books.new }

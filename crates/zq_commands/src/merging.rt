@@ -16,7 +16,9 @@ pub fn merge<'a>(
     most: usize,
 ) -> Result<Vec<(i128, &'a [u8])>, AllocError>
     requires few { length first.items ≤ most }
-    ensures { IfOk result (λ pairs. map lent_pair pairs.items ≡ woven is_turned most (map lent_pair first.entry.items) (map lent_pair second.entry.items)) }
+    ensures { IfOk result (λ pairs. map lent_pair pairs.items
+        ≡ woven is_turned most (map lent_pair first.entry.items)
+        (map lent_pair second.entry.items)) }
 {
     if second.is_empty() {
         return Ok(first);
@@ -34,7 +36,8 @@ fn weave<'a>(
     most: usize,
 ) -> Result<Vec<(i128, &'a [u8])>, AllocError>
     requires few { most ≤ length first.now + length second.now }
-    ensures { IfOk result (λ pairs. map lent_pair pairs.items ≡ woven is_turned most (map lent_pair first.now) (map lent_pair second.now)) }
+    ensures { IfOk result (λ pairs. map lent_pair pairs.items
+        ≡ woven is_turned most (map lent_pair first.now) (map lent_pair second.now)) }
 {
     let mut pairs = Vec::with_capacity(alloc, most)?;
     let mut left = 0;
@@ -61,7 +64,8 @@ fn is_left_next(
     right: Option<&(i128, &[u8])>,
     is_turned: bool,
 ) -> bool
-    ensures next { result ≡ is_next is_turned (option_map (λ p. lent_pair p.now) left.entry) (option_map (λ p. lent_pair p.now) right.entry) }
+    ensures next { result ≡ is_next is_turned (option_map (λ p. lent_pair p.now) left.entry)
+        (option_map (λ p. lent_pair p.now) right.entry) }
     ensures inside { IsTrue result → IsTrue (is_some left.entry) }
 {
     match (left, right) {

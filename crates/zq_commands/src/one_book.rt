@@ -20,7 +20,8 @@ use zq_words::{Bound, Limit};
 
 /// How many scores of a key are below a limit, or at it unless it is out.
 fn count_to(shard: &Shard, key: &[u8], is_out: bool, limit: Limit) -> usize
-    ensures { result ≡ count_by (λ pair. is_below_limit is_out limit pair.0) (queue_at shard.now key.now) }
+    ensures { result ≡ count_by (λ pair. is_below_limit is_out limit pair.0)
+        (queue_at shard.now key.now) }
 {
     match limit {
         Limit::Lowest => 0,
@@ -37,8 +38,8 @@ pub fn count_between(shard: &Shard, key: &[u8], min: &Bound, max: &Bound) -> usi
     below.saturating_sub(count_to(shard, key, !min.is_out, min.limit))
 }
 
-/// Makes a site's next operation of an act in a book, which is that of the member's heap, and answers whether the member
-/// stood before. Nothing has changed after an error.
+/// Makes a site's next operation of an act in a book, which is that of the member's heap, and
+/// answers whether the member stood before. Nothing has changed after an error.
 pub fn make_in(
     book: &mut Book,
     alloc: Global,
@@ -53,8 +54,11 @@ pub fn make_in(
     requires bounded { stamp ≤ LAST_COUNT }
     requires key { length key.now ≤ LONGEST }
     requires member { length member.now ≤ LONGEST }
-    ensures made { OnOk result (book.new ≡ made_in site stamp (record { key = key.now; member = member.now; act = act_of act }) book.old) }
-    ensures stood { IfOk result (λ stood. stood ≡ is_some (get book.old.state.members (key.now, member.now))) }
+    ensures made { OnOk result
+        (book.new ≡ made_in site stamp
+        (record { key = key.now; member = member.now; act = act_of act }) book.old) }
+    ensures stood { IfOk result
+        (λ stood. stood ≡ is_some (get book.old.state.members (key.now, member.now))) }
     ensures bounded { OnOk result (IsBounded book.new.heaps book.new.heap book.new.state) }
     ensures recorded { IsRecordedOn book.old book.new }
     ensures worn { IsErrOf result Stopped.Worn ↔ (is_worn site book.old ≡ true) }

@@ -14,7 +14,8 @@ use crate::stopped::Stopped;
 use std::alloc::{AllocError, Global};
 use zq_resp::{Reply, Text};
 
-/// The members of these pairs from a place on, each with its score behind it where scores are asked for.
+/// The members of these pairs from a place on, each with its score behind it where scores are asked
+/// for.
 pub fn pairs_reply(alloc: Global, pairs: &[(i128, &[u8])], from: usize, with_scores: bool) -> Reply
     ensures read { IsRead (ForReply (is_there (drop from (map lent_pair pairs.now))) 0)
         (plan.pairs_reply with_scores (drop from (map lent_pair pairs.now))) (reply_bytes result) }
@@ -32,7 +33,9 @@ fn copy_parts(
     from: usize,
     with_scores: bool,
 ) -> Result<Vec<Reply>, AllocError>
-    ensures parts { IfOk result (λ parts. map reply_bytes parts.items ≡ map bulk (flat_map (plan.parts_of_pair with_scores) (drop from (map lent_pair pairs.now)))) }
+    ensures parts { IfOk result (λ parts. map reply_bytes parts.items
+        ≡ map bulk (flat_map (plan.parts_of_pair with_scores)
+        (drop from (map lent_pair pairs.now)))) }
     ensures some { OnErr result (IsTrue (is_there (drop from (map lent_pair pairs.now)))) }
     ensures writable { IfOk result (λ parts. IsTrue (are_writable parts.items)) }
 {
@@ -43,15 +46,18 @@ fn copy_parts(
     Ok(parts)
 }
 
-/// Puts a pair behind the parts. Where there is no memory for all of it, its member may stand there.
+/// Puts a pair behind the parts. Where there is no memory for all of it, its member may stand
+/// there.
 fn push_pair(
     alloc: Global,
     parts: &mut Vec<Reply>,
     pair: &(i128, &[u8]),
     with_scores: bool,
 ) -> Result<(), AllocError>
-    ensures parts { OnOk result (map reply_bytes parts.new.items ≡ map reply_bytes parts.old.items ++ map bulk (plan.parts_of_pair with_scores (lent_pair pair.now))) }
-    ensures writable { IsTrue (are_writable parts.old.items) → IsTrue (are_writable parts.new.items) }
+    ensures parts { OnOk result (map reply_bytes parts.new.items ≡ map reply_bytes parts.old.items
+        ++ map bulk (plan.parts_of_pair with_scores (lent_pair pair.now))) }
+    ensures writable { IsTrue (are_writable parts.old.items) →
+        IsTrue (are_writable parts.new.items) }
 {
     let member = Text::from_slice(alloc, pair.1)?;
     push_part(parts, Reply::Bulk(member))?;
@@ -63,8 +69,10 @@ fn push_pair(
 
 fn push_part(parts: &mut Vec<Reply>, part: Reply) -> Result<(), AllocError>
     requires { IsTrue (is_writable part) }
-    ensures parts { OnOk result (map reply_bytes parts.new.items ≡ map reply_bytes parts.old.items ++ reply_bytes part ∷ []) }
-    ensures writable { IsTrue (are_writable parts.old.items) → IsTrue (are_writable parts.new.items) }
+    ensures parts { OnOk result (map reply_bytes parts.new.items ≡ map reply_bytes parts.old.items
+        ++ reply_bytes part ∷ []) }
+    ensures writable { IsTrue (are_writable parts.old.items) →
+        IsTrue (are_writable parts.new.items) }
 {
     parts.push(part)?;
     Ok(())

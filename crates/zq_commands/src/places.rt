@@ -14,8 +14,8 @@ use crate::books::Books;
 use crate::range_section::{HIGHEST, LOWEST, Section};
 use zq_words::{Bound, Limit};
 
-/// How many pairs of the book stand ahead of those within the bounds, from the end that is read first. A bound that is
-/// none costs no count.
+/// How many pairs of the book stand ahead of those within the bounds, from the end that is read
+/// first. A bound that is none costs no count.
 pub fn count_ahead<B: Books>(
     books: &B,
     place: usize,
@@ -26,7 +26,8 @@ pub fn count_ahead<B: Books>(
     requires lent { IsLending (B.lent books.now) }
     requires inside { place < length (B.lent books.now).books }
     ensures { (book : Book) → slice_get (B.lent books.now).books place ≡ Some book →
-        result ≡ count_by (λ pair. not (is_entered is_turned section.now.min section.now.max pair)) (queues_of (B.lent books.now).rule (book ∷ []) key.now) }
+        result ≡ count_by (λ pair. not (is_entered is_turned section.now.min section.now.max pair))
+        (queues_of (B.lent books.now).rule (book ∷ []) key.now) }
 {
     if is_turned {
         match section.max.limit {
@@ -41,8 +42,8 @@ pub fn count_ahead<B: Books>(
     }
 }
 
-/// The place of the first pair of the book that is past the bound and does not go before the one that reading starts at,
-/// which need not stand there.
+/// The place of the first pair of the book that is past the bound and does not go before the one
+/// that reading starts at, which need not stand there.
 pub fn first_place<B: Books>(
     books: &B,
     place: usize,
@@ -54,7 +55,9 @@ pub fn first_place<B: Books>(
     requires lent { IsLending (B.lent books.now) }
     requires inside { place < length (B.lent books.now).books }
     ensures { (book : Book) → slice_get (B.lent books.now).books place ≡ Some book →
-        result ≡ count_by (λ pair. not (is_reached is_turned (option_map lent_pair first.entry) section.now.min section.now.max pair)) (queues_of (B.lent books.now).rule (book ∷ []) key.now) }
+        result ≡ count_by (λ pair.
+        not (is_reached is_turned (option_map lent_pair first.entry) section.now.min
+        section.now.max pair)) (queues_of (B.lent books.now).rule (book ∷ []) key.now) }
 {
     let ahead = count_ahead(books, place, key, is_turned, section);
     let Some(pair) = first else {
@@ -75,7 +78,9 @@ pub fn count_left<B: Books>(
     requires lent { IsLending (B.lent books.now) }
     requires inside { place < length (B.lent books.now).books }
     ensures { (book : Book) → slice_get (B.lent books.now).books place ≡ Some book →
-        result ≡ count_by (is_left is_turned (option_map lent_pair first.entry) section.now.min section.now.max) (queues_of (B.lent books.now).rule (book ∷ []) key.now) }
+        result ≡ count_by (is_left is_turned
+        (option_map lent_pair first.entry) section.now.min section.now.max)
+        (queues_of (B.lent books.now).rule (book ∷ []) key.now) }
 {
     let Some(pair) = first else {
         return 0;
@@ -95,7 +100,8 @@ fn count_to<B: Books>(
     requires lent { IsLending (B.lent books.now) }
     requires inside { place < length (B.lent books.now).books }
     ensures { (book : Book) → slice_get (B.lent books.now).books place ≡ Some book →
-        result ≡ count_by (λ other. goes_before is_turned other (lent_pair pair.now)) (queues_of (B.lent books.now).rule (book ∷ []) key.now) }
+        result ≡ count_by (λ other. goes_before is_turned other (lent_pair pair.now))
+        (queues_of (B.lent books.now).rule (book ∷ []) key.now) }
 {
     if is_turned {
         books.count_after(place, key, &pair.0, pair.1)

@@ -12,7 +12,8 @@ use zq_resp::Reply;
 #[derive(Debug, Drop)]
 pub struct Ran {
     pub reply: Reply,
-    /// Memory was refused. Where it is not set, the command was cut by a number at its last value alone, or not at all.
+    /// Memory was refused. Where it is not set, the command was cut by a number at its last value
+    /// alone, or not at all.
     pub is_short: bool,
 }
 
@@ -27,7 +28,8 @@ pub trait Outcome: Sized {
     /// That of a command that answers an error where memory is refused.
     fn of_reply(given: Reply) -> Self
         ensures reply { reply result ≡ given }
-        ensures short { (k : ℕ) → reply_bytes given ≡ bytes_of (cut_error k Memory) → is_short result ≡ true };
+        ensures short { (k : ℕ) → reply_bytes given ≡ bytes_of (cut_error k Memory) →
+            is_short result ≡ true };
 
     /// That of one that may answer what it did until then.
     fn of_ran(ran: Ran) -> Self
@@ -69,7 +71,8 @@ impl Outcome for Ran {
     }
 }
 
-/// Whether it is the error for want of memory, which is the only one whose text does not begin with `E`.
+/// Whether it is the error for want of memory, which is the only one whose text does not begin with
+/// `E`.
 fn is_memory_error(reply: &Reply) -> bool
     ensures { (k : ℕ) → reply_bytes reply.now ≡ bytes_of (cut_error k Memory) → result ≡ true }
 {

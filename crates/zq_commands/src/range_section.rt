@@ -1,5 +1,5 @@
-//! The part of a queue that a range takes: of the pairs within two bounds, those from one place of theirs on and
-//! before another.
+//! The part of a queue that a range takes: of the pairs within two bounds, those from one place of
+//! theirs on and before another.
 
 ghost use Rattle.std.specs.Prelude.{filter, length, pos, slice_range, ◌+ℤ◌, ◌<◌, ◌^◌, ◌≡◌, ◌≤◌};
 ghost use Rattle.zq_model.specs.Moves.{Queue};
@@ -32,7 +32,9 @@ impl Section {
     pub fn of_range(range: &Range, size: u64) -> Section
         requires { size < 2 ^ 63 }
         ensures { (queue : Queue) → length queue ≡ size →
-            ranges.ranged range.now queue ≡ slice_range (filter (ranges.is_within result.min result.max) queue) result.from result.to }
+            ranges.ranged range.now queue
+            ≡ slice_range (filter (ranges.is_within result.min result.max) queue) result.from
+            result.to }
     {
         match *range {
             Range::ByPlace { start, stop } => Section {
@@ -51,7 +53,8 @@ impl Section {
 
 /// The places of a list of at most this size that a window takes.
 fn ends_of(window: Option<Window>, size: usize) -> (usize, usize)
-    ensures { (queue : Queue) → length queue ≤ size → ranges.limited window queue ≡ slice_range queue result.0 result.1 }
+    ensures { (queue : Queue) → length queue ≤ size →
+        ranges.limited window queue ≡ slice_range queue result.0 result.1 }
 {
     let Some(window) = window else {
         return (0, size);

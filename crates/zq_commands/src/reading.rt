@@ -25,7 +25,9 @@ pub fn read_score<B: Books>(books: &B, key: &[u8], member: &[u8]) -> Reply
     requires lent { IsLending (B.lent books.now) }
     requires home { HasBook key.now member.now (B.lent books.now) }
     requires key { length key.now ≤ LONGEST }
-    ensures bytes { reply_bytes result ≡ plan.bytes_of (plan.score_reply (score_in (queues_in (B.lent books.now) key.now) member.now)) }
+    ensures bytes { reply_bytes result
+        ≡ plan.bytes_of (plan.score_reply
+        (score_in (queues_in (B.lent books.now) key.now) member.now)) }
     ensures writable { IsTrue (is_writable result) }
 {
     score_reply(score_of(books, key, member))
@@ -44,11 +46,13 @@ pub fn read_count<B: Books>(books: &B, key: &[u8]) -> Reply
     }
 }
 
-/// ZCOUNT: the number of pairs within two bounds. One that no reply holds is answered as want of memory is.
+/// ZCOUNT: the number of pairs within two bounds. One that no reply holds is answered as want of
+/// memory is.
 pub fn read_within<B: Books>(books: &B, key: &[u8], min: &Bound, max: &Bound) -> Reply
     requires { IsLending (B.lent books.now) }
     ensures read { IsRead (ForReply false (length (queues_in (B.lent books.now) key.now)))
-        (plan.count_reply (count_by (is_within min.now max.now) (queues_in (B.lent books.now) key.now))) (reply_bytes result) }
+        (plan.count_reply (count_by (is_within min.now max.now)
+        (queues_in (B.lent books.now) key.now))) (reply_bytes result) }
     ensures writable { IsTrue (is_writable result) }
 {
     match total_within(books, key, min, max) {
@@ -63,7 +67,8 @@ pub fn read_rank<B: Books>(books: &B, key: &[u8], member: &[u8]) -> Reply
     requires home { HasBook key.now member.now (B.lent books.now) }
     requires key { length key.now ≤ LONGEST }
     ensures read { IsRead (ForReply false (length (queues_in (B.lent books.now) key.now)))
-        (plan.place_reply (rank_in (queues_in (B.lent books.now) key.now) member.now)) (reply_bytes result) }
+        (plan.place_reply (rank_in (queues_in (B.lent books.now) key.now) member.now))
+        (reply_bytes result) }
     ensures writable { IsTrue (is_writable result) }
 {
     let Some(score) = score_of(books, key, member) else {
@@ -81,7 +86,8 @@ pub fn read_turned_rank<B: Books>(books: &B, key: &[u8], member: &[u8]) -> Reply
     requires home { HasBook key.now member.now (B.lent books.now) }
     requires key { length key.now ≤ LONGEST }
     ensures read { IsRead (ForReply false (length (queues_in (B.lent books.now) key.now)))
-        (plan.place_reply (turned_rank_in (queues_in (B.lent books.now) key.now) member.now)) (reply_bytes result) }
+        (plan.place_reply (turned_rank_in (queues_in (B.lent books.now) key.now) member.now))
+        (reply_bytes result) }
     ensures writable { IsTrue (is_writable result) }
 {
     let Some(score) = score_of(books, key, member) else {

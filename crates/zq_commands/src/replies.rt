@@ -47,7 +47,8 @@ pub fn score_reply(score: Option<i128>) -> Reply
 /// The text, and an error where there was no memory for it.
 fn text_reply(text: Result<Text, AllocError>) -> Reply
     ensures text { IfOk text (λ text. reply_bytes result ≡ plan.bytes_of (plan.Bulk text.items)) }
-    ensures refused { OnErr text (reply_bytes result ≡ plan.bytes_of (plan.Error (cut_text Memory) (Some 0))) }
+    ensures refused { OnErr text
+        (reply_bytes result ≡ plan.bytes_of (plan.Error (cut_text Memory) (Some 0))) }
     ensures writable { IsTrue (is_writable result) }
 {
     match text {
@@ -67,7 +68,8 @@ pub fn array_reply(parts: Vec<Reply>) -> Reply
 
 /// The error of a command of which the first `done` moves stand.
 pub fn cut_reply(cut: Stopped, done: u64) -> Reply
-    ensures bytes { reply_bytes result ≡ plan.bytes_of (plan.Error (cut_text (want_of cut)) (Some done)) }
+    ensures bytes { reply_bytes result
+        ≡ plan.bytes_of (plan.Error (cut_text (want_of cut)) (Some done)) }
     ensures writable { IsTrue (is_writable result) }
 {
     let text = match cut {

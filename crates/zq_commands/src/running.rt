@@ -28,9 +28,10 @@ use zq_dots::SiteNo;
 use zq_resp::Reply;
 use zq_words::{Command, Kind};
 
-/// Runs a command over the books that are lent, as a site and at a stamp that is no less than theirs: it makes what the
-/// command plans over their queues, and gives the reply. The heap of each member that the command names is lent. Where a
-/// book's number is at its last value, or memory is refused, the moves before stand, and the reply says how many.
+/// Runs a command over the books that are lent, as a site and at a stamp that is no less than
+/// theirs: it makes what the command plans over their queues, and gives the reply. The heap of each
+/// member that the command names is lent. Where a book's number is at its last value, or memory is
+/// refused, the moves before stand, and the reply says how many.
 pub fn run<B: Books>(
     books: &mut B,
     alloc: Global,
@@ -41,10 +42,12 @@ pub fn run<B: Books>(
     requires lent { IsLending (B.lent books.old) }
     requires dated { IsDated stamp (B.lent books.old) }
     requires homes { HasBooks command.now (B.lent books.old) }
-    ensures ran { IsRun (B.lent books.old).rule site stamp command.now (B.lent books.old).books (B.lent books.new).books (reply_bytes result) }
+    ensures ran { IsRun (B.lent books.old).rule site stamp command.now (B.lent books.old).books
+        (B.lent books.new).books (reply_bytes result) }
     ensures rule { (B.lent books.new).rule ≡ (B.lent books.old).rule }
     ensures heaps { (B.lent books.new).heaps ≡ (B.lent books.old).heaps }
-    ensures told { IsRunOver site stamp command.now (B.lent books.old) (B.lent books.new) (reply_bytes result) true }
+    ensures told { IsRunOver site stamp command.now (B.lent books.old) (B.lent books.new)
+        (reply_bytes result) true }
     ensures lent { IsLending (B.lent books.new) }
     ensures dated { IsDated stamp (B.lent books.new) }
     ensures keeps { B.keeps books.old books.new }
@@ -55,8 +58,8 @@ pub fn run<B: Books>(
     run_kind(books, alloc, site, stamp, kind)
 }
 
-/// The same, with whether memory was refused. What it made is told in the order of its moves, where the holder of the
-/// books keeps a list.
+/// The same, with whether memory was refused. What it made is told in the order of its moves, where
+/// the holder of the books keeps a list.
 pub fn run_told<B: Books>(
     books: &mut B,
     alloc: Global,
@@ -67,7 +70,8 @@ pub fn run_told<B: Books>(
     requires lent { IsLending (B.lent books.old) }
     requires dated { IsDated stamp (B.lent books.old) }
     requires homes { HasBooks command.now (B.lent books.old) }
-    ensures ran { IsRunOver site stamp command.now (B.lent books.old) (B.lent books.new) (reply_bytes result.reply) result.is_short }
+    ensures ran { IsRunOver site stamp command.now (B.lent books.old) (B.lent books.new)
+        (reply_bytes result.reply) result.is_short }
     ensures lent { IsLending (B.lent books.new) }
     ensures dated { IsDated stamp (B.lent books.new) }
     ensures keeps { B.keeps books.old books.new }
@@ -115,7 +119,8 @@ fn reply_to<B: Books>(books: &mut B, alloc: Global, site: SiteNo, stamp: u64, ki
     requires homes { HasBooks (shown kind.now) (B.lent books.old) }
     requires limits { IsWithinLimits (shown kind.now) }
     requires other { popped_of (shown kind.now) ≡ None }
-    ensures ran { IsRunOver site stamp (shown kind.now) (B.lent books.old) (B.lent books.new) (reply_bytes result) true }
+    ensures ran { IsRunOver site stamp (shown kind.now) (B.lent books.old) (B.lent books.new)
+        (reply_bytes result) true }
     ensures lent { IsLending (B.lent books.new) }
     ensures dated { IsDated stamp (B.lent books.new) }
     ensures keeps { B.keeps books.old books.new }
@@ -146,7 +151,9 @@ pub fn read_told<B: Books>(books: &B, alloc: Global, command: &Command) -> Ran
     requires lent { IsLending (B.lent books.now) }
     requires homes { HasBooks command.now (B.lent books.now) }
     requires reads { IsTrue (is_reading command.now) }
-    ensures read { result.is_short ≡ false → reply_bytes result.reply ≡ bytes_of (plan_of command.now (queues_in (B.lent books.now))).reply }
+    ensures read { result.is_short ≡ false →
+        reply_bytes result.reply
+        ≡ bytes_of (plan_of command.now (queues_in (B.lent books.now))).reply }
     ensures writable { IsTrue (is_writable result.reply) }
 {
     Ran::of_reply(read(books, alloc, command.kind()))

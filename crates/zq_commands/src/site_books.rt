@@ -24,7 +24,8 @@ use zq_resp::Reply;
 use zq_shard::{Shard, Taken};
 use zq_words::Command;
 
-/// The books of all heaps of a site, 1 to 16, each at the place of its heap's number, and all of one rule.
+/// The books of all heaps of a site, 1 to 16, each at the place of its heap's number, and all of
+/// one rule.
 #[derive(Drop)]
 pub struct SiteBooks {
     pub(crate) books: Vec<Book>,
@@ -45,7 +46,8 @@ impl Model for SiteBooks {
 }
 
 impl SiteBooks {
-    /// The books of so many heaps of a site that has done nothing. Keys and members are placed by the hasher.
+    /// The books of so many heaps of a site that has done nothing. Keys and members are placed by
+    /// the hasher.
     pub fn new(
         alloc: Global,
         heaps: u8,
@@ -54,7 +56,8 @@ impl SiteBooks {
     ) -> Result<SiteBooks, AllocError>
         requires heaps { IsHeaps heaps }
         ensures number { IfOk result (λ site. length site ≡ heaps) }
-        ensures empty { IfOk result (λ site. (heap : ℕ) (book : Books) → slice_get site heap ≡ Some book → book ≡ empty_book heaps (rule_of rule) heap) }
+        ensures empty { IfOk result (λ site. (heap : ℕ) (book : Books) →
+            slice_get site heap ≡ Some book → book ≡ empty_book heaps (rule_of rule) heap) }
     {
         let mut books = Vec::new(alloc);
         for heap in 0..heaps {
@@ -91,12 +94,13 @@ impl SiteBooks {
         greatest_stamp(&self.books)
     }
 
-    /// Runs a command, as a site and at a stamp that is no less than the books': it makes what the command plans over
-    /// their queues, and gives the reply. Where a book's number is at its last value, or memory is refused, the moves
-    /// before stand, and the reply says how many.
+    /// Runs a command, as a site and at a stamp that is no less than the books': it makes what the
+    /// command plans over their queues, and gives the reply. Where a book's number is at its last
+    /// value, or memory is refused, the moves before stand, and the reply says how many.
     pub fn run(&mut self, alloc: Global, site: SiteNo, stamp: u64, command: &Command) -> Reply
         requires dated { IsDated stamp (lending_of self.old) }
-        ensures ran { IsRun (rule_in self.old) site stamp command.now self.old self.new (reply_bytes result) }
+        ensures ran { IsRun (rule_in self.old) site stamp command.now self.old self.new
+            (reply_bytes result) }
         ensures rule { rule_in self.new ≡ rule_in self.old }
         ensures worked { AreRecordedOn self.old self.new }
         ensures dated { IsDated stamp (lending_of self.new) }
@@ -105,17 +109,19 @@ impl SiteBooks {
         run(&mut self.books, alloc, site, stamp, command)
     }
 
-    /// Takes an operation of another site in the book of its heap, as the book does. The stamp is no less than the
-    /// books'.
+    /// Takes an operation of another site in the book of its heap, as the book does. The stamp is
+    /// no less than the books'.
     ///
-    /// `WrongHeap` where there is no such book, or the operation's number of heaps or its member's hash is another. What
-    /// is new is refused with `Worn` where the book's count is at its last value, else with `NoMemory` where a growth
-    /// was refused. After each nothing has changed.
+    /// `WrongHeap` where there is no such book, or the operation's number of heaps or its member's
+    /// hash is another. What is new is refused with `Worn` where the book's count is at its last
+    /// value, else with `NoMemory` where a growth was refused. After each nothing has changed.
     pub fn take(&mut self, alloc: Global, stamp: u64, op: &Op) -> Result<Taken, TakeFault>
         requires dated { IsDated stamp (lending_of self.old) }
-        ensures absent { length self.old ≤ op.now.operation.heap → IsErrOf result TakeFault.WrongHeap }
+        ensures absent { length self.old ≤ op.now.operation.heap →
+            IsErrOf result TakeFault.WrongHeap }
         ensures taken { (book : Books) → slice_get self.old op.now.operation.heap ≡ Some book →
-            (new : Books) × IsTaken result stamp op.now book new × (self.new ≡ set self.old op.now.operation.heap new) }
+            (new : Books) × IsTaken result stamp op.now book new
+            × (self.new ≡ set self.old op.now.operation.heap new) }
         ensures refused { OnErr result (self.new ≡ self.old) }
         ensures dated { IsDated stamp (lending_of self.new) }
     {
@@ -127,17 +133,18 @@ impl SiteBooks {
         }
     }
 
-    /// Takes all that another site's heap has in the book of that heap, as the book does. The stamp is no less than the
-    /// books'.
+    /// Takes all that another site's heap has in the book of that heap, as the book does. The stamp
+    /// is no less than the books'.
     ///
-    /// `WrongHeap` where there is no such book, or the number of heaps is another, else `WrongRule` where the rule is,
-    /// else `Worn` where the book's count is at its last value, else `NoMemory` where a growth was refused. After each
-    /// nothing has changed.
+    /// `WrongHeap` where there is no such book, or the number of heaps is another, else `WrongRule`
+    /// where the rule is, else `Worn` where the book's count is at its last value, else `NoMemory`
+    /// where a growth was refused. After each nothing has changed.
     pub fn merge(&mut self, alloc: Global, stamp: u64, other: &Shard) -> Result<(), MergeFault>
         requires dated { IsDated stamp (lending_of self.old) }
         ensures absent { length self.old ≤ other.now.heap → IsErrOf result MergeFault.WrongHeap }
         ensures merged { (book : Books) → slice_get self.old other.now.heap ≡ Some book →
-            (new : Books) × IsMerged result stamp other.now book new × (self.new ≡ set self.old other.now.heap new) }
+            (new : Books) × IsMerged result stamp other.now book new
+            × (self.new ≡ set self.old other.now.heap new) }
         ensures refused { OnErr result (self.new ≡ self.old) }
         ensures dated { IsDated stamp (lending_of self.new) }
     {
@@ -154,7 +161,8 @@ impl SiteBooks {
 fn greatest_stamp(books: &[Book]) -> u64
     requires { 0 < length books.now }
     ensures bounded { result ≤ LAST_STAMP }
-    ensures above { (place : ℕ) (book : Books) → slice_get books.now place ≡ Some book → book.stamp ≤ result }
+    ensures above { (place : ℕ) (book : Books) → slice_get books.now place ≡ Some book →
+        book.stamp ≤ result }
     ensures among { (book : Books) × IsIn book books.now × (book.stamp ≡ result) }
 {
     let mut greatest = books[0].stamp();

@@ -30,7 +30,9 @@ pub fn total_members<B: Books>(books: &B, key: &[u8]) -> Option<u64>
 /// The number of pairs of a key before this one, and `None` where an `i64` does not hold it.
 pub fn total_before<B: Books>(books: &B, key: &[u8], score: &i128, member: &[u8]) -> Option<u64>
     requires { IsLending (B.lent books.now) }
-    ensures total { IfSome result (λ total. total ≡ count_by (λ pair. is_before pair (score.now, member.now)) (queues_in (B.lent books.now) key.now)) }
+    ensures total { IfSome result
+        (λ total. total ≡ count_by (λ pair. is_before pair (score.now, member.now))
+        (queues_in (B.lent books.now) key.now)) }
     ensures past { result ≡ None → UNCOUNTED ≤ length (queues_in (B.lent books.now) key.now) }
     ensures small { IfSome result (λ total. total < 2 ^ 63) }
 {
@@ -44,7 +46,9 @@ pub fn total_before<B: Books>(books: &B, key: &[u8], score: &i128, member: &[u8]
 /// The number of pairs of a key after this one, and `None` where an `i64` does not hold it.
 pub fn total_after<B: Books>(books: &B, key: &[u8], score: &i128, member: &[u8]) -> Option<u64>
     requires { IsLending (B.lent books.now) }
-    ensures total { IfSome result (λ total. total ≡ count_by (λ pair. is_before (score.now, member.now) pair) (queues_in (B.lent books.now) key.now)) }
+    ensures total { IfSome result
+        (λ total. total ≡ count_by (λ pair. is_before (score.now, member.now) pair)
+        (queues_in (B.lent books.now) key.now)) }
     ensures past { result ≡ None → UNCOUNTED ≤ length (queues_in (B.lent books.now) key.now) }
     ensures small { IfSome result (λ total. total < 2 ^ 63) }
 {
@@ -55,8 +59,8 @@ pub fn total_after<B: Books>(books: &B, key: &[u8], score: &i128, member: &[u8])
     Some(total)
 }
 
-/// The number of pairs of a key that a section leaves out which starts at this pair, and `None` where an `i64` does not
-/// hold it.
+/// The number of pairs of a key that a section leaves out which starts at this pair, and `None`
+/// where an `i64` does not hold it.
 pub fn total_left<B: Books>(
     books: &B,
     key: &[u8],
@@ -65,7 +69,10 @@ pub fn total_left<B: Books>(
     first: Option<(i128, &[u8])>,
 ) -> Option<u64>
     requires { IsLending (B.lent books.now) }
-    ensures total { IfSome result (λ total. total ≡ count_by (is_left is_turned (option_map lent_pair first.entry) section.now.min section.now.max) (queues_in (B.lent books.now) key.now)) }
+    ensures total { IfSome result
+        (λ total. total ≡ count_by
+        (is_left is_turned (option_map lent_pair first.entry) section.now.min section.now.max)
+        (queues_in (B.lent books.now) key.now)) }
     ensures small { IfSome result (λ total. total < 2 ^ 63) }
 {
     let mut total = 0;
@@ -79,7 +86,9 @@ pub fn total_left<B: Books>(
 /// The number of pairs of a key within these bounds, and `None` where an `i64` does not hold it.
 pub fn total_within<B: Books>(books: &B, key: &[u8], min: &Bound, max: &Bound) -> Option<u64>
     requires { IsLending (B.lent books.now) }
-    ensures total { IfSome result (λ total. total ≡ count_by (is_within min.now max.now) (queues_in (B.lent books.now) key.now)) }
+    ensures total { IfSome result
+        (λ total. total ≡ count_by (is_within min.now max.now)
+        (queues_in (B.lent books.now) key.now)) }
     ensures past { result ≡ None → UNCOUNTED ≤ length (queues_in (B.lent books.now) key.now) }
     ensures small { IfSome result (λ total. total < 2 ^ 63) }
 {

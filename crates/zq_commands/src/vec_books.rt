@@ -105,7 +105,8 @@ fn place_of(books: &[Book], heap: u8) -> usize
     ensures inside { result < length books.now }
     ensures heap { (book : Books) → slice_get books.now result ≡ Some book → book.heap ≡ heap }
 {
-    // Where all heaps of a site are there, each book stands at its heap's number, and nothing is searched.
+    // Where all heaps of a site are there, each book stands at its heap's number, and nothing is
+    // searched.
     let number = heap as usize;
     if number < books.len() && books[number].shard().heap() == heap {
         return number;
@@ -122,7 +123,8 @@ fn place_of(books: &[Book], heap: u8) -> usize
 fn heap_at(books: &[Book], place: usize) -> &Shard
     requires lent { IsLending (lending_of books.now) }
     requires inside { place < length books.now }
-    ensures { (book : Books) → slice_get books.now place ≡ Some book → result.now ≡ record (state_of book) { rule = rule_in books.now } }
+    ensures { (book : Books) → slice_get books.now place ≡ Some book →
+        result.now ≡ record (state_of book) { rule = rule_in books.now } }
 {
     books[place].shard()
 }

@@ -23,8 +23,8 @@ use zq_dots::{Act, Score, SiteNo};
 use zq_resp::Reply;
 use zq_words::{Flags, Pair};
 
-/// Puts each pair that the flags let in turn, and answers how many members were added, with CH also how many scores
-/// changed.
+/// Puts each pair that the flags let in turn, and answers how many members were added, with CH also
+/// how many scores changed.
 pub fn put_pairs<B: Books>(
     books: &mut B,
     alloc: Global,
@@ -36,11 +36,14 @@ pub fn put_pairs<B: Books>(
 ) -> Reply
     requires lent { IsLending (B.lent books.old) }
     requires dated { IsDated stamp (B.lent books.old) }
-    requires homes { All (λ pair. HasBook key.now pair.1 (B.lent books.old)) (map pair_shown pairs.now) }
+    requires homes { All (λ pair. HasBook key.now pair.1 (B.lent books.old))
+        (map pair_shown pairs.now) }
     requires key { length key.now ≤ LONGEST }
     requires pairs { All IsPair (map pair_shown pairs.now) }
     requires few { length pairs.now ≤ 65536 }
-    ensures ran { RunsOver site stamp ForMoves (in_turn (zadd_part key.now flags) (map pair_shown pairs.now) (queues_in (B.lent books.old))) cut_error
+    ensures ran { RunsOver site stamp ForMoves
+        (in_turn (zadd_part key.now flags) (map pair_shown pairs.now)
+        (queues_in (B.lent books.old))) cut_error
         (B.lent books.old) (B.lent books.new) (reply_bytes result) }
     ensures lent { IsLending (B.lent books.new) }
     ensures dated { IsDated stamp (B.lent books.new) }
@@ -61,7 +64,8 @@ pub fn put_pairs<B: Books>(
     count_reply(counted)
 }
 
-/// Puts a pair, if the flags let it. Where there are no flags, what the member had is not looked up before.
+/// Puts a pair, if the flags let it. Where there are no flags, what the member had is not looked up
+/// before.
 fn put_one<B: Books>(
     books: &mut B,
     alloc: Global,
@@ -76,17 +80,25 @@ fn put_one<B: Books>(
     requires home { HasBook key.now pair.now.member.now (B.lent books.old) }
     requires key { length key.now ≤ LONGEST }
     requires pair { IsPair (pair_shown pair.now) }
-    ensures steps { IfOk result (λ made. Steps site stamp (zadd_part key.now flags (queues_in (B.lent books.old)) (pair_shown pair.now)) (B.lent books.old) (B.lent books.new) made) }
+    ensures steps { IfOk result
+        (λ made. Steps site stamp
+        (zadd_part key.now flags (queues_in (B.lent books.old)) (pair_shown pair.now))
+        (B.lent books.old) (B.lent books.new) made) }
     ensures most { IfOk result (λ made. (made.moves ≤ 1)) }
     ensures one { IfOk result (λ made. (made.counted ≤ 1)) }
     ensures refused { OnErr result (B.lent books.new ≡ B.lent books.old) }
-    ensures there { OnErr result ((zadd_part key.now flags (queues_in (B.lent books.old)) (pair_shown pair.now)).moves ≡ one key.now pair.now.member.now (Putting pair.now.score)) }
-    ensures worn { IsErrOf result Stopped.Worn → IsWhy site (Some (record { key = key.now; member = pair.now.member.now; act = Putting pair.now.score })) (B.lent books.old).books Number }
-    ensures memory { IsErrOf result Stopped.NoMemory → IsWhy site (Some (record { key = key.now; member = pair.now.member.now; act = Putting pair.now.score })) (B.lent books.old).books Number → ⊥ }
+    ensures there { OnErr result
+        ((zadd_part key.now flags (queues_in (B.lent books.old)) (pair_shown pair.now)).moves
+        ≡ one key.now pair.now.member.now (Putting pair.now.score)) }
+    ensures worn { IsErrOf result Stopped.Worn →
+        IsWhy site (Some (record { key = key.now; member = pair.now.member.now; act = Putting pair.now.score })) (B.lent books.old).books Number }
+    ensures memory { IsErrOf result Stopped.NoMemory →
+        IsWhy site (Some (record { key = key.now; member = pair.now.member.now; act = Putting pair.now.score })) (B.lent books.old).books Number → ⊥ }
     ensures lent { IsLending (B.lent books.new) }
     ensures dated { IsDated stamp (B.lent books.new) }
     ensures keeps { B.keeps books.old books.new }
-    ensures homes { (k m : List ℕ) → HasBook k m (B.lent books.old) → HasBook k m (B.lent books.new) }
+    ensures homes { (k m : List ℕ) → HasBook k m (B.lent books.old) →
+        HasBook k m (B.lent books.new) }
 {
     let Some(score) = Score::new(pair.score) else {
         unreachable!();

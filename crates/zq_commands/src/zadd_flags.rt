@@ -18,11 +18,13 @@ pub fn is_let(flags: Flags, old: Option<i128>, new: &i128) -> bool
     }
 }
 
-/// Whether there are no flags. A member may then have any score, whether it was there or not, and new members alone are counted.
+/// Whether there are no flags. A member may then have any score, whether it was there or not, and
+/// new members alone are counted.
 pub fn are_none(flags: Flags) -> bool
     ensures none { result ≡ not (flags.nx || flags.xx || flags.gt || flags.lt || flags.ch) }
     ensures lets { result ≡ true → (old : Option ℤ) (new : ℤ) → plan.lets flags old new ≡ true }
-    ensures counts { result ≡ true → (old : Option ℤ) (new : ℤ) → plan.counts flags old new ≡ not (is_some old) }
+    ensures counts { result ≡ true → (old : Option ℤ) (new : ℤ) →
+        plan.counts flags old new ≡ not (is_some old) }
 {
     !(flags.nx || flags.xx || flags.gt || flags.lt || flags.ch)
 }

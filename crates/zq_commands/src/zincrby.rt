@@ -37,7 +37,10 @@ pub fn raise<B: Books>(
     requires home { HasBook key.now pair.now.member.now (B.lent books.old) }
     requires key { length key.now ≤ LONGEST }
     requires pair { IsPair (pair_shown pair.now) }
-    ensures ran { RunsOver site stamp ForMoves (plan.raise key.now pair.now.member.now (score_in (queues_in (B.lent books.old) key.now) pair.now.member.now) pair.now.score) cut_error
+    ensures ran { RunsOver site stamp ForMoves
+        (plan.raise key.now pair.now.member.now
+        (score_in (queues_in (B.lent books.old) key.now) pair.now.member.now) pair.now.score)
+        cut_error
         (B.lent books.old) (B.lent books.new) (reply_bytes result) }
     ensures lent { IsLending (B.lent books.new) }
     ensures dated { IsDated stamp (B.lent books.new) }
@@ -48,7 +51,8 @@ pub fn raise<B: Books>(
     raise_from(books, alloc, site, stamp, key, pair, found)
 }
 
-/// The same where the flags let the member have the sum, and else nothing, which the null bulk says.
+/// The same where the flags let the member have the sum, and else nothing, which the null bulk
+/// says.
 pub fn raise_if<B: Books>(
     books: &mut B,
     alloc: Global,
@@ -63,7 +67,10 @@ pub fn raise_if<B: Books>(
     requires home { HasBook key.now pair.now.member.now (B.lent books.old) }
     requires key { length key.now ≤ LONGEST }
     requires pair { IsPair (pair_shown pair.now) }
-    ensures ran { RunsOver site stamp ForMoves (plan.raise_if flags key.now pair.now.member.now (score_in (queues_in (B.lent books.old) key.now) pair.now.member.now) pair.now.score) cut_error
+    ensures ran { RunsOver site stamp ForMoves
+        (plan.raise_if flags key.now pair.now.member.now
+        (score_in (queues_in (B.lent books.old) key.now) pair.now.member.now) pair.now.score)
+        cut_error
         (B.lent books.old) (B.lent books.new) (reply_bytes result) }
     ensures lent { IsLending (B.lent books.new) }
     ensures dated { IsDated stamp (B.lent books.new) }
@@ -93,7 +100,9 @@ fn raise_from<B: Books>(
     requires key { length key.now ≤ LONGEST }
     requires pair { IsPair (pair_shown pair.now) }
     requires wide { IfSome found.score IsWide }
-    ensures ran { RunsOver site stamp ForMoves (plan.raise key.now pair.now.member.now found.score pair.now.score) cut_error (B.lent books.old) (B.lent books.new) (reply_bytes result) }
+    ensures ran { RunsOver site stamp ForMoves
+        (plan.raise key.now pair.now.member.now found.score pair.now.score) cut_error
+        (B.lent books.old) (B.lent books.new) (reply_bytes result) }
     ensures lent { IsLending (B.lent books.new) }
     ensures dated { IsDated stamp (B.lent books.new) }
     ensures keeps { B.keeps books.old books.new }
@@ -127,10 +136,14 @@ fn raise_member<B: Books>(
     requires home { IsHomeAt key.now pair.now.member.now found.place (B.lent books.old) }
     requires key { length key.now ≤ LONGEST }
     requires pair { IsPair (pair_shown pair.now) }
-    ensures made { OnOk result (B.lent books.new ≡ lent_after site stamp (record { key = key.now; member = pair.now.member.now; act = plan.raising found.score pair.now.score }) (B.lent books.old)) }
+    ensures made { OnOk result
+        (B.lent books.new ≡ lent_after site stamp
+        (record { key = key.now; member = pair.now.member.now; act = plan.raising found.score pair.now.score }) (B.lent books.old)) }
     ensures refused { OnErr result (B.lent books.new ≡ B.lent books.old) }
-    ensures worn { IsErrOf result Stopped.Worn → IsWhy site (Some (record { key = key.now; member = pair.now.member.now; act = plan.raising found.score pair.now.score })) (B.lent books.old).books Number }
-    ensures memory { IsErrOf result Stopped.NoMemory → IsWhy site (Some (record { key = key.now; member = pair.now.member.now; act = plan.raising found.score pair.now.score })) (B.lent books.old).books Number → ⊥ }
+    ensures worn { IsErrOf result Stopped.Worn →
+        IsWhy site (Some (record { key = key.now; member = pair.now.member.now; act = plan.raising found.score pair.now.score })) (B.lent books.old).books Number }
+    ensures memory { IsErrOf result Stopped.NoMemory →
+        IsWhy site (Some (record { key = key.now; member = pair.now.member.now; act = plan.raising found.score pair.now.score })) (B.lent books.old).books Number → ⊥ }
     ensures lent { IsLending (B.lent books.new) }
     ensures dated { IsDated stamp (B.lent books.new) }
     ensures keeps { B.keeps books.old books.new }
@@ -171,7 +184,8 @@ fn is_sum_in_range(old: Option<i128>, pair: &Pair) -> bool
     -i128::from(GREATEST) <= sum && sum <= i128::from(GREATEST)
 }
 
-/// Whether the flags let the member have the sum, which is greater than its score where the increment is above 0.
+/// Whether the flags let the member have the sum, which is greater than its score where the
+/// increment is above 0.
 fn is_sum_let(flags: Flags, old: Option<i128>, pair: &Pair) -> bool
     ensures { result ≡ plan.lets flags old (plan.sum_of old pair.now.score) }
 {

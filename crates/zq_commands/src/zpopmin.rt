@@ -21,8 +21,9 @@ use std::alloc::Global;
 use zq_dots::SiteNo;
 use zq_resp::Reply;
 
-/// Drops the first so many pairs of a key, one after the other, and answers them with their scores. Where one is
-/// refused, it answers those before, and an error where there are none. It is short where memory was refused.
+/// Drops the first so many pairs of a key, one after the other, and answers them with their scores.
+/// Where one is refused, it answers those before, and an error where there are none. It is short
+/// where memory was refused.
 pub fn pop<B: Books>(
     books: &mut B,
     alloc: Global,
@@ -34,7 +35,9 @@ pub fn pop<B: Books>(
     requires lent { IsLending (B.lent books.old) }
     requires dated { IsDated stamp (B.lent books.old) }
     requires key { length key.now ≤ LONGEST }
-    ensures ran { EndsOver site stamp ForCopies (plan.pop key.now (count) (queues_in (B.lent books.old))) (cut_pop (Some (key.now, count)) (queues_in (B.lent books.old)))
+    ensures ran { EndsOver site stamp ForCopies
+        (plan.pop key.now (count) (queues_in (B.lent books.old)))
+        (cut_pop (Some (key.now, count)) (queues_in (B.lent books.old)))
         (B.lent books.old) (B.lent books.new) (reply_bytes result.reply) result.is_short }
     ensures lent { IsLending (B.lent books.new) }
     ensures dated { IsDated stamp (B.lent books.new) }
@@ -66,7 +69,8 @@ fn pop_first<B: Books>(books: &mut B, alloc: Global, site: SiteNo, stamp: u64, k
     requires lent { IsLending (B.lent books.old) }
     requires dated { IsDated stamp (B.lent books.old) }
     requires key { length key.now ≤ LONGEST }
-    ensures ran { EndsOver site stamp ForCopies (plan.pop key.now 1 (queues_in (B.lent books.old))) (cut_pop (Some (key.now, 1)) (queues_in (B.lent books.old)))
+    ensures ran { EndsOver site stamp ForCopies (plan.pop key.now 1 (queues_in (B.lent books.old)))
+        (cut_pop (Some (key.now, 1)) (queues_in (B.lent books.old)))
         (B.lent books.old) (B.lent books.new) (reply_bytes result.reply) result.is_short }
     ensures lent { IsLending (B.lent books.new) }
     ensures dated { IsDated stamp (B.lent books.new) }
@@ -94,7 +98,8 @@ fn pop_first<B: Books>(books: &mut B, alloc: Global, site: SiteNo, stamp: u64, k
 
 /// The error of a pop that dropped nothing.
 fn refused(cut: Stopped) -> Ran
-    ensures bytes { reply_bytes result.reply ≡ replies.bytes_of (replies.Error (cut_text (want_of cut)) (Some 0)) }
+    ensures bytes { reply_bytes result.reply
+        ≡ replies.bytes_of (replies.Error (cut_text (want_of cut)) (Some 0)) }
     ensures writable { IsTrue (is_writable result.reply) }
     ensures short { want_of cut ≡ Memory → result.is_short ≡ true }
 {
@@ -121,7 +126,8 @@ fn whole(parts: Vec<Reply>) -> Ran
 fn cut_pop_reply(parts: Vec<Reply>, done: u64, cut: Stopped) -> Reply
     requires { IsTrue (are_writable parts.items) }
     ensures some { 0 < done → reply_bytes result ≡ array_bytes (map reply_bytes parts.items) }
-    ensures none { done ≡ 0 → reply_bytes result ≡ replies.bytes_of (replies.Error (cut_text (want_of cut)) (Some 0)) }
+    ensures none { done ≡ 0 → reply_bytes result
+        ≡ replies.bytes_of (replies.Error (cut_text (want_of cut)) (Some 0)) }
     ensures writable { IsTrue (is_writable result) }
 {
     if done == 0 {
@@ -131,7 +137,8 @@ fn cut_pop_reply(parts: Vec<Reply>, done: u64, cut: Stopped) -> Reply
     array_reply(parts)
 }
 
-/// Drops the first pair of a key, if there is one, with its member and its score behind the parts. There is room for them first.
+/// Drops the first pair of a key, if there is one, with its member and its score behind the parts.
+/// There is room for them first.
 fn pop_one<B: Books>(
     books: &mut B,
     alloc: Global,
@@ -143,18 +150,23 @@ fn pop_one<B: Books>(
     requires lent { IsLending (B.lent books.old) }
     requires dated { IsDated stamp (B.lent books.old) }
     requires key { length key.now ≤ LONGEST }
-    ensures popped { result ≡ Ok true → PopsFirst site stamp key.now (B.lent books.old) (B.lent books.new) (map reply_bytes parts.old.items) (map reply_bytes parts.new.items) }
+    ensures popped { result ≡ Ok true →
+        PopsFirst site stamp key.now (B.lent books.old) (B.lent books.new)
+        (map reply_bytes parts.old.items) (map reply_bytes parts.new.items) }
     ensures empty { result ≡ Ok false → queues_in (B.lent books.old) key.now ≡ [] }
     ensures idle { result ≡ Ok false → B.lent books.new ≡ B.lent books.old }
     ensures same { result ≡ Ok false → parts.new.items ≡ parts.old.items }
     ensures refused { OnErr result (B.lent books.new ≡ B.lent books.old) }
     ensures kept { OnErr result (parts.new.items ≡ parts.old.items) }
-    ensures worn { IsErrOf result Stopped.Worn → IsWhy site (slice_get (plan.drops key.now (queues_in (B.lent books.old) key.now)) 0) (B.lent books.old).books Number }
+    ensures worn { IsErrOf result Stopped.Worn →
+        IsWhy site (slice_get (plan.drops key.now (queues_in (B.lent books.old) key.now)) 0)
+        (B.lent books.old).books Number }
     ensures there { OnErr result (IsTrue (plan.is_there (queues_in (B.lent books.old) key.now))) }
     ensures lent { IsLending (B.lent books.new) }
     ensures dated { IsDated stamp (B.lent books.new) }
     ensures keeps { B.keeps books.old books.new }
-    ensures writable { IsTrue (are_writable parts.old.items) → IsTrue (are_writable parts.new.items) }
+    ensures writable { IsTrue (are_writable parts.old.items) →
+        IsTrue (are_writable parts.new.items) }
 {
     let pair = match copy_top(books, alloc, key)? {
         Some(pair) => pair,

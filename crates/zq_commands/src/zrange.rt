@@ -36,8 +36,13 @@ pub fn read_range<B: Books>(
     with_scores: bool,
 ) -> Reply
     requires { IsLending (B.lent books.now) }
-    ensures read { IsRead (ForReply (is_there (ranged range.now (turned_if is_turned (queues_in (B.lent books.now) key.now)))) (length (queues_in (B.lent books.now) key.now)))
-        (plan.pairs_reply with_scores (ranged range.now (turned_if is_turned (queues_in (B.lent books.now) key.now)))) (reply_bytes result) }
+    ensures read { IsRead
+        (ForReply (is_there (ranged range.now
+        (turned_if is_turned (queues_in (B.lent books.now) key.now))))
+        (length (queues_in (B.lent books.now) key.now)))
+        (plan.pairs_reply with_scores
+        (ranged range.now (turned_if is_turned (queues_in (B.lent books.now) key.now))))
+        (reply_bytes result) }
     ensures writable { IsTrue (is_writable result) }
 {
     let Some(size) = total_members(books, key) else {
@@ -63,11 +68,16 @@ fn section_pairs<'a, B: Books>(
     within: u64,
 ) -> Result<(Vec<(i128, &'a [u8])>, usize), AllocError>
     requires lent { IsLending (B.lent books.now) }
-    requires within { within ≡ count_by (is_within section.now.min section.now.max) (queues_in (B.lent books.now) key.now) }
+    requires within { within ≡ count_by (is_within section.now.min section.now.max)
+        (queues_in (B.lent books.now) key.now) }
     ensures some { OnErr result (IsTrue (is_there
-        (slice_range (filter (is_within section.now.min section.now.max) (turned_if is_turned (queues_in (B.lent books.now) key.now))) section.now.from section.now.to))) }
+        (slice_range (filter (is_within section.now.min section.now.max)
+        (turned_if is_turned (queues_in (B.lent books.now) key.now))) section.now.from
+        section.now.to))) }
     ensures pairs { IfOk result (λ found. drop found.1 (map lent_pair found.0.items) ≡
-        slice_range (filter (is_within section.now.min section.now.max) (turned_if is_turned (queues_in (B.lent books.now) key.now))) section.now.from section.now.to) }
+        slice_range (filter (is_within section.now.min section.now.max)
+        (turned_if is_turned (queues_in (B.lent books.now) key.now))) section.now.from
+        section.now.to) }
 {
     if section.to <= section.from || within <= section.from as u64 {
         return Ok((Vec::new(alloc), 0));
@@ -84,7 +94,8 @@ fn section_pairs<'a, B: Books>(
     Ok((pairs, section.from - start.skipped))
 }
 
-/// The first so many pairs within the bounds of a section, from where reading starts. No book gives more than so many.
+/// The first so many pairs within the bounds of a section, from where reading starts. No book gives
+/// more than so many.
 fn first_pairs<'a, B: Books>(
     books: &'a B,
     alloc: Global,
@@ -96,7 +107,10 @@ fn first_pairs<'a, B: Books>(
 ) -> Result<Vec<(i128, &'a [u8])>, AllocError>
     requires { IsLending (B.lent books.now) }
     ensures { IfOk result (λ pairs.
-        map lent_pair pairs.items ≡ take most (filter (is_read is_turned (option_map lent_pair first.entry) section.now.min section.now.max) (turned_if is_turned (queues_in (B.lent books.now) key.now)))) }
+        map lent_pair pairs.items
+        ≡ take most (filter (is_read is_turned
+        (option_map lent_pair first.entry) section.now.min section.now.max)
+        (turned_if is_turned (queues_in (B.lent books.now) key.now)))) }
 {
     let mut pairs = Vec::new(alloc);
     let mut place = books.len();
@@ -108,7 +122,8 @@ fn first_pairs<'a, B: Books>(
     Ok(pairs)
 }
 
-/// The same of the book at a place, but for some that come first. Its pairs within the bounds stand one behind the other.
+/// The same of the book at a place, but for some that come first. Its pairs within the bounds stand
+/// one behind the other.
 fn slice_run<'a, B: Books>(
     books: &'a B,
     alloc: Global,
@@ -122,8 +137,12 @@ fn slice_run<'a, B: Books>(
 ) -> Result<Vec<(i128, &'a [u8])>, AllocError>
     requires lent { IsLending (B.lent books.now) }
     requires inside { place < length (B.lent books.now).books }
-    ensures { IfOk result (λ pairs. (book : Book) → slice_get (B.lent books.now).books place ≡ Some book → map lent_pair pairs.items ≡
-        drop skipped (take most (filter (is_read is_turned (option_map lent_pair first.entry) section.now.min section.now.max) (turned_if is_turned (queues_of (B.lent books.now).rule (book ∷ []) key.now))))) }
+    ensures { IfOk result (λ pairs. (book : Book) →
+        slice_get (B.lent books.now).books place ≡ Some book → map lent_pair pairs.items ≡
+        drop skipped (take most
+        (filter (is_read is_turned (option_map lent_pair first.entry) section.now.min
+        section.now.max) (turned_if is_turned
+        (queues_of (B.lent books.now).rule (book ∷ []) key.now))))) }
 {
     let size = books.count(place, key);
     let from = first_place(books, place, key, is_turned, section, first);

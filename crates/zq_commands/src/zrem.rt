@@ -36,7 +36,8 @@ pub fn drop_members<B: Books>(
     requires key { length key.now ≤ LONGEST }
     requires members { All IsShort (views members.now) }
     requires few { length members.now ≤ 65536 }
-    ensures ran { RunsOver site stamp ForMoves (in_turn (zrem_part key.now) (views members.now) (queues_in (B.lent books.old))) cut_error
+    ensures ran { RunsOver site stamp ForMoves
+        (in_turn (zrem_part key.now) (views members.now) (queues_in (B.lent books.old))) cut_error
         (B.lent books.old) (B.lent books.new) (reply_bytes result) }
     ensures lent { IsLending (B.lent books.new) }
     ensures dated { IsDated stamp (B.lent books.new) }
@@ -67,17 +68,26 @@ fn drop_one<B: Books>(
     requires home { HasBook key.now member.now (B.lent books.old) }
     requires key { length key.now ≤ LONGEST }
     requires member { length member.now ≤ LONGEST }
-    ensures steps { IfOk result (λ made. Steps site stamp (zrem_part key.now (queues_in (B.lent books.old)) member.now) (B.lent books.old) (B.lent books.new) made) }
+    ensures steps { IfOk result
+        (λ made. Steps site stamp (zrem_part key.now (queues_in (B.lent books.old)) member.now)
+        (B.lent books.old) (B.lent books.new) made) }
     ensures most { IfOk result (λ made. (made.moves ≤ 1)) }
     ensures one { IfOk result (λ made. (made.counted ≡ made.moves)) }
     ensures refused { OnErr result (B.lent books.new ≡ B.lent books.old) }
-    ensures there { OnErr result ((zrem_part key.now (queues_in (B.lent books.old)) member.now).moves ≡ one key.now member.now Removal) }
-    ensures worn { IsErrOf result Stopped.Worn → IsWhy site (Some (record { key = key.now; member = member.now; act = Removal })) (B.lent books.old).books Number }
-    ensures memory { IsErrOf result Stopped.NoMemory → IsWhy site (Some (record { key = key.now; member = member.now; act = Removal })) (B.lent books.old).books Number → ⊥ }
+    ensures there { OnErr result
+        ((zrem_part key.now (queues_in (B.lent books.old)) member.now).moves
+        ≡ one key.now member.now Removal) }
+    ensures worn { IsErrOf result Stopped.Worn →
+        IsWhy site (Some (record { key = key.now; member = member.now; act = Removal }))
+        (B.lent books.old).books Number }
+    ensures memory { IsErrOf result Stopped.NoMemory →
+        IsWhy site (Some (record { key = key.now; member = member.now; act = Removal }))
+        (B.lent books.old).books Number → ⊥ }
     ensures lent { IsLending (B.lent books.new) }
     ensures dated { IsDated stamp (B.lent books.new) }
     ensures keeps { B.keeps books.old books.new }
-    ensures homes { (k m : List ℕ) → HasBook k m (B.lent books.old) → HasBook k m (B.lent books.new) }
+    ensures homes { (k m : List ℕ) → HasBook k m (B.lent books.old) →
+        HasBook k m (B.lent books.new) }
 {
     let found = find(books, key, member);
     if found.score.is_none() {

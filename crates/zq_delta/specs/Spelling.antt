@@ -19,12 +19,13 @@ act_bytes (Put score) = 0 ∷ signed w64 score
 act_bytes (Bump increment) = 1 ∷ signed w64 increment
 act_bytes Drop = 2 ∷ []
 
--- The number of heaps, the heap, the site, the vector that the site had, the act, the key and the member.
--- The counter is the next after the vector's, and is not written.
+-- The number of heaps, the heap, the site, the vector that the site had, the act, the key and the
+-- member. The counter is the next after the vector's, and is not written.
 unfoldable pub fields : Version → Placed → List ℕ
 fields v o =
     o.heaps ∷ o.operation.heap ∷ o.operation.site ∷
-    (vector v o.operation.seen ++ (act_bytes o.operation.act ++ (text o.operation.key ++ text o.operation.member)))
+    (vector v o.operation.seen
+    ++ (act_bytes o.operation.act ++ (text o.operation.key ++ text o.operation.member)))
 
 -- the version, and the fields
 abbrev pub op_spelling : Version → Placed → List ℕ

@@ -21,7 +21,8 @@ const DROP: u8 = 2;
 
 #[tactic(auto, unfolding(crate::specs::Fields::act_at))]
 pub(crate) fn read_act(whole: usize, bytes: &mut &[u8]) -> Result<Act, PartFault>
-    ensures exact { Gives (λ x. (act_of x, bytes.new.now)) result (read.act_at whole bytes.old.now) }
+    ensures exact { Gives (λ x. (act_of x, bytes.new.now)) result
+        (read.act_at whole bytes.old.now) }
     ensures found { IfOk result (λ x. bytes.old.now ≡ spell.act_bytes (act_of x) ++ bytes.new.now) }
     ensures within { IfOk result (λ x. IsAct (act_of x)) }
 {

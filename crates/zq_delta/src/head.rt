@@ -23,7 +23,8 @@ pub(crate) fn read_head(
     bytes: &mut &[u8],
 ) -> Result<Head, PartFault>
     ensures exact { Gives (λ x. (x, bytes.new.now)) result (head_at version whole bytes.old.now) }
-    ensures found { IfOk result (λ x. bytes.old.now ≡ x.heap.heaps ∷ x.heap.heap ∷ x.site ∷ bytes.new.now) }
+    ensures found { IfOk result
+        (λ x. bytes.old.now ≡ x.heap.heaps ∷ x.heap.heap ∷ x.site ∷ bytes.new.now) }
     ensures heaps { IfOk result (λ x. sets.IsHeaps x.heap.heaps) }
     ensures heap { IfOk result (λ x. x.heap.heap < x.heap.heaps) }
     ensures site { IfOk result (λ x. x.site < sets.SITES) }

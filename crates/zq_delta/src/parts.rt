@@ -32,10 +32,16 @@ pub(crate) fn read_parts<'a>(
     whole: usize,
     bytes: &mut &'a [u8],
 ) -> Result<Parts<'a>, PartFault>
-    ensures exact { Gives (λ p. (placed p.head p.seen (act_of p.act) p.key.now p.member.now, bytes.new.now)) result (fields_at version whole bytes.old.now) }
-    ensures found { IfOk result (λ p. bytes.old.now ≡ fields version (placed p.head p.seen (act_of p.act) p.key.now p.member.now) ++ bytes.new.now) }
-    ensures version { IfOk result (λ p. HasSpelling version (placed p.head p.seen (act_of p.act) p.key.now p.member.now)) }
-    ensures sound { IfOk result (λ p. IsRanged (placed p.head p.seen (act_of p.act) p.key.now p.member.now)) }
+    ensures exact { Gives
+        (λ p. (placed p.head p.seen (act_of p.act) p.key.now p.member.now, bytes.new.now)) result
+        (fields_at version whole bytes.old.now) }
+    ensures found { IfOk result
+        (λ p. bytes.old.now ≡ fields version
+        (placed p.head p.seen (act_of p.act) p.key.now p.member.now) ++ bytes.new.now) }
+    ensures version { IfOk result
+        (λ p. HasSpelling version (placed p.head p.seen (act_of p.act) p.key.now p.member.now)) }
+    ensures sound { IfOk result
+        (λ p. IsRanged (placed p.head p.seen (act_of p.act) p.key.now p.member.now)) }
 {
     let head = read_head(version, whole, bytes)?;
     let seen = read_vector(version, whole, head.site, bytes)?;
@@ -54,8 +60,11 @@ pub(crate) fn read_parts<'a>(
 /// The operation of these parts, over copies of its texts.
 #[tactic(auto, unfolding(zq_model::specs::Sets::LAST))]
 pub(crate) fn operation(alloc: Global, parts: &Parts<'_>) -> Result<Op, AllocError>
-    requires { IsRanged (placed parts.now.head parts.now.seen (act_of parts.now.act) parts.now.key.now parts.now.member.now) }
-    ensures { IfOk result (λ o. o ≡ placed parts.now.head parts.now.seen (act_of parts.now.act) parts.now.key.now parts.now.member.now) }
+    requires { IsRanged (placed parts.now.head parts.now.seen
+        (act_of parts.now.act) parts.now.key.now parts.now.member.now) }
+    ensures { IfOk result
+        (λ o. o ≡ placed parts.now.head parts.now.seen
+        (act_of parts.now.act) parts.now.key.now parts.now.member.now) }
 {
     let head = parts.head;
     let dot = Dot {

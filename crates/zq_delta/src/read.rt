@@ -17,12 +17,15 @@ use zq_dots::Op;
 
 /// The operation at the front of the bytes, in version 1 or 2, and how many bytes it takes.
 ///
-/// A fault is that of the first field, from the left, that is missing or out of its range. Memory is asked for once the
-/// whole operation is found: `NoMemory` comes only where its key or its member got none.
+/// A fault is that of the first field, from the left, that is missing or out of its range. Memory
+/// is asked for once the whole operation is found: `NoMemory` comes only where its key or its
+/// member got none.
 pub fn read_op(alloc: Global, bytes: &[u8]) -> Result<(Op, usize), OpFault>
     ensures exact { Answers (λ x. x) result (found_at bytes.now) }
-    ensures found { IfOk result (λ x. (v : Version) × HasSpelling v x.0 × (take x.1 bytes.now ≡ op_spelling v x.0)) }
-    ensures only { (v : Version) (o : Placed) (rest : List ℕ) → IsRanged o → HasSpelling v o → bytes.now ≡ op_spelling v o ++ rest →
+    ensures found { IfOk result (λ x. (v : Version) × HasSpelling v x.0
+        × (take x.1 bytes.now ≡ op_spelling v x.0)) }
+    ensures only { (v : Version) (o : Placed) (rest : List ℕ) → IsRanged o → HasSpelling v o →
+        bytes.now ≡ op_spelling v o ++ rest →
         MatchResult result (λ x. x ≡ (o, length (op_spelling v o))) (λ fault. fault ≡ NoMemory) }
     ensures sound { IfOk result (λ x. IsRanged x.0) }
 {
@@ -32,7 +35,8 @@ pub fn read_op(alloc: Global, bytes: &[u8]) -> Result<(Op, usize), OpFault>
 #[tactic(auto, unfolding(crate::specs::Reading::op_at))]
 fn read_front(alloc: Global, bytes: &[u8]) -> Result<(Op, usize), OpFault>
     ensures exact { Answers (λ x. x) result (found_at bytes.now) }
-    ensures found { IfOk result (λ x. (v : Version) × HasSpelling v x.0 × (take x.1 bytes.now ≡ op_spelling v x.0)) }
+    ensures found { IfOk result (λ x. (v : Version) × HasSpelling v x.0
+        × (take x.1 bytes.now ≡ op_spelling v x.0)) }
     ensures sound { IfOk result (λ x. IsRanged x.0) }
 {
     let mut rest = bytes;

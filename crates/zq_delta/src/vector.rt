@@ -18,7 +18,8 @@ pub(crate) fn read_vector(
     own: SiteNo,
     bytes: &mut &[u8],
 ) -> Result<Vector, PartFault>
-    ensures exact { Gives (λ x. (x, bytes.new.now)) result (vector_at version whole (Some own) bytes.old.now) }
+    ensures exact { Gives (λ x. (x, bytes.new.now)) result
+        (vector_at version whole (Some own) bytes.old.now) }
     ensures found { IfOk result (λ x. bytes.old.now ≡ spell.vector version x ++ bytes.new.now) }
     ensures version { IfOk result (λ x. HasVector version x) }
     ensures counters { IfOk result (λ x. sets.IsCounters x) }

@@ -10,8 +10,8 @@ use std::alloc::{AllocError, Global};
 use zq_dots::Op;
 use zq_fields::{sparse_len, write_bytes, write_sparse, write_text};
 
-// The most bytes of an operation beside its vector, its key and its member: version, heaps, heap and site, the act with
-// its score, and the two lengths.
+// The most bytes of an operation beside its vector, its key and its member: version, heaps, heap
+// and site, the act with its score, and the two lengths.
 const FRAME: usize = 4 + 9 + 8;
 
 /// The bytes of an operation, in version 2. It fails only where memory is refused.
@@ -23,9 +23,11 @@ pub fn write_op(alloc: Global, op: &Op) -> Result<Vec<u8>, AllocError>
     Ok(out)
 }
 
-/// Appends the bytes of an operation, in version 2. Where memory is refused `out` has the bytes that it had.
+/// Appends the bytes of an operation, in version 2. Where memory is refused `out` has the bytes
+/// that it had.
 pub fn append_op(out: &mut Vec<u8>, op: &Op) -> Result<(), AllocError>
-    ensures written { OnOk result (out.new.items ≡ out.old.items ++ op_spelling version.Two op.now) }
+    ensures written { OnOk result
+        (out.new.items ≡ out.old.items ++ op_spelling version.Two op.now) }
     ensures refused { OnErr result (out.new.items ≡ out.old.items) }
 {
     out.reserve(room(op))?;
@@ -45,7 +47,8 @@ fn room(op: &Op) -> usize {
 /// Where memory is refused a part of the bytes may stand behind those that were there.
 #[tactic(auto, unfolding(crate::specs::Spelling::fields))]
 fn append(out: &mut Vec<u8>, op: &Op) -> Result<(), AllocError>
-    ensures written { OnOk result (out.new.items ≡ out.old.items ++ op_spelling version.Two op.now) }
+    ensures written { OnOk result
+        (out.new.items ≡ out.old.items ++ op_spelling version.Two op.now) }
     ensures kept { take (length out.old.items) out.new.items ≡ out.old.items }
 {
     let site = op.dot().site.value();

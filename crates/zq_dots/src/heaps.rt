@@ -33,8 +33,8 @@ pub fn heap_of(key: &[u8], member: &[u8], heaps: u8) -> u8
     remainder(hash, heaps) as u8
 }
 
-/// What is left of a hash modulo the number of heaps. By a power of two that stands here it takes no division, which would
-/// take as long as the hash of a short member.
+/// What is left of a hash modulo the number of heaps. By a power of two that stands here it takes
+/// no division, which would take as long as the hash of a short member.
 fn remainder(hash: u64, heaps: u8) -> u64
     requires { 1 ≤ heaps }
     ensures { result ≡ hash % heaps }

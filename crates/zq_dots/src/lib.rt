@@ -1,5 +1,5 @@
-//! The words of replication: site numbers, scores, the rule of scores, dots, version vectors, acts and operations, and
-//! the hash that says in which heap a member lies.
+//! The words of replication: site numbers, scores, the rule of scores, dots, version vectors, acts
+//! and operations, and the hash that says in which heap a member lies.
 #![tactic(auto)]
 
 mod act;

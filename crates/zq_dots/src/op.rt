@@ -58,7 +58,8 @@ impl Op {
         requires key { length key.items ≤ LONGEST }
         requires member { length member.items ≤ LONGEST }
         ensures heaps { result.heaps ≡ heaps }
-        ensures operation { result.operation ≡ record { heap = heap; site = dot.site; n = dot.n; seen = seen; key = key.items; member = member.items; act = act_of act } }
+        ensures operation { result.operation
+            ≡ record { heap = heap; site = dot.site; n = dot.n; seen = seen; key = key.items; member = member.items; act = act_of act } }
         ensures sound { IsRanged result }
     {
         let _site = dot.site.value();

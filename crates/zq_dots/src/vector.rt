@@ -74,7 +74,8 @@ impl Vector {
     /// Whether it knows all that the other knows.
     pub fn covers(&self, other: &Vector) -> bool
         ensures value { result ≡ covers self.now other.now }
-        ensures each { IsTrue result ↔ ((t : ℕ) → slice_index other.now t ≤ slice_index self.now t) }
+        ensures each { IsTrue result
+            ↔ ((t : ℕ) → slice_index other.now t ≤ slice_index self.now t) }
     {
         for site in 0..SITES {
             if self.counters[site] < other.counters[site] {

@@ -10,14 +10,19 @@ use Rattle.zq_spread.specs.declared.pass.Pass.{Pass}
 
 -- the pass has seen the heap with all of this vector in it
 abbrev pub Knows : Pass → ℕ → List ℕ → Type 0
-Knows pass heap vector = HasSeenBook pass heap (λ b. (b.heap ≡ heap) × (covers b.state.vector vector ≡ true))
+Knows pass heap vector =
+    HasSeenBook pass heap (λ b. (b.heap ≡ heap) × (covers b.state.vector vector ≡ true))
 
 -- so has the pass of this place
 abbrev pub KnowsAt : List Place → ℕ → ℕ → List ℕ → Type 0
-KnowsAt places i heap vector = (place : Place) × (slice_get places i ≡ Some place) × Knows place.pass heap vector
+KnowsAt places i heap vector = (place : Place) × (slice_get places i ≡ Some place)
+    × Knows place.pass heap vector
 
--- where each of three sites met each other one, all have then what one of them had in a heap; that is said of those whose pass had seen the heap at all
+-- where each of three sites met each other one, all have then what one of them had in a heap; that
+-- is said of those whose pass had seen the heap at all
 abbrev pub AllHaveAll : Type 0
 AllHaveAll =
-    (before after : List Place) → AreMeetings round before after → (i j heap : ℕ) → i < site_count → j < site_count → heap < heap_count
-    → (vector some : List ℕ) → KnowsAt before i heap vector → KnowsAt before j heap some → KnowsAt after j heap vector
+    (before after : List Place) → AreMeetings round before after → (i j heap : ℕ) → i < site_count →
+    j < site_count → heap < heap_count
+    → (vector some : List ℕ) → KnowsAt before i heap vector → KnowsAt before j heap some →
+    KnowsAt after j heap vector

@@ -11,11 +11,13 @@ use Rattle.zq_shard.specs.Shard.{HeapImage, queue_at}
 use Rattle.zq_spread.specs.declared.pass.Pass.{Pass}
 use Rattle.zq_spread.specs.declared.site.Site.{Site}
 
--- each heap below this number was copied, in rising order, and nothing else was done; the latest stands first
+-- each heap below this number was copied, in rising order, and nothing else was done; the latest
+-- stands first
 abbrev pub AreCopied : Site → Pass → Pass → ℕ → List HeapImage → Type 0
 AreCopied site before after zero images = (images ≡ []) × (after ≡ before)
 AreCopied site before after (suc heap) [] = ⊥
-AreCopied site before after (suc heap) (image ∷ images) = (mid : Pass) × AreCopied site before mid heap images × IsCalled site mid after (Copied heap image)
+AreCopied site before after (suc heap) (image ∷ images) = (mid : Pass)
+    × AreCopied site before mid heap images × IsCalled site mid after (Copied heap image)
 
 -- what is in the key q of these heaps
 abbrev pub members_of : List HeapImage → List Scored
@@ -32,7 +34,8 @@ pub record IsListed (site : Site) (before after : Pass) (list : List Scored) : T
 -- each list is what was listed at its place
 abbrev pub AreListed : List Place → List (List Scored) → Type 0
 AreListed [] [] = Unit {0}
-AreListed (place ∷ places) (list ∷ lists) = (after : Pass) × IsListed place.site place.pass after list × AreListed places lists
+AreListed (place ∷ places) (list ∷ lists) = (after : Pass)
+    × IsListed place.site place.pass after list × AreListed places lists
 AreListed places lists = ⊥
 
 -- three sites met twice over, and then each was listed

@@ -18,9 +18,11 @@ pub record IsHandedOver (sender receiver : Site) (heap : ℕ) (s t : Pass) (p q 
 abbrev pub AreHandedOver : Site → Site → ℕ → Pass → Pass → Pass → Pass → Type 0
 AreHandedOver sender receiver zero s t p q = (t ≡ s) × (q ≡ p)
 AreHandedOver sender receiver (suc heap) s t p q =
-    (between : Pass) × (mid : Pass) × AreHandedOver sender receiver heap s between p mid × IsHandedOver sender receiver heap between t mid q
+    (between : Pass) × (mid : Pass) × AreHandedOver sender receiver heap s between p mid
+    × IsHandedOver sender receiver heap between t mid q
 
--- the heaps of the sender were handed to the receiver, which are these of the places, and nothing else was done
+-- the heaps of the sender were handed to the receiver, which are these of the places, and nothing
+-- else was done
 pub record IsMeeting (receiver sender : ℕ) (before after : List Place) : Type 0 where
   pub to : Place
   pub from : Place
@@ -29,12 +31,14 @@ pub record IsMeeting (receiver sender : ℕ) (before after : List Place) : Type 
   pub to_is : slice_get before receiver ≡ Some to
   pub from_is : slice_get before sender ≡ Some from
   pub handed : AreHandedOver from.site to.site heap_count from.pass gave to.pass got
-  pub after_is : after ≡ slice_set (slice_set before sender (place_at from.site gave)) receiver (place_at to.site got)
+  pub after_is : after ≡ slice_set (slice_set before sender (place_at from.site gave)) receiver
+      (place_at to.site got)
 
 -- so it was by each of these pairs, one after the other: a receiver and its sender
 abbrev pub AreMeetings : List (ℕ × ℕ) → List Place → List Place → Type 0
 AreMeetings [] before after = after ≡ before
-AreMeetings (pair ∷ pairs) before after = (mid : List Place) × IsMeeting pair.0 pair.1 before mid × AreMeetings pairs mid after
+AreMeetings (pair ∷ pairs) before after = (mid : List Place) × IsMeeting pair.0 pair.1 before mid
+    × AreMeetings pairs mid after
 
 -- a receiver and its sender, unless they are one site
 abbrev pub pair_of : ℕ → ℕ → List (ℕ × ℕ)
@@ -50,6 +54,7 @@ abbrev pub to_each : ℕ → ℕ → List (ℕ × ℕ)
 to_each senders zero = []
 to_each senders (suc receiver) = to_each senders receiver ++ to_one receiver senders
 
--- each of three sites and each other one: the receivers in rising order, and for each of them the senders
+-- each of three sites and each other one: the receivers in rising order, and for each of them the
+-- senders
 abbrev pub round : List (ℕ × ℕ)
 round = (0, 1) ∷ (0, 2) ∷ (1, 0) ∷ (1, 2) ∷ (2, 0) ∷ (2, 1) ∷ []

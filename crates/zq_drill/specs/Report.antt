@@ -18,7 +18,8 @@ size_line number size = codes "site " ++ decimal number ++ codes " size " ++ dec
 -- the lines of the sites, of which the first has this number
 abbrev pub sites_text : ℕ → List (List Scored) → List ℕ
 sites_text number [] = []
-sites_text number (list ∷ lists) = size_line number (length list) ++ flat_map line_of list ++ sites_text (number + 1) lists
+sites_text number (list ∷ lists) = size_line number (length list) ++ flat_map line_of list
+    ++ sites_text (number + 1) lists
 
 -- and the last line
 abbrev pub report : List (List Scored) → Bool → List ℕ

@@ -21,4 +21,5 @@ words_of number amount member =
     codes "ZPOPNEAR" ∷ codes "q" ∷ []
 
 abbrev pub request_of : Draw → List (List ℕ)
-request_of draw = words_of (draw.verb % 4) (signed_decimal (amount_of draw.amount)) (member_of draw.member)
+request_of draw = words_of (draw.verb % 4) (signed_decimal (amount_of draw.amount))
+    (member_of draw.member)

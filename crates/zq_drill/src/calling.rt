@@ -20,8 +20,8 @@ use zq_peers::Mailbox;
 use zq_resp::{Reply, Request};
 use zq_words::Command;
 
-/// Calls the site so many times, by the words of this seed and the site's number, and tells the site's link of each
-/// call.
+/// Calls the site so many times, by the words of this seed and the site's number, and tells the
+/// site's link of each call.
 pub fn call_rounds<R: Wait>(
     rt: &R,
     alloc: Global,
@@ -32,7 +32,9 @@ pub fn call_rounds<R: Wait>(
 ) -> Result<(), DrillFault>
     ensures station { post.new.station ≡ post.old.station }
     ensures rounds { OnOk result ((end : Lcg) × (replies : List Word) × (length replies ≡ rounds)
-        × AreRounds (site_of post.old) (pcg32_of_seed (pcg32_seed 16 ((seed + (arc_value post.old.station).number) % 2 ^ 64))) end post.old.pass post.new.pass replies) }
+        × AreRounds (site_of post.old)
+        (pcg32_of_seed (pcg32_seed 16 ((seed + (arc_value post.old.station).number) % 2 ^ 64)))
+        end post.old.pass post.new.pass replies) }
 {
     let number = u64::from(post.station.number.value());
     let mut draws = Draws::new(seed.wrapping_add(number));
@@ -47,14 +49,16 @@ pub fn call_rounds<R: Wait>(
 /// Calls the site with the command of these words.
 fn call_once<R: Wait>(rt: &R, alloc: Global, post: &mut Post, draw: &Draw) -> Result<(), DrillFault>
     ensures station { post.new.station ≡ post.old.station }
-    ensures called { OnOk result ((reply : Word) × IsRound (site_of post.old) draw.now reply post.old.pass post.new.pass) }
+    ensures called { OnOk result ((reply : Word)
+        × IsRound (site_of post.old) draw.now reply post.old.pass post.new.pass) }
 {
     let request = draw.request(alloc)?;
     let reply = ask(rt, alloc, post, &request, draw)?;
     check_reply(&reply)
 }
 
-/// The site's reply to the request, where there was memory to read it: each request of a draw is a command.
+/// The site's reply to the request, where there was memory to read it: each request of a draw is a
+/// command.
 fn ask<R: Wait>(
     rt: &R,
     alloc: Global,
@@ -63,7 +67,9 @@ fn ask<R: Wait>(
     draw: &Draw,
 ) -> Result<Reply, DrillFault>
     ensures station { post.new.station ≡ post.old.station }
-    ensures asked { IfOk result (λ reply. IsAsked (site_of post.old) request.now draw.now (reply_bytes reply) post.old.pass post.new.pass) }
+    ensures asked { IfOk result
+        (λ reply. IsAsked (site_of post.old) request.now draw.now
+        (reply_bytes reply) post.old.pass post.new.pass) }
 {
     match Command::read(alloc, request) {
         Ok(command) => {

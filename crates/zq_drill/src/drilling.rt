@@ -23,7 +23,8 @@ use std::thread::Threads;
 
 /// Appends a list.
 fn append(lists: &mut Vec<Vec<Scored>>, list: Vec<Scored>) -> Result<(), AllocError>
-    ensures { OnOk result (lists_of lists.new.items ≡ lists_of lists.old.items ++ map listed list.items ∷ []) }
+    ensures { OnOk result (lists_of lists.new.items ≡ lists_of lists.old.items
+        ++ map listed list.items ∷ []) }
 {
     lists.push(list)?;
     Ok(())
@@ -36,7 +37,9 @@ fn list_each<R: Wait>(
     posts: &mut [Post],
     lists: &mut Vec<Vec<Scored>>,
 ) -> Result<(), DrillFault>
-    ensures { OnOk result ((added : List (List Scoreds)) × (lists_of lists.new.items ≡ lists_of lists.old.items ++ added) × AreListed (places_of posts.old) added) }
+    ensures { OnOk result ((added : List (List Scoreds))
+        × (lists_of lists.new.items ≡ lists_of lists.old.items ++ added)
+        × AreListed (places_of posts.old) added) }
 {
     let Some((post, others)) = posts.split_first_mut() else {
         return Ok(());
@@ -78,20 +81,23 @@ fn finish<R: Wait, W: Write>(
     Ok(equal)
 }
 
-/// Drills three sites of 4 heaps, in memory alone: each is called so many times in a thread of its own, by words drawn
-/// from a `Pcg32` of the seed plus its number, with ZADD, ZINCRBY, ZREM and ZPOPNEAR on members `m0` to `m15` of the key
-/// `q`. Meanwhile the sites send one another frames over links that lose some, double some and change their order, by
-/// words drawn from a `Pcg32` of the seed plus 8 plus the sender's number. When all calls are done, each site's heaps
-/// are merged into every other site, twice over.
+/// Drills three sites of 4 heaps, in memory alone: each is called so many times in a thread of its
+/// own, by words drawn from a `Pcg32` of the seed plus its number, with ZADD, ZINCRBY, ZREM and
+/// ZPOPNEAR on members `m0` to `m15` of the key `q`. Meanwhile the sites send one another frames
+/// over links that lose some, double some and change their order, by words drawn from a `Pcg32` of
+/// the seed plus 8 plus the sender's number. When all calls are done, each site's heaps are merged
+/// into every other site, twice over.
 ///
-/// Then it writes for each site the line `site N size S` and a line for each member, the score first, in order; and in
-/// the end `equal` where all sites have the same members with the same scores, else `differ`. It answers whether they
-/// have. What members they have depends on the threads' turns.
+/// Then it writes for each site the line `site N size S` and a line for each member, the score
+/// first, in order; and in the end `equal` where all sites have the same members with the same
+/// scores, else `differ`. It answers whether they have. What members they have depends on the
+/// threads' turns.
 ///
 /// # Errors
 ///
-/// `Device` where the write failed, a thread could not be started, or a number is at its last value; `NoMemory` where
-/// memory was refused. Where the write failed a part of the text may be written, and else nothing is.
+/// `Device` where the write failed, a thread could not be started, or a number is at its last
+/// value; `NoMemory` where memory was refused. Where the write failed a part of the text may be
+/// written, and else nothing is.
 pub fn drill<R: Threads + Wait + Sync, W: Write>(
     rt: &R,
     alloc: Global,

@@ -37,7 +37,10 @@ fn hand_over<R: Wait>(
     requires { heap < heap_count }
     ensures sender { sender.new.station ≡ sender.old.station }
     ensures receiver { receiver.new.station ≡ receiver.old.station }
-    ensures handed { OnOk result (IsHandedOver (site_of sender.old) (site_of receiver.old) heap sender.old.pass sender.new.pass receiver.old.pass receiver.new.pass) }
+    ensures handed { OnOk result
+        (IsHandedOver (site_of sender.old)
+        (site_of receiver.old) heap sender.old.pass sender.new.pass receiver.old.pass
+        receiver.new.pass) }
 {
     let copy = sender.state(rt, alloc, heap)?;
     let shard = carried(alloc, &copy)?;
@@ -54,7 +57,10 @@ fn hand_all<R: Wait>(
 ) -> Result<(), DrillFault>
     ensures sender { sender.new.station ≡ sender.old.station }
     ensures receiver { receiver.new.station ≡ receiver.old.station }
-    ensures handed { OnOk result (AreHandedOver (site_of sender.old) (site_of receiver.old) heap_count sender.old.pass sender.new.pass receiver.old.pass receiver.new.pass) }
+    ensures handed { OnOk result
+        (AreHandedOver (site_of sender.old)
+        (site_of receiver.old) heap_count sender.old.pass sender.new.pass receiver.old.pass
+        receiver.new.pass) }
 {
     for heap in 0..HEAPS {
         hand_over(rt, alloc, sender, receiver, heap)?;
@@ -73,7 +79,8 @@ fn meet<R: Wait>(
     requires receiver { receiver < length posts.old }
     requires sender { sender < length posts.old }
     ensures len { length posts.new ≡ length posts.old }
-    ensures met { OnOk result (AreMeetings (pair_of receiver sender) (places_of posts.old) (places_of posts.new)) }
+    ensures met { OnOk result
+        (AreMeetings (pair_of receiver sender) (places_of posts.old) (places_of posts.new)) }
 {
     if sender < receiver {
         let (before, after) = posts.split_at_mut(receiver);
@@ -95,7 +102,9 @@ fn gather<R: Wait>(
 ) -> Result<(), DrillFault>
     requires { receiver < length posts.old }
     ensures len { length posts.new ≡ length posts.old }
-    ensures gathered { OnOk result (AreMeetings (to_one receiver (length posts.old)) (places_of posts.old) (places_of posts.new)) }
+    ensures gathered { OnOk result
+        (AreMeetings (to_one receiver (length posts.old)) (places_of posts.old)
+        (places_of posts.new)) }
 {
     for sender in 0..posts.len() {
         meet(rt, alloc, posts, receiver, sender)?;
@@ -106,7 +115,9 @@ fn gather<R: Wait>(
 /// Merges the heaps of all sites into every other site, in the order of the receivers' numbers.
 fn exchange_all<R: Wait>(rt: &R, alloc: Global, posts: &mut [Post]) -> Result<(), DrillFault>
     ensures len { length posts.new ≡ length posts.old }
-    ensures exchanged { OnOk result (AreMeetings (to_each (length posts.old) (length posts.old)) (places_of posts.old) (places_of posts.new)) }
+    ensures exchanged { OnOk result
+        (AreMeetings (to_each (length posts.old) (length posts.old)) (places_of posts.old)
+        (places_of posts.new)) }
 {
     for receiver in 0..posts.len() {
         gather(rt, alloc, posts, receiver)?;
@@ -118,7 +129,8 @@ fn exchange_all<R: Wait>(rt: &R, alloc: Global, posts: &mut [Post]) -> Result<()
 pub fn exchange_twice<R: Wait>(rt: &R, alloc: Global, posts: &mut [Post]) -> Result<(), DrillFault>
     requires { length posts.old ≡ site_count }
     ensures len { length posts.new ≡ length posts.old }
-    ensures exchanged { OnOk result (AreMeetings (round ++ round) (places_of posts.old) (places_of posts.new)) }
+    ensures exchanged { OnOk result
+        (AreMeetings (round ++ round) (places_of posts.old) (places_of posts.new)) }
 {
     exchange_all(rt, alloc, posts)?;
     exchange_all(rt, alloc, posts)

@@ -41,7 +41,8 @@ impl From<MergeFault> for DrillFault {
     fn from(fault: MergeFault) -> DrillFault {
         match fault {
             MergeFault::NoMemory => DrillFault::NoMemory,
-            // The sites of a drill have the same number of heaps and one rule: of these only Worn can come.
+            // The sites of a drill have the same number of heaps and one rule: of these only Worn
+            // can come.
             MergeFault::Worn | MergeFault::WrongHeap | MergeFault::WrongRule => DrillFault::Device,
         }
     }

@@ -1,5 +1,5 @@
-//! A drill of three sites whose links lose frames, double them and change their order: what each caller does, how the
-//! sites come to have the same, and what is written of them at the end.
+//! A drill of three sites whose links lose frames, double them and change their order: what each
+//! caller does, how the sites come to have the same, and what is written of them at the end.
 #![tactic(auto)]
 
 mod calling;

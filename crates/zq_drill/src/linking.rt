@@ -17,8 +17,9 @@ use zq_node::Node;
 use zq_peers::{Inbox, Link, Lossy, Mailbox, Silent, Straight, others};
 use zq_posheap::Seeded;
 
-/// What carries the frames of the site of this number: a faulty link to each site, which holds nothing back yet, with
-/// words of a `Pcg32` of the seed plus 8 plus the number. What the links pass on goes straight into the mailboxes.
+/// What carries the frames of the site of this number: a faulty link to each site, which holds
+/// nothing back yet, with words of a `Pcg32` of the seed plus 8 plus the number. What the links
+/// pass on goes straight into the mailboxes.
 fn faulty<'a, R: Wait>(
     rt: &'a R,
     alloc: Global,
@@ -27,13 +28,15 @@ fn faulty<'a, R: Wait>(
     seed: u64,
 ) -> Result<Lossy<Straight<'a, R>>, AllocError>
     ensures links { IfOk result (λ lossy. lossy.links.items ≡ replicate site_count []) }
-    ensures words { IfOk result (λ lossy. lossy.words ≡ pcg32_of_seed (pcg32_seed 16 ((seed + (8 + number)) % 2 ^ 64))) }
+    ensures words { IfOk result
+        (λ lossy. lossy.words ≡ pcg32_of_seed (pcg32_seed 16 ((seed + (8 + number)) % 2 ^ 64))) }
 {
     let words = seed.wrapping_add(8 + u64::from(number.value()));
     Lossy::new(alloc, SITES, words, Straight::new(rt, number, inboxes))
 }
 
-/// Hears what comes to the site's inbox, and answers over links that fail by the words of this seed, until it is to stop.
+/// Hears what comes to the site's inbox, and answers over links that fail by the words of this
+/// seed, until it is to stop.
 #[tactic(auto, unfolding(zq_model::specs::Sets::SITES))]
 pub fn attend<R: Wait, I: Inbox>(
     rt: &R,
@@ -43,7 +46,8 @@ pub fn attend<R: Wait, I: Inbox>(
     inboxes: &[Mailbox],
     seed: u64,
 ) -> Result<(), AllocError>
-    ensures { OnOk result ((messages : List Messages) × AreTaken I.gives inbox.old inbox.new (Stop ∷ messages)) }
+    ensures { OnOk result ((messages : List Messages)
+        × AreTaken I.gives inbox.old inbox.new (Stop ∷ messages)) }
 {
     let Post { station, pass } = post;
     let number = station.number;

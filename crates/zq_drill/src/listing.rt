@@ -21,7 +21,8 @@ pub type Scored = (i128, Vec<u8>);
 
 /// Appends the members of the key `q` in the heap, with their scores.
 fn add_heap(alloc: Global, list: &mut Vec<Scored>, shard: &Shard) -> Result<(), AllocError>
-    ensures { OnOk result (map listed list.new.items ≡ map listed list.old.items ++ queue_at shard.now (codes "q")) }
+    ensures { OnOk result (map listed list.new.items ≡ map listed list.old.items
+        ++ queue_at shard.now (codes "q")) }
 {
     let pairs = shard.in_order(alloc, b"q")?;
     for pair in &pairs {
@@ -40,11 +41,13 @@ fn order(list: &mut Vec<Scored>) -> Result<(), AllocError>
     Ok(())
 }
 
-/// The members of the key `q` at a site, with their scores, a heap after the other. They are read off copies of its
-/// heaps.
+/// The members of the key `q` at a site, with their scores, a heap after the other. They are read
+/// off copies of its heaps.
 fn collect<R: Wait>(rt: &R, alloc: Global, post: &mut Post) -> Result<Vec<Scored>, DrillFault>
     ensures station { post.new.station ≡ post.old.station }
-    ensures collected { IfOk result (λ list. (images : List HeapImage) × AreCopied (site_of post.old) post.old.pass post.new.pass heap_count images × (map listed list.items ≡ members_of images)) }
+    ensures collected { IfOk result (λ list. (images : List HeapImage)
+        × AreCopied (site_of post.old) post.old.pass post.new.pass heap_count images
+        × (map listed list.items ≡ members_of images)) }
 {
     let mut list = Vec::new(alloc);
     for heap in 0..HEAPS {
@@ -57,7 +60,8 @@ fn collect<R: Wait>(rt: &R, alloc: Global, post: &mut Post) -> Result<Vec<Scored
 /// The members of the key `q` at a site, with their scores, by score and then by bytes.
 pub fn list_all<R: Wait>(rt: &R, alloc: Global, post: &mut Post) -> Result<Vec<Scored>, DrillFault>
     ensures station { post.new.station ≡ post.old.station }
-    ensures listed { IfOk result (λ list. IsListed (site_of post.old) post.old.pass post.new.pass (map listed list.items)) }
+    ensures listed { IfOk result
+        (λ list. IsListed (site_of post.old) post.old.pass post.new.pass (map listed list.items)) }
 {
     let mut list = collect(rt, alloc, post)?;
     order(&mut list)?;

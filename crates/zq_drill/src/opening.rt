@@ -15,7 +15,8 @@ use std::sync::Arc;
 use zq_dots::SiteNo;
 use zq_spread::{Pass, Site, SiteFault};
 
-/// How many passes a site has: one to call, one to hear frames, and one by which the sites meet at the end.
+/// How many passes a site has: one to call, one to hear frames, and one by which the sites meet at
+/// the end.
 const PASSES: usize = 3;
 
 /// The posts of the sites: in each list one of each site, in the order of their numbers.
@@ -73,7 +74,8 @@ fn open(alloc: Global, number: SiteNo) -> Result<(Arc<Station>, Vec<Pass>), Dril
 fn hire(alloc: Global, station: &Arc<Station>, passes: Vec<Pass>) -> Result<Vec<Post>, AllocError>
     requires { All (IsPassOf (arc_value station.now).site) passes.items }
     ensures number { IfOk result (λ posts. length posts.items ≡ length passes.items) }
-    ensures site { IfOk result (λ posts. All (λ post. site_of post ≡ (arc_value station.now).site) posts.items) }
+    ensures site { IfOk result
+        (λ posts. All (λ post. site_of post ≡ (arc_value station.now).site) posts.items) }
 {
     let mut posts = Vec::new(alloc);
     for pass in passes {
@@ -89,7 +91,8 @@ fn hire(alloc: Global, station: &Arc<Station>, passes: Vec<Pass>) -> Result<Vec<
 /// Appends a site's three posts, one to each list.
 fn seat(posts: &mut Posts, mut three: Vec<Post>) -> Result<(), AllocError>
     requires { length three.items ≡ PASSES }
-    ensures { OnOk result ((last : Posted) × (slice_get three.items 0 ≡ Some last) × (posts.new.last.items ≡ posts.old.last.items ++ last ∷ [])) }
+    ensures { OnOk result ((last : Posted) × (slice_get three.items 0 ≡ Some last)
+        × (posts.new.last.items ≡ posts.old.last.items ++ last ∷ [])) }
 {
     let (Some(caller), Some(link), Some(last)) = (three.pop(), three.pop(), three.pop()) else {
         unreachable!()

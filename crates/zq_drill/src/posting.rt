@@ -27,7 +27,8 @@ impl Post {
         w2: u64,
     ) -> Reply
         ensures station { self.new.station ≡ self.old.station }
-        ensures called { IsCalled (site_of self.old) command.now w1 w2 (reply_bytes result) self.old.pass self.new.pass }
+        ensures called { IsCalled (site_of self.old) command.now w1 w2
+            (reply_bytes result) self.old.pass self.new.pass }
     {
         self.station
             .site
@@ -38,7 +39,9 @@ impl Post {
     pub fn state<R: Wait>(&mut self, rt: &R, alloc: Global, heap: u8) -> Result<Shard, ReadFault>
         requires { heap < heap_count }
         ensures station { self.new.station ≡ self.old.station }
-        ensures copied { IfOk result (λ shard. HasCalled (site_of self.old) self.old.pass self.new.pass (Copied heap shard)) }
+        ensures copied { IfOk result
+            (λ shard. HasCalled (site_of self.old) self.old.pass self.new.pass
+            (Copied heap shard)) }
     {
         self.station.site.state(rt, alloc, &mut self.pass, heap)
     }
@@ -46,7 +49,8 @@ impl Post {
     /// Merges a heap of another site into the site.
     pub fn merge<R: Wait>(&mut self, rt: &R, alloc: Global, shard: &Shard) -> Result<(), MergeFault>
         ensures station { self.new.station ≡ self.old.station }
-        ensures merged { OnOk result (HasCalled (site_of self.old) self.old.pass self.new.pass (Merged shard.now)) }
+        ensures merged { OnOk result
+            (HasCalled (site_of self.old) self.old.pass self.new.pass (Merged shard.now)) }
     {
         self.station.site.merge(rt, alloc, &mut self.pass, shard)
     }

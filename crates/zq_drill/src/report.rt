@@ -24,7 +24,8 @@ fn add_line(text: &mut Vec<u8>, scored: &Scored) -> Result<(), AllocError>
 
 /// Appends the line of each member.
 fn add_lines(text: &mut Vec<u8>, list: &[Scored]) -> Result<(), AllocError>
-    ensures { OnOk result (text.new.items ≡ text.old.items ++ flat_map line_of (map listed list.now)) }
+    ensures { OnOk result
+        (text.new.items ≡ text.old.items ++ flat_map line_of (map listed list.now)) }
 {
     for scored in list {
         add_line(text, scored)?;
@@ -47,7 +48,8 @@ fn add_size(text: &mut Vec<u8>, number: usize, size: usize) -> Result<(), AllocE
 /// Appends the lines of each site, of which the first has this number.
 fn add_sites(text: &mut Vec<u8>, first: usize, lists: &[Vec<Scored>]) -> Result<(), AllocError>
     requires { first + length lists.now < 2 ^ 64 }
-    ensures { OnOk result (text.new.items ≡ text.old.items ++ sites_text first (lists_of lists.now)) }
+    ensures { OnOk result
+        (text.new.items ≡ text.old.items ++ sites_text first (lists_of lists.now)) }
 {
     let Some((list, others)) = lists.split_first() else {
         return Ok(());
@@ -77,14 +79,17 @@ fn are_alike(lists: &[Vec<Scored>]) -> bool
     is_same(first, second) && are_alike(others)
 }
 
-/// Writes the size and the members of each site, and whether all are the same, which it answers too.
+/// Writes the size and the members of each site, and whether all are the same, which it answers
+/// too.
 pub fn write_report<W: Write>(
     alloc: Global,
     lists: &[Vec<Scored>],
     out: &mut W,
 ) -> Result<bool, DrillFault>
     requires { length lists.now < 2 ^ 32 }
-    ensures written { IfOk result (λ equal. Appends (W.contents out.old) (W.contents out.new) (report (lists_of lists.now) equal)) }
+    ensures written { IfOk result
+        (λ equal. Appends (W.contents out.old) (W.contents out.new)
+        (report (lists_of lists.now) equal)) }
     ensures equal { IfOk result (λ equal. IsTrue equal ↔ AreAlike (lists_of lists.now)) }
 {
     let equal = are_alike(lists);

@@ -13,7 +13,8 @@ use zq_resp::Request;
 impl Draw {
     /// The digits of the score or the increment, -100 to 100.
     fn amount(&self, alloc: Global) -> Result<Vec<u8>, AllocError>
-        ensures text { IfOk result (λ text. text.items ≡ signed_decimal (amount_of self.now.amount)) }
+        ensures text { IfOk result
+            (λ text. text.items ≡ signed_decimal (amount_of self.now.amount)) }
         ensures short { IfOk result (λ text. length text.items ≤ 40) }
     {
         let amount = i64::from(self.amount % 201) - 100;
@@ -33,7 +34,9 @@ impl Draw {
     /// The words of a command of this name that has a score or an increment.
     fn with_amount(&self, alloc: Global, name: &[u8]) -> Result<Vec<Vec<u8>>, AllocError>
         requires { length name.now ≤ 8 }
-        ensures words { IfOk result (λ words. map (λ w. w.items) words.items ≡ name.now ∷ codes "q" ∷ signed_decimal (amount_of self.now.amount) ∷ member_of self.now.member ∷ []) }
+        ensures words { IfOk result
+            (λ words. map (λ w. w.items) words.items ≡ name.now ∷ codes "q"
+            ∷ signed_decimal (amount_of self.now.amount) ∷ member_of self.now.member ∷ []) }
         ensures request { IfOk result (λ words. IsRequest (map (λ w. w.items) words.items)) }
     {
         let mut words = named(alloc, name)?;
@@ -45,7 +48,9 @@ impl Draw {
     /// The words of a command of this name that has a member alone.
     fn with_member(&self, alloc: Global, name: &[u8]) -> Result<Vec<Vec<u8>>, AllocError>
         requires { length name.now ≤ 8 }
-        ensures words { IfOk result (λ words. map (λ w. w.items) words.items ≡ name.now ∷ codes "q" ∷ member_of self.now.member ∷ []) }
+        ensures words { IfOk result
+            (λ words. map (λ w. w.items) words.items ≡ name.now ∷ codes "q"
+            ∷ member_of self.now.member ∷ []) }
         ensures request { IfOk result (λ words. IsRequest (map (λ w. w.items) words.items)) }
     {
         let mut words = named(alloc, name)?;
@@ -70,7 +75,8 @@ impl Draw {
 /// A command's name, and the key.
 fn named(alloc: Global, name: &[u8]) -> Result<Vec<Vec<u8>>, AllocError>
     requires { length name.now ≤ 8 }
-    ensures words { IfOk result (λ words. map (λ w. w.items) words.items ≡ name.now ∷ codes "q" ∷ []) }
+    ensures words { IfOk result (λ words. map (λ w. w.items) words.items
+        ≡ name.now ∷ codes "q" ∷ []) }
     ensures request { IfOk result (λ words. IsRequest (map (λ w. w.items) words.items)) }
 {
     let mut words = Vec::new(alloc);

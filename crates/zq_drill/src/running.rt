@@ -63,8 +63,8 @@ fn call_all<R: Threads + Wait + Sync>(
     });
 }
 
-/// Runs each caller and each link in a thread of its own. When all callers are done the links are stopped, and when all
-/// links have stopped it returns.
+/// Runs each caller and each link in a thread of its own. When all callers are done the links are
+/// stopped, and when all links have stopped it returns.
 pub fn run_all<R: Threads + Wait + Sync>(
     rt: &R,
     alloc: Global,

@@ -16,7 +16,8 @@ is_unseen seen p = not (has seen p.0 p.1.n)
 abbrev pub goes : ℕ → List ℕ → OfSite → Bool
 goes site seen p = (p.0 == site) || has seen p.0 p.1.n
 
--- what stays, in a list that has the new addition of this site, after a Put that has seen this vector
+-- what stays, in a list that has the new addition of this site, after a Put that has seen this
+-- vector
 abbrev pub stays : ℕ → List ℕ → OfSite → Bool
 stays site seen p = (p.0 == site) || is_unseen seen p
 

@@ -10,7 +10,8 @@ use Rattle.zq_entry.specs.declared.held.Held.TheVariants.{Many, Nothing, One, Su
 abbrev pub listed : Held → List OfSite
 listed Nothing = []
 listed (One dot score) = (dot.site, addition_of_put dot.n score) ∷ []
-listed (Summed site by n score sum) = placed_from site n score ((by, non_zero_i64_get sum) ∷ []) ∷ []
+listed (Summed site by n score sum) = placed_from site n score ((by, non_zero_i64_get sum) ∷ [])
+    ∷ []
 listed (Many list) = list.items
 
 -- whether they lie in memory of their own

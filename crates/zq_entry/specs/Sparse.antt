@@ -6,9 +6,11 @@ use Rattle.std.specs.Prelude.{List, None, Option, Some, [], if◌then◌else◌,
 -- x is the value of the site s, in its place
 abbrev pub placed : {X : Type 0} → ℕ → X → List (ℕ × X) → List (ℕ × X)
 placed s x [] = (s, x) ∷ []
-placed s x (p ∷ items) = if nat_lt p.0 s then p ∷ placed s x items else (if p.0 == s then (s, x) ∷ items else (s, x) ∷ p ∷ items)
+placed s x (p ∷ items) = if nat_lt p.0 s then p
+    ∷ placed s x items else (if p.0 == s then (s, x) ∷ items else (s, x) ∷ p ∷ items)
 
--- where the value of a site has its place: the place of the first of this site or a later one, or the end
+-- where the value of a site has its place: the place of the first of this site or a later one, or
+-- the end
 abbrev pub place_in : {X : Type 0} → ℕ → List (ℕ × X) → ℕ
 place_in s items = position_or_len (λ p. nat_le s p.0) items
 

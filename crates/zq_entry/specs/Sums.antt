@@ -21,7 +21,9 @@ dense_sums items = by_site (λ s. sum_found s items)
 
 -- each site's sum, with the increment of a Bump of the site t
 abbrev pub sums_bumped : ℕ → ℤ → List ℤ → List ℤ
-sums_bumped t i sums = by_site (λ s. if s == t then slice_index_or sums s (pos 0) +ℤ i else slice_index_or sums s (pos 0))
+sums_bumped t i sums =
+    by_site (λ s. if s == t then slice_index_or sums s (pos 0) +ℤ i else slice_index_or sums s
+    (pos 0))
 
 -- a sum that is kept
 abbrev pub IsSum : ℕ × ℤ → Type 0
@@ -35,7 +37,8 @@ pub record AreSums (items : List (ℕ × ℤ)) : Type 0 where
 -- the sums that are not 0, each with its site, of sites from s on
 abbrev pub nonzero_from : ℕ → List ℤ → List (ℕ × ℤ)
 nonzero_from s [] = []
-nonzero_from s (x ∷ sums) = if int_eq x (pos 0) then nonzero_from (s + 1) sums else (s, x) ∷ nonzero_from (s + 1) sums
+nonzero_from s (x ∷ sums) = if int_eq x (pos 0) then nonzero_from (s + 1) sums else (s, x)
+    ∷ nonzero_from (s + 1) sums
 
 -- the sums that are not 0, each with its site, by rising site
 abbrev pub nonzero_sums : List ℤ → List (ℕ × ℤ)
@@ -45,6 +48,7 @@ nonzero_sums sums = nonzero_from 0 sums
 abbrev pub sum_kept : ℕ → ℤ → List (ℕ × ℤ)
 sum_kept s x = if int_eq x (pos 0) then [] else (s, x) ∷ []
 
--- of two sums of a site, that of the side whose vector has more of the site, and the first where they have the same
+-- of two sums of a site, that of the side whose vector has more of the site, and the first where
+-- they have the same
 abbrev pub sum_joined : List ℕ → List ℕ → ℕ → Option ℤ → Option ℤ → Option ℤ
 sum_joined u v s a b = if nat_lt (slice_index u s) (slice_index v s) then b else a

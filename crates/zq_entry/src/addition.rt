@@ -68,7 +68,8 @@ impl Addition {
 
     /// Its dot and its score, where all its sums are 0.
     pub(crate) fn bare(&self) -> Option<(Dot, Score)>
-        ensures { IfSome result (λ parts. self.now ≡ (parts.0.site, addition_of_put parts.0.n parts.1)) }
+        ensures { IfSome result
+            (λ parts. self.now ≡ (parts.0.site, addition_of_put parts.0.n parts.1)) }
     {
         if self.sums.as_slice().is_empty() {
             Some((self.dot, self.score))
@@ -80,7 +81,9 @@ impl Addition {
     /// Its dot, its score and its sum with the sum's site, where it has one sum and an `i64` holds
     /// that.
     pub(crate) fn summed(&self) -> Option<(Dot, Score, SiteNo, NonZeroI64)>
-        ensures { IfSome result (λ parts. self.now ≡ placed_from parts.0.site parts.0.n parts.1 ((parts.2, non_zero_i64_get parts.3) ∷ [])) }
+        ensures { IfSome result
+            (λ parts. self.now ≡ placed_from parts.0.site parts.0.n parts.1
+            ((parts.2, non_zero_i64_get parts.3) ∷ [])) }
     {
         let (site, sum) = self.sums.only()?;
         Some((self.dot, self.score, site, sum))

@@ -68,7 +68,8 @@ impl<'a> AdditionRef<'a> {
         requires kept { AreSums self.now.sums }
         requires counter { (1 ≤ dot.n) × (dot.n ≤ sets.LAST) }
         requires sums { IsWithin (MOST * (dot.n - 1)) (sum_at (lent self.now).1 dot.site) }
-        ensures { IfOk result (λ new. new ≡ bumped_placed seen.now dot.site increment (lent self.now)) }
+        ensures { IfOk result
+            (λ new. new ≡ bumped_placed seen.now dot.site increment (lent self.now)) }
     {
         if !seen.has(self.dot) {
             return self.copy(alloc);
@@ -89,7 +90,8 @@ impl<'a> AdditionRef<'a> {
         requires mine { AreSums self.now.sums }
         requires theirs { AreSums other.now.sums }
         ensures site { IfOk result (λ new. new.0 ≡ self.now.dot.site) }
-        ensures addition { IfOk result (λ new. new.1 ≡ joined mine.now theirs.now (lent self.now).1 (lent other.now).1) }
+        ensures addition { IfOk result
+            (λ new. new.1 ≡ joined mine.now theirs.now (lent self.now).1 (lent other.now).1) }
     {
         let sums = joined_sums(
             alloc,

@@ -159,8 +159,10 @@ impl Additions {
     ) -> Result<(), AllocError>
         requires only { length self.old ≡ 1 }
         requires counter { (1 ≤ dot.n) × (dot.n ≤ sets.LAST) }
-        requires sums { (d : OfSite) → IsWithin (MOST * (dot.n - 1)) (sum_at (slice_index_or self.old 0 d).1 dot.site) }
-        ensures bumped { OnOk result (self.new ≡ map (bumped_placed seen.now dot.site increment) self.old) }
+        requires sums { (d : OfSite) →
+            IsWithin (MOST * (dot.n - 1)) (sum_at (slice_index_or self.old 0 d).1 dot.site) }
+        ensures bumped { OnOk result
+            (self.new ≡ map (bumped_placed seen.now dot.site increment) self.old) }
         ensures refused { OnErr result (self.new ≡ self.old) }
     {
         let addition = self.at(0).bumped(alloc, dot, increment, seen)?;
@@ -182,7 +184,9 @@ impl Additions {
         score: Score,
         seen: &Vector,
     ) -> Result<(), AllocError>
-        ensures put { OnOk result (self.new ≡ filter (stays dot.now.site seen.now) (placed dot.now.site (addition_of_put dot.now.n score) self.old)) }
+        ensures put { OnOk result
+            (self.new ≡ filter (stays dot.now.site seen.now)
+            (placed dot.now.site (addition_of_put dot.now.n score) self.old)) }
         ensures refused { OnErr result (self.new ≡ self.old) }
     {
         self.held.widen(alloc)?;

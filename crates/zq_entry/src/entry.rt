@@ -72,7 +72,8 @@ impl Entry {
         score: Score,
         seen: &Vector,
     ) -> Result<(), AllocError>
-        ensures put { OnOk result (self.new ≡ model.entry_after (Put score) dot.site dot.n seen.now self.old) }
+        ensures put { OnOk result
+            (self.new ≡ model.entry_after (Put score) dot.site dot.n seen.now self.old) }
         ensures stands { OnOk result (model.is_bare self.new ≡ false) }
         ensures refused { OnErr result (self.new ≡ self.old) }
     {
@@ -83,8 +84,8 @@ impl Entry {
         self.additions.put(alloc, &dot, score, seen)
     }
 
-    /// Takes a Bump: each addition that it had seen has the increment in its sum of the Bump's site.
-    /// A sum that comes to 0 is not kept.
+    /// Takes a Bump: each addition that it had seen has the increment in its sum of the Bump's
+    /// site. A sum that comes to 0 is not kept.
     ///
     /// The site has made no more Bumps than counters below this one, so the amount of its sums is
     /// at most the greatest increment times those. Where there is no memory, nothing changes.
@@ -97,7 +98,8 @@ impl Entry {
     ) -> Result<(), AllocError>
         requires counter { (1 ≤ dot.n) × (dot.n ≤ sets.LAST) }
         requires sums { AreSumsWithin dot.site (MOST * (dot.n - 1)) self.old }
-        ensures bumped { OnOk result (self.new ≡ model.entry_after (Bump increment) dot.site dot.n seen.now self.old) }
+        ensures bumped { OnOk result
+            (self.new ≡ model.entry_after (Bump increment) dot.site dot.n seen.now self.old) }
         ensures refused { OnErr result (self.new ≡ self.old) }
     {
         if self.additions.len() == 1 {
@@ -121,8 +123,8 @@ impl Entry {
     }
 
     /// What the two sides have together, each with the vector of what it has seen. An addition that
-    /// both have stands, with each site's sum from the side that has seen more of the site; one that
-    /// only one side has stands where the other has not seen it.
+    /// both have stands, with each site's sum from the side that has seen more of the site; one
+    /// that only one side has stands where the other has not seen it.
     pub fn merge(
         &self,
         alloc: Global,
@@ -130,7 +132,8 @@ impl Entry {
         other: &Entry,
         theirs: &Vector,
     ) -> Result<Entry, AllocError>
-        ensures { IfOk result (λ merged. merged ≡ model.join_entry mine.now theirs.now self.now other.now) }
+        ensures { IfOk result
+            (λ merged. merged ≡ model.join_entry mine.now theirs.now self.now other.now) }
     {
         Ok(Entry {
             additions: merged(alloc, mine, &self.additions, theirs, &other.additions)?,
@@ -188,7 +191,8 @@ impl Entry {
     /// The addition at this place, by rising site.
     pub fn at(&self, place: usize) -> AdditionRef<'_>
         requires { place < length (placed_of self.now) }
-        ensures addition { (d : OfSite) → lent result ≡ slice_index_or (placed_of self.now) place d }
+        ensures addition { (d : OfSite) →
+            lent result ≡ slice_index_or (placed_of self.now) place d }
         ensures sums { AreSums result.sums }
     {
         self.additions.at(place)

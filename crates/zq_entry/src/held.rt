@@ -127,7 +127,8 @@ impl Held {
     pub fn place(&mut self, addition: Addition) -> Result<(), AllocError>
         requires { IsMany self.old }
         ensures many { OnOk result (IsMany self.new) }
-        ensures placed { OnOk result (listed self.new ≡ placed addition.0 addition.1 (listed self.old)) }
+        ensures placed { OnOk result
+            (listed self.new ≡ placed addition.0 addition.1 (listed self.old)) }
         ensures refused { OnErr result (listed self.new ≡ listed self.old) }
     {
         match self {

@@ -25,7 +25,8 @@ pub fn merged(
 ) -> Result<Additions, AllocError>
     requires mine { AreBySite 0 sets.SITES my_additions.now }
     requires theirs { AreBySite 0 sets.SITES their_additions.now }
-    ensures { IfOk result (λ new. new ≡ joined_additions mine.now theirs.now my_additions.now their_additions.now) }
+    ensures { IfOk result
+        (λ new. new ≡ joined_additions mine.now theirs.now my_additions.now their_additions.now) }
 {
     let mut merged = Additions::new();
     let (mut my_place, mut their_place) = (0, 0);
@@ -62,7 +63,10 @@ fn join(
 ) -> Result<Option<Addition>, AllocError>
     requires mine { IfSome my_addition (λ a. (a.now.dot.site ≡ site) × AreSums a.now.sums) }
     requires theirs { IfSome their_addition (λ a. (a.now.dot.site ≡ site) × AreSums a.now.sums) }
-    ensures { IfOk result (λ new. new ≡ option_map (λ a. (site, a)) (join_site mine.now theirs.now site (option_map (λ a. (lent a.now).1) my_addition.entry) (option_map (λ a. (lent a.now).1) their_addition.entry))) }
+    ensures { IfOk result
+        (λ new. new ≡ option_map (λ a. (site, a))
+        (join_site mine.now theirs.now site (option_map (λ a. (lent a.now).1) my_addition.entry)
+        (option_map (λ a. (lent a.now).1) their_addition.entry))) }
 {
     if let (Some(first), Some(second)) = (my_addition, their_addition) {
         if first.dot.n == second.dot.n {

@@ -23,8 +23,10 @@ fn place_of(additions: &[Addition], site: SiteNo) -> usize
 
 /// Whether the addition of this site is at this place.
 fn is_at(additions: &[Addition], at: usize, site: SiteNo) -> bool
-    ensures there { IsTrue result → (at < length additions.now) × ((d : OfSite) → (slice_index_or additions.now at d).0 ≡ site) }
-    ensures not_there { result ≡ false → at < length additions.now → (d : OfSite) → (slice_index_or additions.now at d).0 ≢ site }
+    ensures there { IsTrue result → (at < length additions.now)
+        × ((d : OfSite) → (slice_index_or additions.now at d).0 ≡ site) }
+    ensures not_there { result ≡ false → at < length additions.now → (d : OfSite) →
+        (slice_index_or additions.now at d).0 ≢ site }
 {
     additions
         .get(at)
@@ -33,7 +35,8 @@ fn is_at(additions: &[Addition], at: usize, site: SiteNo) -> bool
 
 /// Makes this the addition of its site.
 pub fn place(additions: &mut Vec<Addition>, addition: Addition) -> Result<(), AllocError>
-    ensures placed { OnOk result (additions.new.items ≡ placed addition.0 addition.1 additions.old.items) }
+    ensures placed { OnOk result
+        (additions.new.items ≡ placed addition.0 addition.1 additions.old.items) }
     ensures site { addition.0 < sets.SITES }
     ensures refused { OnErr result (additions.new.items ≡ additions.old.items) }
 {

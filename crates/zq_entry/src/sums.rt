@@ -15,7 +15,8 @@ use std::marker::Model;
 use std::num::NonZeroI64;
 use zq_dots::{Dot, Score, SiteNo, Vector};
 
-/// Where sums lie: one alone, which is what nearly all have that have any, takes no memory of its own.
+/// Where sums lie: one alone, which is what nearly all have that have any, takes no memory of its
+/// own.
 #[derive(Debug, Drop)]
 enum Kept {
     Nothing,
@@ -80,7 +81,8 @@ impl Sums {
 
     /// The only sum with its site, where there is one alone and an `i64` holds it.
     pub fn only(&self) -> Option<(SiteNo, NonZeroI64)>
-        ensures { IfSome result (λ only. self.now ≡ dense_sums ((only.0, non_zero_i64_get only.1) ∷ [])) }
+        ensures { IfSome result
+            (λ only. self.now ≡ dense_sums ((only.0, non_zero_i64_get only.1) ∷ [])) }
     {
         match self.as_slice() {
             [(site, sum)] => Some((*site, NonZeroI64::new(i64::try_from(*sum).ok()?)?)),
@@ -139,7 +141,9 @@ pub fn joined_sums(
 ) -> Result<Sums, AllocError>
     requires mine { AreSums my_sums.now }
     requires theirs { AreSums their_sums.now }
-    ensures { IfOk result (λ new. new ≡ sums_joined mine.now theirs.now (dense_sums my_sums.now) (dense_sums their_sums.now)) }
+    ensures { IfOk result
+        (λ new. new ≡ sums_joined mine.now theirs.now (dense_sums my_sums.now)
+        (dense_sums their_sums.now)) }
 {
     let mut items = Vec::new(alloc);
     let (mut my_rest, mut their_rest) = (my_sums, their_sums);
@@ -182,7 +186,8 @@ pub fn bumped_sums(
 ) -> Result<Sums, AllocError>
     requires sums { AreSums sums.now }
     requires counter { (1 ≤ dot.n) × (dot.n ≤ sets.LAST) }
-    requires room { IsWithin (MOST * (dot.n - 1)) (slice_index_or (dense_sums sums.now) dot.site (pos 0)) }
+    requires room { IsWithin (MOST * (dot.n - 1))
+        (slice_index_or (dense_sums sums.now) dot.site (pos 0)) }
     ensures { IfOk result (λ new. new ≡ sums_bumped dot.site increment (dense_sums sums.now)) }
 {
     let (before, rest) = sums.split_at(place_of(sums, dot.site));
@@ -191,7 +196,8 @@ pub fn bumped_sums(
     with_sum(alloc, before, dot.site, sum, after)
 }
 
-/// A site's sum between those of lower and of higher sites; 0 is not kept. It takes memory for two or more.
+/// A site's sum between those of lower and of higher sites; 0 is not kept. It takes memory for two
+/// or more.
 fn with_sum(
     alloc: Global,
     before: &[(SiteNo, i128)],

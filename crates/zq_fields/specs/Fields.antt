@@ -1,5 +1,5 @@
--- The fields that frames are made of. Reading takes a field from the front of the bytes. It gives the value and the bytes
--- after it, or None where bytes of the field are missing.
+-- The fields that frames are made of. Reading takes a field from the front of the bytes. It gives
+-- the value and the bytes after it, or None where bytes of the field are missing.
 
 use Rattle.std.specs.Int.{Width, byte_len, cast_signed, cast_unsigned, from_be_bytes, to_be_bytes, w32}
 use Rattle.std.specs.Prelude.{List, None, Option, Some, [], drop, if◌then◌else◌, length, nat_lt, take, ℕ, ℤ, ◌++◌, ◌∷◌, ◌≡◌}
@@ -15,12 +15,14 @@ bytes_field n bytes = if nat_lt (length bytes) n then None else Some (take n byt
 -- a number, its highest byte first
 abbrev pub number_field : Width → List ℕ → Option (ℕ × List ℕ)
 number_field w bytes =
-    if nat_lt (length bytes) (byte_len w) then None else Some (from_be_bytes w (take (byte_len w) bytes), drop (byte_len w) bytes)
+    if nat_lt (length bytes) (byte_len w) then None else Some
+    (from_be_bytes w (take (byte_len w) bytes), drop (byte_len w) bytes)
 
 -- a number in two's complement, its highest byte first
 abbrev pub signed_field : Width → List ℕ → Option (ℤ × List ℕ)
 signed_field w bytes =
-    if nat_lt (length bytes) (byte_len w) then None else Some (cast_signed w (from_be_bytes w (take (byte_len w) bytes)), drop (byte_len w) bytes)
+    if nat_lt (length bytes) (byte_len w) then None else Some
+    (cast_signed w (from_be_bytes w (take (byte_len w) bytes)), drop (byte_len w) bytes)
 
 -- the bytes of a number in two's complement
 abbrev pub signed : Width → ℤ → List ℕ

@@ -1,4 +1,5 @@
--- Reading a part from the front of the bytes, with the first fault that is met. What is read comes with the bytes after it.
+-- Reading a part from the front of the bytes, with the first fault that is met. What is read comes
+-- with the bytes after it.
 
 use Rattle.std.specs.Int.{w32, w64}
 use Rattle.std.specs.Option.{ok_or}
@@ -23,11 +24,13 @@ Gives view (Ok x) read = read ≡ Ok (view x)
 Gives view (Err fault) read = read ≡ Err fault
 
 infixl 10 ◌>>=◌
-abbrev pub ◌>>=◌ : {X Y : Type 0} → Result X PartFault → (X → Result Y PartFault) → Result Y PartFault
+abbrev pub ◌>>=◌ : {X Y : Type 0} → Result X PartFault → (X → Result Y PartFault) →
+    Result Y PartFault
 (Ok x) >>= f = f x
 (Err fault) >>= f = Err fault
 
--- Where the bytes begin, counted from the frame's first byte: whole is the number of bytes from there on.
+-- Where the bytes begin, counted from the frame's first byte: whole is the number of bytes from
+-- there on.
 abbrev pub place : ℕ → List ℕ → ℕ
 place whole bytes = whole - length bytes
 

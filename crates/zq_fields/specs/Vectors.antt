@@ -15,7 +15,8 @@ DENSE_SITES = 8
 abbrev pub IsDense : List ℕ → Type 0
 IsDense counters = (t : ℕ) → DENSE_SITES ≤ t → slice_index counters t ≡ 0
 
--- the greatest counter of the site s in a vector; where it is what an operation of the site own has seen, its own is the next, and there is one
+-- the greatest counter of the site s in a vector; where it is what an operation of the site own has
+-- seen, its own is the next, and there is one
 abbrev pub limit_of : Option ℕ → ℕ → ℕ
 limit_of None s = LAST
 limit_of (Some own) s = if s == own then LAST - 1 else LAST

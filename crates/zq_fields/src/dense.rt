@@ -14,11 +14,13 @@ use zq_dots::{SiteNo, Vector};
 /// The number of sites that a dense vector has a counter for.
 pub const DENSE_SITES: u8 = 8;
 
-/// Takes a counter of eight bytes for each of the sites 0 to 7, at most 281474976710655. Where the vector is what an
-/// operation of the site `own` has seen, that site's counter is less, since the operation's own is the next.
+/// Takes a counter of eight bytes for each of the sites 0 to 7, at most 281474976710655. Where the
+/// vector is what an operation of the site `own` has seen, that site's counter is less, since the
+/// operation's own is the next.
 #[tactic(auto, unfolding(crate::specs::Reading::dense_at, crate::specs::Spelling::dense))]
 pub fn read_dense(whole: usize, own: Option<SiteNo>, bytes: &mut &[u8]) -> Result<Vector, PartFault>
-    ensures exact { read.Gives (λ x. (x, bytes.new.now)) result (read.dense_at whole own bytes.old.now) }
+    ensures exact { read.Gives (λ x. (x, bytes.new.now)) result
+        (read.dense_at whole own bytes.old.now) }
     ensures found { IfOk result (λ x. bytes.old.now ≡ spell.dense x ++ bytes.new.now) }
     ensures dense { IfOk result (λ x. vectors.IsDense x) }
     ensures counters { IfOk result (λ x. sets.IsCounters x) }

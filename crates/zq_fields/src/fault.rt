@@ -1,6 +1,7 @@
 //! Why bytes do not begin with a part.
 
-/// Why bytes do not begin with a part: the first field from the left that is missing or out of its range.
+/// Why bytes do not begin with a part: the first field from the left that is missing or out of its
+/// range.
 #[derive(Clone, Copy, Debug, PartialEq, Eq)]
 pub enum PartFault {
     /// Bytes of a field are missing.

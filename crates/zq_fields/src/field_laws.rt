@@ -11,16 +11,20 @@ pub fn byte_again()
 
 /// Bytes that were written are read again.
 pub fn bytes_again()
-    ensures { (bytes rest : List ℕ) → bytes_field (length bytes) (bytes ++ rest) ≡ Some (bytes, rest) }
+    ensures { (bytes rest : List ℕ) → bytes_field (length bytes) (bytes ++ rest)
+        ≡ Some (bytes, rest) }
 {}
 
 /// A number that was written is read again.
 pub fn number_again()
-    ensures four { (n : ℕ) (rest : List ℕ) → n < 2 ^ 32 → number_field w32 (to_be_bytes w32 n ++ rest) ≡ Some (n, rest) }
-    ensures eight { (n : ℕ) (rest : List ℕ) → n < 2 ^ 64 → number_field w64 (to_be_bytes w64 n ++ rest) ≡ Some (n, rest) }
+    ensures four { (n : ℕ) (rest : List ℕ) → n < 2 ^ 32 →
+        number_field w32 (to_be_bytes w32 n ++ rest) ≡ Some (n, rest) }
+    ensures eight { (n : ℕ) (rest : List ℕ) → n < 2 ^ 64 →
+        number_field w64 (to_be_bytes w64 n ++ rest) ≡ Some (n, rest) }
 {}
 
 /// A number in two's complement that was written is read again.
 pub fn signed_again()
-    ensures { (z : ℤ) (rest : List ℕ) → FitsSigned w64 z → signed_field w64 (signed w64 z ++ rest) ≡ Some (z, rest) }
+    ensures { (z : ℤ) (rest : List ℕ) → FitsSigned w64 z →
+        signed_field w64 (signed w64 z ++ rest) ≡ Some (z, rest) }
 {}

@@ -1,12 +1,14 @@
-//! The fields of frames. The plain ones are bytes, whole numbers with their highest byte first, and runs of bytes. On these
-//! stand the ones that frames of operations, of states and of links share: numbers in a range, a heap, a rule, a score, a
-//! key or a member, and version vectors.
+//! The fields of frames. The plain ones are bytes, whole numbers with their highest byte first, and
+//! runs of bytes. On these stand the ones that frames of operations, of states and of links share:
+//! numbers in a range, a heap, a rule, a score, a key or a member, and version vectors.
 //!
-//! A reader takes its field from the front of the bytes. A plain one gives the value with the bytes after it, or `None` where
-//! bytes of the field are missing. The others answer a fault: that of the first field, from the left, that is missing or out
-//! of its range; `whole` is the number of bytes from the frame's first one on, so that a fault can say at which place its
-//! field begins. After a fault the bytes that are left are of no use. A writer appends, and where memory is refused what
-//! stood there stands. What is written is read again, and what is read is what was written: the laws say both.
+//! A reader takes its field from the front of the bytes. A plain one gives the value with the bytes
+//! after it, or `None` where bytes of the field are missing. The others answer a fault: that of the
+//! first field, from the left, that is missing or out of its range; `whole` is the number of bytes
+//! from the frame's first one on, so that a fault can say at which place its field begins. After a
+//! fault the bytes that are left are of no use. A writer appends, and where memory is refused what
+//! stood there stands. What is written is read again, and what is read is what was written: the
+//! laws say both.
 #![tactic(auto)]
 
 mod dense;

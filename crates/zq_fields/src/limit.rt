@@ -5,7 +5,8 @@ ghost use Rattle.zq_fields.specs.Vectors as vectors;
 
 use zq_dots::{LAST_COUNTER, SiteNo};
 
-/// The greatest counter of a site in a vector: in what an operation of the site own has seen, or in any.
+/// The greatest counter of a site in a vector: in what an operation of the site own has seen, or in
+/// any.
 #[tactic(auto, unfolding(zq_model::specs::Sets::LAST))]
 pub(crate) fn limit(own: &Option<SiteNo>, site: SiteNo) -> u64
     ensures { result ≡ vectors.limit_of own.now site }

@@ -20,12 +20,14 @@ pub fn heap_again()
 
 /// A rule that was written is read again.
 pub fn rule_again()
-    ensures { (whole : ℕ) (rule : Rule) (rest : List ℕ) → rule_at whole (rule_byte rule ∷ rest) ≡ Ok (rule, rest) }
+    ensures { (whole : ℕ) (rule : Rule) (rest : List ℕ) →
+        rule_at whole (rule_byte rule ∷ rest) ≡ Ok (rule, rest) }
 {}
 
 /// A score that was written is read again.
 pub fn score_again()
-    ensures { (z : ℤ) (rest : List ℕ) → IsWithin MOST z → score_at (signed w64 z ++ rest) ≡ Ok (z, rest) }
+    ensures { (z : ℤ) (rest : List ℕ) → IsWithin MOST z →
+        score_at (signed w64 z ++ rest) ≡ Ok (z, rest) }
 {}
 
 /// A key or a member that was written is read again.
@@ -33,11 +35,13 @@ pub fn text_again()
     ensures { (x rest : List ℕ) → length x ≤ LONGEST → text_at (text x ++ rest) ≡ Ok (x, rest) }
 {}
 
-/// A vector that was written is read again: each one by its entries, and those that know nothing of later sites by the
-/// counters of the first.
+/// A vector that was written is read again: each one by its entries, and those that know nothing of
+/// later sites by the counters of the first.
 pub fn vector_again()
-    ensures dense { (whole : ℕ) (own : Option ℕ) (v rest : List ℕ) → IsCounters v → IsDense v → IsWithinLimits own v →
+    ensures dense { (whole : ℕ) (own : Option ℕ) (v rest : List ℕ) → IsCounters v → IsDense v →
+        IsWithinLimits own v →
         dense_at whole own (dense v ++ rest) ≡ Ok (v, rest) }
-    ensures sparse { (whole : ℕ) (own : Option ℕ) (v rest : List ℕ) → IsCounters v → IsWithinLimits own v →
+    ensures sparse { (whole : ℕ) (own : Option ℕ) (v rest : List ℕ) → IsCounters v →
+        IsWithinLimits own v →
         sparse_at whole own (sparse v ++ rest) ≡ Ok (v, rest) }
 {}

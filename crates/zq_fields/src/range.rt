@@ -19,7 +19,8 @@ pub(crate) fn place(whole: usize, rest: &[u8]) -> usize
 /// Takes a byte from `low` on and below `past`.
 #[tactic(auto, unfolding(crate::specs::Reading::byte_in))]
 pub fn read_byte_in(whole: usize, bytes: &mut &[u8], low: u8, past: u8) -> Result<u8, PartFault>
-    ensures exact { read.Gives (λ x. (x, bytes.new.now)) result (read.byte_in whole low past bytes.old.now) }
+    ensures exact { read.Gives (λ x. (x, bytes.new.now)) result
+        (read.byte_in whole low past bytes.old.now) }
     ensures found { IfOk result (λ x. bytes.old.now ≡ x ∷ bytes.new.now) }
     ensures low { IfOk result (λ x. low ≤ x) }
     ensures past { IfOk result (λ x. x < past) }
@@ -42,7 +43,8 @@ pub fn read_number_in(
     low: u64,
     last: u64,
 ) -> Result<u64, PartFault>
-    ensures exact { read.Gives (λ x. (x, bytes.new.now)) result (read.number_in whole low last bytes.old.now) }
+    ensures exact { read.Gives (λ x. (x, bytes.new.now)) result
+        (read.number_in whole low last bytes.old.now) }
     ensures found { IfOk result (λ x. bytes.old.now ≡ to_be_bytes w64 x ++ bytes.new.now) }
     ensures low { IfOk result (λ x. low ≤ x) }
     ensures within { IfOk result (λ x. x ≤ last) }
@@ -60,7 +62,8 @@ pub fn read_number_in(
 /// Takes a site from `low` on and below `past`, a number of sites.
 pub fn read_site(whole: usize, bytes: &mut &[u8], low: u8, past: u8) -> Result<SiteNo, PartFault>
     requires { past ≤ sets.SITES }
-    ensures exact { read.Gives (λ x. (x, bytes.new.now)) result (read.byte_in whole low past bytes.old.now) }
+    ensures exact { read.Gives (λ x. (x, bytes.new.now)) result
+        (read.byte_in whole low past bytes.old.now) }
     ensures found { IfOk result (λ x. bytes.old.now ≡ x ∷ bytes.new.now) }
     ensures low { IfOk result (λ x. low ≤ x) }
     ensures past { IfOk result (λ x. x < past) }

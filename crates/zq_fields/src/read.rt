@@ -22,7 +22,8 @@ pub fn read_bytes(bytes: &[u8], count: usize) -> Option<(&[u8], &[u8])>
     bytes.split_at_checked(count)
 }
 
-/// A number of four bytes, the highest first, and the bytes after it, or `None` where there are fewer.
+/// A number of four bytes, the highest first, and the bytes after it, or `None` where there are
+/// fewer.
 pub fn read_u32(bytes: &[u8]) -> Option<(u32, &[u8])>
     ensures exact { Gives (λ x. (x.0, x.1.now)) result (number_field w32 bytes.now) }
     ensures found { IfSome result (λ x. bytes.now ≡ to_be_bytes w32 x.0 ++ x.1.now) }
@@ -31,7 +32,8 @@ pub fn read_u32(bytes: &[u8]) -> Option<(u32, &[u8])>
     Some((u32::from_be_bytes(*number), rest))
 }
 
-/// A number of eight bytes, the highest first, and the bytes after it, or `None` where there are fewer.
+/// A number of eight bytes, the highest first, and the bytes after it, or `None` where there are
+/// fewer.
 pub fn read_u64(bytes: &[u8]) -> Option<(u64, &[u8])>
     ensures exact { Gives (λ x. (x.0, x.1.now)) result (number_field w64 bytes.now) }
     ensures found { IfSome result (λ x. bytes.now ≡ to_be_bytes w64 x.0 ++ x.1.now) }
@@ -40,8 +42,8 @@ pub fn read_u64(bytes: &[u8]) -> Option<(u64, &[u8])>
     Some((u64::from_be_bytes(*number), rest))
 }
 
-/// A number of eight bytes in two's complement, the highest first, and the bytes after it, or `None` where there are
-/// fewer.
+/// A number of eight bytes in two's complement, the highest first, and the bytes after it, or
+/// `None` where there are fewer.
 pub fn read_i64(bytes: &[u8]) -> Option<(i64, &[u8])>
     ensures exact { Gives (λ x. (x.0, x.1.now)) result (signed_field w64 bytes.now) }
     ensures found { IfSome result (λ x. bytes.now ≡ signed w64 x.0 ++ x.1.now) }

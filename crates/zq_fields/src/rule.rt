@@ -12,7 +12,8 @@ use zq_dots::Rule;
 /// Takes a rule: 0 is High and 1 is Low.
 #[tactic(auto, unfolding(crate::specs::Reading::rule_at))]
 pub fn read_rule(whole: usize, bytes: &mut &[u8]) -> Result<Rule, PartFault>
-    ensures exact { read.Gives (λ x. (rule_of x, bytes.new.now)) result (read.rule_at whole bytes.old.now) }
+    ensures exact { read.Gives (λ x. (rule_of x, bytes.new.now)) result
+        (read.rule_at whole bytes.old.now) }
     ensures found { IfOk result (λ x. bytes.old.now ≡ spell.rule_byte (rule_of x) ∷ bytes.new.now) }
 {
     let byte = read_byte_in(whole, bytes, 0, 2)?;

@@ -20,16 +20,18 @@ const PAST: u8 = SITES as u8;
 // The bytes of an entry.
 const ENTRY: usize = 9;
 
-/// Takes the number of entries, at most 64, and as many: a site of one byte, below 64 and greater than the one before,
-/// and its counter of eight bytes, 1 to 281474976710655. Where the vector is what an operation of the site `own` has
-/// seen, that site's counter is less, since the operation's own is the next.
+/// Takes the number of entries, at most 64, and as many: a site of one byte, below 64 and greater
+/// than the one before, and its counter of eight bytes, 1 to 281474976710655. Where the vector is
+/// what an operation of the site `own` has seen, that site's counter is less, since the operation's
+/// own is the next.
 #[tactic(auto, unfolding(crate::specs::Reading::sparse_at, zq_model::specs::Sets::SITES))]
 pub fn read_sparse(
     whole: usize,
     own: Option<SiteNo>,
     bytes: &mut &[u8],
 ) -> Result<Vector, PartFault>
-    ensures exact { read.Gives (λ x. (x, bytes.new.now)) result (read.sparse_at whole own bytes.old.now) }
+    ensures exact { read.Gives (λ x. (x, bytes.new.now)) result
+        (read.sparse_at whole own bytes.old.now) }
     ensures found { IfOk result (λ x. bytes.old.now ≡ spell.sparse x ++ bytes.new.now) }
     ensures counters { IfOk result (λ x. sets.IsCounters x) }
     ensures within { IfOk result (λ x. vectors.IsWithinLimits own x) }
@@ -44,7 +46,8 @@ fn read_entries(
     count: u8,
     bytes: &mut &[u8],
 ) -> Result<Vector, PartFault>
-    ensures exact { read.Gives (λ x. (x, bytes.new.now)) result (read.entries_at whole own.now count 0 vectors.no_counters bytes.old.now) }
+    ensures exact { read.Gives (λ x. (x, bytes.new.now)) result
+        (read.entries_at whole own.now count 0 vectors.no_counters bytes.old.now) }
     ensures found { IfOk result (λ x. count ∷ bytes.old.now ≡ spell.sparse x ++ bytes.new.now) }
     ensures counters { IfOk result (λ x. sets.IsCounters x) }
     ensures within { IfOk result (λ x. vectors.IsWithinLimits own.now x) }
@@ -67,7 +70,8 @@ fn read_entry(
     low: u8,
     bytes: &mut &[u8],
 ) -> Result<(SiteNo, u64), PartFault>
-    ensures exact { read.Gives (λ x. ((x.0, x.1), bytes.new.now)) result (read.entry_at whole own.now low bytes.old.now) }
+    ensures exact { read.Gives (λ x. ((x.0, x.1), bytes.new.now)) result
+        (read.entry_at whole own.now low bytes.old.now) }
     ensures found { IfOk result (λ x. bytes.old.now ≡ spell.entry x.0 x.1 ++ bytes.new.now) }
     ensures site { IfOk result (λ x. (low ≤ x.0) × (x.0 < sets.SITES)) }
     ensures counter { IfOk result (λ x. (1 ≤ x.1) × (x.1 ≤ vectors.limit_of own.now x.0)) }
@@ -103,8 +107,8 @@ fn known(vector: &Vector) -> u8
     count
 }
 
-/// Appends the number of sites of which anything is known, and for each its number and its counter. Where memory is
-/// refused a part of that may stand behind what stood there.
+/// Appends the number of sites of which anything is known, and for each its number and its counter.
+/// Where memory is refused a part of that may stand behind what stood there.
 #[tactic(auto, unfolding(crate::specs::Spelling::sparse))]
 pub fn write_sparse(out: &mut Vec<u8>, vector: &Vector) -> Result<(), AllocError>
     requires { sets.IsCounters vector.now }

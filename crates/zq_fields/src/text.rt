@@ -31,7 +31,8 @@ pub fn read_text<'a>(bytes: &mut &'a [u8]) -> Result<&'a [u8], PartFault>
     Ok(text)
 }
 
-/// Appends a key or a member. Where memory is refused a part of it may stand behind what stood there.
+/// Appends a key or a member. Where memory is refused a part of it may stand behind what stood
+/// there.
 pub fn write_text(out: &mut Vec<u8>, bytes: &[u8]) -> Result<(), AllocError>
     requires { length bytes.now ≤ placed.LONGEST }
     ensures written { OnOk result (out.new.items ≡ out.old.items ++ text bytes.now) }

@@ -8,8 +8,8 @@ ghost use Rattle.zq_fields.specs.Fields.{Gives, number_field, signed, signed_fie
 use crate::write::write_bytes;
 use std::alloc::AllocError;
 
-/// A number of sixteen bytes in two's complement, the highest first, and the bytes after it, or `None` where there are
-/// fewer.
+/// A number of sixteen bytes in two's complement, the highest first, and the bytes after it, or
+/// `None` where there are fewer.
 pub fn read_i128(bytes: &[u8]) -> Option<(i128, &[u8])>
     ensures exact { Gives (λ x. (x.0, x.1.now)) result (signed_field w128 bytes.now) }
     ensures found { IfSome result (λ x. bytes.now ≡ signed w128 x.0 ++ x.1.now) }
@@ -26,8 +26,8 @@ fn read_u128(bytes: &[u8]) -> Option<(u128, &[u8])>
     Some((u128::from_be_bytes(*number), rest))
 }
 
-/// Appends a number's sixteen bytes in two's complement, the highest first. Where memory is refused nothing is written;
-/// it is refused only where room was missing.
+/// Appends a number's sixteen bytes in two's complement, the highest first. Where memory is refused
+/// nothing is written; it is refused only where room was missing.
 pub fn write_i128(out: &mut Vec<u8>, number: i128) -> Result<(), AllocError>
     ensures written { OnOk result (out.new.items ≡ out.old.items ++ signed w128 number) }
     ensures refused { OnErr result (out.new.items ≡ out.old.items) }
@@ -49,5 +49,6 @@ fn write_u128(out: &mut Vec<u8>, number: u128) -> Result<(), AllocError>
 
 /// A number of sixteen bytes that was written is read again.
 pub fn wide_again()
-    ensures { (z : ℤ) (rest : List ℕ) → FitsSigned w128 z → signed_field w128 (signed w128 z ++ rest) ≡ Some (z, rest) }
+    ensures { (z : ℤ) (rest : List ℕ) → FitsSigned w128 z →
+        signed_field w128 (signed w128 z ++ rest) ≡ Some (z, rest) }
 {}

@@ -7,7 +7,8 @@ ghost use Rattle.zq_fields.specs.Fields.{signed};
 
 use std::alloc::AllocError;
 
-/// Appends a byte. An error comes only where `out` had no room left and memory was refused; then nothing is written.
+/// Appends a byte. An error comes only where `out` had no room left and memory was refused; then
+/// nothing is written.
 pub fn write_byte(out: &mut Vec<u8>, byte: u8) -> Result<(), AllocError>
     ensures written { OnOk result (out.new.items ≡ out.old.items ++ byte ∷ []) }
     ensures refused { OnErr result (out.new.items ≡ out.old.items) }
@@ -18,8 +19,8 @@ pub fn write_byte(out: &mut Vec<u8>, byte: u8) -> Result<(), AllocError>
     Ok(())
 }
 
-/// Appends the bytes. An error comes only where `out` had too little room left and memory was refused; then nothing is
-/// written.
+/// Appends the bytes. An error comes only where `out` had too little room left and memory was
+/// refused; then nothing is written.
 pub fn write_bytes(out: &mut Vec<u8>, bytes: &[u8]) -> Result<(), AllocError>
     ensures written { OnOk result (out.new.items ≡ out.old.items ++ bytes.now) }
     ensures refused { OnErr result (out.new.items ≡ out.old.items) }
@@ -51,7 +52,8 @@ pub fn write_u64(out: &mut Vec<u8>, number: u64) -> Result<(), AllocError>
     write_bytes(out, &eight)
 }
 
-/// Appends a number's eight bytes in two's complement, the highest first. An error is that of `write_bytes`.
+/// Appends a number's eight bytes in two's complement, the highest first. An error is that of
+/// `write_bytes`.
 pub fn write_i64(out: &mut Vec<u8>, number: i64) -> Result<(), AllocError>
     ensures written { OnOk result (out.new.items ≡ out.old.items ++ signed w64 number) }
     ensures refused { OnErr result (out.new.items ≡ out.old.items) }

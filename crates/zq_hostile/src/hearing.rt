@@ -13,7 +13,8 @@ use zq_shard::Shard;
 use zq_spread::{Pass, Site};
 use zq_trials::{Ended, THEIRS, Tried, is_written, operations, taken, written};
 
-/// A frame of the three operations of site 1, in the order in which they were made, or with the first two exchanged.
+/// A frame of the three operations of site 1, in the order in which they were made, or with the
+/// first two exchanged.
 fn frame(alloc: Global, is_turned: bool) -> Option<Frame> {
     let mut ops = operations(alloc, 1, &THEIRS)?;
     if is_turned && ops.len() > 1 {
@@ -29,8 +30,8 @@ fn has_taken(alloc: Global, shard: &Shard, ops: &[Op]) -> Option<bool> {
     is_written(alloc, shard, &bytes)
 }
 
-/// How many of the three operations a heap has taken: the first of them, and no others. `None` where memory was refused,
-/// and four where it has something else.
+/// How many of the three operations a heap has taken: the first of them, and no others. `None`
+/// where memory was refused, and four where it has something else.
 fn taken_in(alloc: Global, shard: &Shard) -> Option<usize> {
     let count = shard.vector().get(SiteNo::new(1)?) as usize;
     let ops = operations(alloc, 1, &THEIRS)?;
@@ -87,7 +88,8 @@ fn is_whole(node: &Node, told: (Tried, usize)) -> bool {
     told.0 == Tried::Done && told.1 == 3 && node.parked_len() == 0
 }
 
-/// How it ends where a node of site 0 hears the three operations, and hears them again where it had no memory.
+/// How it ends where a node of site 0 hears the three operations, and hears them again where it had
+/// no memory.
 pub fn hears<R: Wait>(
     rt: &R,
     alloc: Global,

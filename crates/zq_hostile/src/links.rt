@@ -1,4 +1,5 @@
-//! A hundred frames over a link that loses each or doubles each, and a node that hears what the link passes on.
+//! A hundred frames over a link that loses each or doubles each, and a node that hears what the
+//! link passes on.
 ghost use Rattle.std.specs.Prelude.{IfSome, ◌≡◌, length};
 ghost use Rattle.zq_node.specs.Node.{IsNode};
 ghost use Rattle.zq_spread.specs.Calls.{heaps_of};
@@ -27,7 +28,8 @@ pub struct Fault {
 /// A link that loses each frame passes on none.
 pub const LOSES: Fault = Fault { word: 0, copies: 0 };
 
-/// A link that doubles each frame passes on each twice, and who hears them has what one has that hears each once.
+/// A link that doubles each frame passes on each twice, and who hears them has what one has that
+/// hears each once.
 pub const DOUBLES: Fault = Fault { word: 1, copies: 2 };
 
 /// The operations of the frames: each gives a member of heap 0 another score.
@@ -103,8 +105,8 @@ fn bytes_of(alloc: Global, ops: &[Op]) -> Option<Vec<u8>> {
     written(alloc, &owed)
 }
 
-/// How it ends where a link passes on each frame so often. The site's heap is then that of one that took each operation
-/// that was passed on once.
+/// How it ends where a link passes on each frame so often. The site's heap is then that of one that
+/// took each operation that was passed on once.
 pub fn linked<R: Wait>(
     rt: &R,
     alloc: Global,

@@ -1,13 +1,14 @@
 //! Hostile use: calls of which a growth is refused, and streams that are cut or fail anywhere.
 //!
-//! `zq_hostile CASE..` runs these cases, writes a line for each, and ends after the first that is not as with memory. Its
-//! status is 0 where all are, 11 where the call of one had no memory and nothing was lost, 10 where memory was refused
-//! before or after the call, 4 where a line cannot be read or written, and 1 where something was
-//! lost, or came otherwise than it is owed.
-//! tools/refused-growths runs each case with each growth refused in turn.
-//! The cases of nodes, links and worlds stand here, all others in the library `zq_trials`.
+//! `zq_hostile CASE..` runs these cases, writes a line for each, and ends after the first that is
+//! not as with memory. Its status is 0 where all are, 11 where the call of one had no memory and
+//! nothing was lost, 10 where memory was refused before or after the call, 4 where a line cannot be
+//! read or written, and 1 where something was lost, or came otherwise than it is owed.
+//! tools/refused-growths runs each case with each growth refused in turn. The cases of nodes, links
+//! and worlds stand here, all others in the library `zq_trials`.
 //!
-//! `zq_hostile texts` reads texts of settings from standard input, and says what each is read as; bench/fuzz.py draws them.
+//! `zq_hostile texts` reads texts of settings from standard input, and says what each is read as;
+//! bench/fuzz.py draws them.
 #![tactic(auto)]
 
 mod hearing;
@@ -73,7 +74,8 @@ fn run_all<R: Print + Threads + Wait + Sync>(rt: &R, alloc: Global, names: &[Str
     0
 }
 
-/// The program's status for a case. Where memory was refused before or after the call, there is nothing to say of it.
+/// The program's status for a case. Where memory was refused before or after the call, there is
+/// nothing to say of it.
 fn status(ended: Option<Ended>) -> u8 {
     match ended {
         Some(Ended::Owed(_)) => 0,
@@ -93,7 +95,8 @@ fn tell<R: Print>(rt: &R, name: &str, ended: Option<Ended>) -> io::Result<()> {
     }
 }
 
-/// How the case of this name ends: one that needs a node, a link or a world, or else one that needs none.
+/// How the case of this name ends: one that needs a node, a link or a world, or else one that needs
+/// none.
 fn case<R: Threads + Wait + Sync>(rt: &R, alloc: Global, name: &str) -> Option<Ended> {
     match name {
         "play" => playing::world(alloc),

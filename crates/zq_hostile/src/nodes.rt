@@ -16,7 +16,8 @@ use zq_trials::{Ended, last_pass, opened_with};
 /// What a node hears.
 #[derive(Clone, Copy)]
 pub enum Hearing {
-    /// A frame of three operations, in the order in which they were made, or with the first two exchanged.
+    /// A frame of three operations, in the order in which they were made, or with the first two
+    /// exchanged.
     Frame { is_turned: bool },
     /// What a link passes on of a hundred frames.
     Link(Fault),

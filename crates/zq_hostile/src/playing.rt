@@ -11,7 +11,8 @@ enum Step {
     Take { op: usize },
 }
 
-/// Site 0 adds three members; site 1 merges its heap 0 as it was then, and takes the operation of heap 1; then it pops.
+/// Site 0 adds three members; site 1 merges its heap 0 as it was then, and takes the operation of
+/// heap 1; then it pops.
 const STEPS: [Step; 4] = [
     Step::Ask {
         site: 0,

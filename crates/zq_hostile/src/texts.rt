@@ -6,8 +6,8 @@ use std::{io, str};
 use zq_dots::Rule;
 use zq_settings::{Settings, settings};
 
-/// Reads a text from each line of standard input, in hexadecimal digits, and writes a line for each: its settings, or why it
-/// has none.
+/// Reads a text from each line of standard input, in hexadecimal digits, and writes a line for
+/// each: its settings, or why it has none.
 pub fn read_texts<R: Input + Print>(rt: &R, alloc: Global) -> io::Result<()> {
     for line in BufReader::new(alloc, rt.reader())?.lines(alloc) {
         let line = line?;

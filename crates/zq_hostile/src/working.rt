@@ -99,8 +99,9 @@ const COUNTS: [&str; 5] = [":0\r\n", ":1\r\n", ":2\r\n", ":3\r\n", ":4\r\n"];
 /// What ZRANGE says in the end.
 const ALL: &str = "*4\r\n$1\r\na\r\n$1\r\nb\r\n$1\r\nc\r\n$1\r\nd\r\n";
 
-/// How many calls stand, of which so many say that they added a member: those that the records have, if the queue has as
-/// many members. Else five. Where no call lacked memory and ZCARD does, there is nothing to say.
+/// How many calls stand, of which so many say that they added a member: those that the records
+/// have, if the queue has as many members. Else five. Where no call lacked memory and ZCARD does,
+/// there is nothing to say.
 fn count<R: Wait>(
     rt: &R,
     alloc: Global,
@@ -134,7 +135,8 @@ fn last_of<R: Wait>(rt: &R, alloc: Global, site: &Site, looks: &mut Pass) -> Opt
     answer(rt, alloc, site, looks, "ZRANGE q 0 -1")
 }
 
-/// How many calls of two workers say that they added a member, `None` within where the work was not done to its end.
+/// How many calls of two workers say that they added a member, `None` within where the work was not
+/// done to its end.
 fn worked<R: Threads + Wait + Sync>(
     rt: &R,
     alloc: Global,
@@ -153,8 +155,8 @@ fn worked<R: Threads + Wait + Sync>(
     })
 }
 
-/// How the workers end of which so many calls say that they added a member, where so many stand and ZRANGE says this in the
-/// end. Where the work was not done to its end any of its calls may stand.
+/// How the workers end of which so many calls say that they added a member, where so many stand and
+/// ZRANGE says this in the end. Where the work was not done to its end any of its calls may stand.
 fn in_the_end(added: Option<usize>, done: usize, last: &[u8]) -> Option<Ended> {
     let all = last == ALL.as_bytes();
     match added {
@@ -182,7 +184,8 @@ fn looked_at<R: Wait>(
     in_the_end(added, done, &last)
 }
 
-/// How the workers of a new site end that have these requests, of which a third pass looks at what they did.
+/// How the workers of a new site end that have these requests, of which a third pass looks at what
+/// they did.
 fn at_site<R: Threads + Wait + Sync>(
     rt: &R,
     alloc: Global,

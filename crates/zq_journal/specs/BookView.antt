@@ -13,7 +13,9 @@ abbrev pub records_of : Inside → List Record
 records_of b = records_in b.shard b.vector b.tail.items
 
 abbrev pub book_of : Inside → Book
-book_of b = book_over b.shard b.vector (leaves_of (records_of b)) (limits_of b.limits) b.handed b.stamp b.count
+book_of b = book_over b.shard b.vector (leaves_of (records_of b))
+    (limits_of b.limits) b.handed b.stamp b.count
 
 abbrev pub IsBookKept : Inside → Type 0
-IsBookKept b = IsStanding b.shard b.vector (records_of b) (limits_of b.limits) b.handed b.stamp b.count
+IsBookKept b = IsStanding b.shard b.vector (records_of b)
+    (limits_of b.limits) b.handed b.stamp b.count

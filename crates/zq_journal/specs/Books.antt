@@ -29,7 +29,8 @@ opened s stamp count = record {
   handed = None;
 }
 
--- the book of a heap whose tail can be undone: its base has this vector, and the members that undoing the tail gives
+-- the book of a heap whose tail can be undone: its base has this vector, and the members that
+-- undoing the tail gives
 abbrev pub book_over : HeapImage → List ℕ → List Leaf → TailLimits → Option ℕ → ℕ → ℕ → Book
 book_over s vector leaves limits handed stamp count = record {
   heap = s.heap;
@@ -56,7 +57,8 @@ pub record IsBased (b : Book) (S : List Operation) : Type 0 where
   pub closed : IsClosed S
   pub base : b.base ≡ image_of S b.heap
 
--- S is what the base of the book has taken, T what a peer of the vector v has, both closed, and with the tail they lie in one world
+-- S is what the base of the book has taken, T what a peer of the vector v has, both closed, and
+-- with the tail they lie in one world
 pub record IsPeer (b : Book) (S T : List Operation) (v : List ℕ) : Type 0 where
   pub world : IsWorld b.heaps (tail_set S (operations_of b.tail) ++ T)
   pub closed : IsClosed S

@@ -24,18 +24,31 @@ change-from_sides (Made o) = refl
 change-from_sides (Took o) = refl
 
 abbrev pub change_code : Coded Change
-change_code = code_by (Operation ⊎ Operation) (coded⊎ operation_code operation_code) sides_of change_from change-from_sides
+change_code = code_by (Operation ⊎ Operation)
+    (coded⊎ operation_code operation_code) sides_of change_from change-from_sides
 
 abbrev pub record_code : Coded Record
-record_code = code_by (ℕ × Change) (coded× coded_ℕ change_code) (λ r. (r.stamp, r.change)) (λ p. record { stamp = p.0; change = p.1 }) (λ _. refl)
+record_code = code_by (ℕ × Change) (coded× coded_ℕ change_code) (λ r. (r.stamp, r.change))
+    (λ p. record { stamp = p.0; change = p.1 }) (λ _. refl)
 
 abbrev pub limits_code : Coded TailLimits
 limits_code = code_by (ℕ × (ℕ × Option ℕ)) (coded× coded_ℕ (coded× coded_ℕ (coded_option coded_ℕ)))
-    (λ l. (l.long, (l.kept, l.bytes))) (λ p. record { long = p.0; kept = p.1.0; bytes = p.1.1 }) (λ _. refl)
+    (λ l. (l.long, (l.kept, l.bytes))) (λ p. record { long = p.0; kept = p.1.0; bytes = p.1.1 })
+    (λ _. refl)
 
 abbrev pub book_code : Coded Book
 book_code =
-    code_by (ℕ × (ℕ × (Rule × (Image × (Image × (List Record × (ℕ × (ℕ × (TailLimits × Option ℕ)))))))))
-    (coded× coded_ℕ (coded× coded_ℕ (coded× rule_code (coded× image_code (coded× image_code (coded× (coded_list record_code) (coded× coded_ℕ (coded× coded_ℕ (coded× limits_code (coded_option coded_ℕ))))))))))
-    (λ b. (b.heap, (b.heaps, (b.rule, (b.base, (b.state, (b.tail, (b.stamp, (b.count, (b.limits, b.handed))))))))))
+    code_by (ℕ × (ℕ × (Rule
+    × (Image × (Image × (List Record × (ℕ × (ℕ × (TailLimits × Option ℕ)))))))))
+    (coded× coded_ℕ (coded× coded_ℕ
+    (coded× rule_code (coded× image_code
+    (coded× image_code (coded× (coded_list record_code)
+    (coded× coded_ℕ (coded× coded_ℕ (coded× limits_code (coded_option coded_ℕ))))))))))
+    (λ b. (
+      b.heap,
+      (
+        b.heaps,
+        (b.rule, (b.base, (b.state, (b.tail, (b.stamp, (b.count, (b.limits, b.handed))))))),
+      ),
+    ))
     (λ p. record { heap = p.0; heaps = p.1.0; rule = p.1.1.0; base = p.1.1.1.0; state = p.1.1.1.1.0; tail = p.1.1.1.1.1.0; stamp = p.1.1.1.1.1.1.0; count = p.1.1.1.1.1.1.1.0; limits = p.1.1.1.1.1.1.1.1.0; handed = p.1.1.1.1.1.1.1.1.1 }) (λ _. refl)

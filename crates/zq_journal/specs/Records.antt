@@ -25,7 +25,8 @@ pub record Record : Type 0 where
   pub what : Change
   pub before : Option Entry
 
--- what a record keeps of its operation, and the rest: a heap of a number of heaps, whose vector was v before it
+-- what a record keeps of its operation, and the rest: a heap of a number of heaps, whose vector was
+-- v before it
 abbrev pub whole : ℕ → ℕ → List ℕ → change.Change → Change
 whole h K v (kept.Made own) = Made (record {
   heaps = K;
@@ -53,7 +54,8 @@ bytes_kept_in (r ∷ records) = bytes_kept r.what + bytes_kept_in records
 -- how many of the oldest records go, so that the rest has at most so many of these bytes
 abbrev pub cut_kept : ℕ → List kept_record.Record → ℕ
 cut_kept most [] = 0
-cut_kept most (r ∷ records) = if nat_le (bytes_kept_in (r ∷ records)) most then 0 else suc (cut_kept most records)
+cut_kept most (r ∷ records) = if nat_le (bytes_kept_in (r ∷ records)) most then 0 else suc
+    (cut_kept most records)
 
 -- the vector after an operation
 abbrev pub vector_past : List ℕ → Change → List ℕ
@@ -65,7 +67,8 @@ full_of h K v r = record { stamp = r.stamp; what = whole h K v r.what; before = 
 -- the records with their whole operations, over a vector
 abbrev pub records_over : ℕ → ℕ → List ℕ → List kept_record.Record → List Record
 records_over h K v [] = []
-records_over h K v (r ∷ records) = full_of h K v r ∷ records_over h K (vector_past v (whole h K v r.what)) records
+records_over h K v (r ∷ records) =
+    full_of h K v r ∷ records_over h K (vector_past v (whole h K v r.what)) records
 
 -- the vector after the records
 abbrev pub vector_over : ℕ → ℕ → List ℕ → List kept_record.Record → List ℕ
@@ -109,4 +112,5 @@ pub record IsRecord (h K : ℕ) (r : Record) : Type 0 where
 
 -- the operations of the records that the vector lacks
 abbrev pub missing_of : List ℕ → List Record → List Placed
-missing_of v records = filter (λ p. not (has v p.operation.site p.operation.n)) (map (λ r. placed_in r.what) records)
+missing_of v records = filter (λ p. not (has v p.operation.site p.operation.n))
+    (map (λ r. placed_in r.what) records)

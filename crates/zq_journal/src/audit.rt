@@ -40,13 +40,20 @@ fn undo(
     base: &Vector,
     tail: &VecDeque<Record>,
 ) -> Result<(), AllocError>
-    requires each { All (IsRecord shard.old.heap shard.old.heaps) (records_in shard.old base.now tail.now.items) }
-    requires bounded { (i : ℕ) → IsBounded shard.old.heaps shard.old.heap (undone_at (drop i (records_in shard.old base.now tail.now.items)) shard.old.image) }
-    requires base { IsBounded shard.old.heaps shard.old.heap (with_vector base.now (undone_at (records_in shard.old base.now tail.now.items) shard.old.image)) }
+    requires each { All (IsRecord shard.old.heap shard.old.heaps)
+        (records_in shard.old base.now tail.now.items) }
+    requires bounded { (i : ℕ) →
+        IsBounded shard.old.heaps shard.old.heap
+        (undone_at (drop i (records_in shard.old base.now tail.now.items)) shard.old.image) }
+    requires base { IsBounded shard.old.heaps shard.old.heap
+        (with_vector base.now
+        (undone_at (records_in shard.old base.now tail.now.items) shard.old.image)) }
     ensures heap { shard.new.heap ≡ shard.old.heap }
     ensures heaps { shard.new.heaps ≡ shard.old.heaps }
     ensures rule { shard.new.rule ≡ shard.old.rule }
-    ensures image { OnOk result (shard.new.image ≡ with_vector base.now (undone_at (records_in shard.old base.now tail.now.items) shard.old.image)) }
+    ensures image { OnOk result
+        (shard.new.image ≡ with_vector base.now
+        (undone_at (records_in shard.old base.now tail.now.items) shard.old.image)) }
 {
     for newer in 0..tail.len() {
         let record = &tail[tail.len() - 1 - newer];
@@ -59,12 +66,17 @@ fn undo(
 
 /// Takes the records' operations, the oldest first.
 fn replay(alloc: Global, shard: &mut Shard, tail: &VecDeque<Record>) -> Result<(), AllocError>
-    requires each { All (IsRecord shard.old.heap shard.old.heaps) (records_in shard.old shard.old.image.vector tail.now.items) }
-    requires over { are_steps_over shard.old.heaps shard.old.heap shard.old.image (steps_of (written_in (records_in shard.old shard.old.image.vector tail.now.items))) ≡ true }
+    requires each { All (IsRecord shard.old.heap shard.old.heaps)
+        (records_in shard.old shard.old.image.vector tail.now.items) }
+    requires over { are_steps_over shard.old.heaps shard.old.heap shard.old.image
+        (steps_of (written_in (records_in shard.old shard.old.image.vector tail.now.items)))
+        ≡ true }
     ensures heap { shard.new.heap ≡ shard.old.heap }
     ensures heaps { shard.new.heaps ≡ shard.old.heaps }
     ensures rule { shard.new.rule ≡ shard.old.rule }
-    ensures image { OnOk result (shard.new.image ≡ replayed (written_in (records_in shard.old shard.old.image.vector tail.now.items)) shard.old.image) }
+    ensures image { OnOk result
+        (shard.new.image ≡ replayed
+        (written_in (records_in shard.old shard.old.image.vector tail.now.items)) shard.old.image) }
 {
     for place in 0..tail.len() {
         let what = &tail[place].what;

@@ -87,8 +87,8 @@ impl Book {
         self.limits = limits;
     }
 
-    /// From now on a cut takes none but the first so many of its records and merges, by its count: those that were handed on. `None`
-    /// where it may take any.
+    /// From now on a cut takes none but the first so many of its records and merges, by its count:
+    /// those that were handed on. `None` where it may take any.
     pub fn set_handed(&mut self, handed: Option<u64>)
         ensures { self.new ≡ record self.old { handed = handed } }
     {
@@ -123,19 +123,24 @@ impl Book {
     /// The heap.
     pub fn shard(&self) -> &Shard
         ensures same { result.now ≡ state_of self.now }
-        ensures set { (S : List Operation) → IsBased self.now S → result.now.image ≡ image_of (tail_set S (operations_of self.now.tail)) result.now.heap }
+        ensures set { (S : List Operation) → IsBased self.now S →
+            result.now.image ≡ image_of (tail_set S (operations_of self.now.tail)) result.now.heap }
     {
         // What the records say of the state.
         telling();
         &self.shard
     }
 
-    /// The operation of its newest record, and `None` where it has no records. `Err` where a copy of
-    /// its key or its member found no memory.
+    /// The operation of its newest record, and `None` where it has no records. `Err` where a copy
+    /// of its key or its member found no memory.
     pub fn newest(&self, alloc: Global) -> Result<Option<Op>, AllocError>
         ensures none { IfOk result (λ newest. is_none newest ≡ (length self.now.tail == 0)) }
-        ensures newest { IfOk result (λ newest. IfSome newest (λ op. slice_get (operations_of self.now.tail) (length self.now.tail - 1) ≡ Some op.operation)) }
-        ensures placed { IfOk result (λ newest. IfSome newest (λ op. op ≡ placed_at self.now.heaps op.operation)) }
+        ensures newest { IfOk result
+            (λ newest. IfSome newest
+            (λ op. slice_get (operations_of self.now.tail) (length self.now.tail - 1)
+            ≡ Some op.operation)) }
+        ensures placed { IfOk result
+            (λ newest. IfSome newest (λ op. op ≡ placed_at self.now.heaps op.operation)) }
         ensures asked { IsErr result → 0 < length self.now.tail }
     {
         let Some(record) = self.tail.back() else {

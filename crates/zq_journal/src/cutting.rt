@@ -19,18 +19,23 @@ impl Book {
     /// Takes all that another heap has. No record is left, since a peer that lacks any of it needs
     /// the whole state. The stamp is no less than the book's.
     ///
-    /// `WrongHeap` where the heap or the number of heaps is another, else `WrongRule` where the rule
-    /// is, else `Worn` where the book's count is at its last value, else `NoMemory` where a growth
-    /// was refused; after each nothing has changed.
+    /// `WrongHeap` where the heap or the number of heaps is another, else `WrongRule` where the
+    /// rule is, else `Worn` where the book's count is at its last value, else `NoMemory` where a
+    /// growth was refused; after each nothing has changed.
     #[tactic(auto, unfolding(crate::specs::Books::LAST_STAMP))]
     pub fn merge(&mut self, alloc: Global, stamp: u64, other: &Shard) -> Result<(), MergeFault>
         requires stamp { self.old.stamp ≤ stamp }
         requires bounded { stamp ≤ LAST_STAMP }
-        ensures wrong_heap { IsErrOf result MergeFault.WrongHeap ↔ (IsSameHeap (state_of self.old) other.now → ⊥) }
-        ensures wrong_rule { IsErrOf result MergeFault.WrongRule ↔ (IsSameHeap (state_of self.old) other.now × (self.old.rule ≢ other.now.rule)) }
-        ensures worn { IsErrOf result MergeFault.Worn ↔ (IsSameHeap (state_of self.old) other.now × (self.old.rule ≡ other.now.rule) × (self.old.count ≡ LAST_STAMP)) }
+        ensures wrong_heap { IsErrOf result MergeFault.WrongHeap
+            ↔ (IsSameHeap (state_of self.old) other.now → ⊥) }
+        ensures wrong_rule { IsErrOf result MergeFault.WrongRule
+            ↔ (IsSameHeap (state_of self.old) other.now × (self.old.rule ≢ other.now.rule)) }
+        ensures worn { IsErrOf result MergeFault.Worn
+            ↔ (IsSameHeap (state_of self.old) other.now × (self.old.rule ≡ other.now.rule)
+            × (self.old.count ≡ LAST_STAMP)) }
         ensures merged { OnOk result (self.new ≡ merged self.old stamp other.now.image) }
-        ensures worked { OnOk result ((a : Books) (steps : List Step) → IsWorked self.old a stamp steps →
+        ensures worked { OnOk result ((a : Books) (steps : List Step) →
+            IsWorked self.old a stamp steps →
             IsWorked self.new a stamp (steps ++ Merged stamp other.now.image ∷ [])) }
         ensures refused { OnErr result (self.new ≡ self.old) }
     {

@@ -36,6 +36,7 @@ pub enum MergeFault {
     NoMemory,
 }
 
-/// A cut of a tail stopped, this many records having been dropped. No cut stops: it takes no memory.
+/// A cut of a tail stopped, this many records having been dropped. No cut stops: it takes no
+/// memory.
 #[derive(Clone, Copy, Debug, PartialEq, Eq)]
 pub struct Advanced(pub usize);

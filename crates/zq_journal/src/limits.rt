@@ -10,12 +10,14 @@ pub struct TailLimits {
     pub long: usize,
     /// to this number of its newest.
     pub kept: usize,
-    /// The bytes of keys and members that a cut leaves at most; `None` where there is no such limit.
+    /// The bytes of keys and members that a cut leaves at most; `None` where there is no such
+    /// limit.
     pub bytes: Option<u64>,
 }
 
 impl TailLimits {
-    /// Those of a book where nothing else is said: a tail of 4,096 records is cut to 2,048, whatever their bytes.
+    /// Those of a book where nothing else is said: a tail of 4,096 records is cut to 2,048,
+    /// whatever their bytes.
     pub fn standard() -> TailLimits
         ensures { limits_of result ≡ standard }
     {

@@ -9,15 +9,16 @@ use zq_posheap::overwrite;
 /// How many bytes of a key and a member lie in a record itself.
 const SHORT: usize = 37;
 
-/// Where a key and a member lie, one behind the other: here, after the end of the key and of both, or in memory of their own
-/// with the end of the key.
+/// Where a key and a member lie, one behind the other: here, after the end of the key and of both,
+/// or in memory of their own with the end of the key.
 #[derive(Drop)]
 enum Kept {
     Short(u8, u8, [u8; SHORT]),
     Long(usize, Vec<u8>),
 }
 
-/// The key and the member of an operation. Where they have at most 37 bytes together they take no memory of their own.
+/// The key and the member of an operation. Where they have at most 37 bytes together they take no
+/// memory of their own.
 #[derive(Drop)]
 pub(crate) struct Names {
     kept: Kept,

@@ -5,8 +5,8 @@ ghost use Rattle.zq_model.specs.Sets.{LAST};
 use crate::names::Names;
 use zq_dots::{Act, Dot};
 
-/// An operation that was made here. What it had seen is the vector of the state before it, so it is not kept. A key and
-/// a member of at most 37 bytes together take no memory of their own.
+/// An operation that was made here. What it had seen is the vector of the state before it, so it is
+/// not kept. A key and a member of at most 37 bytes together take no memory of their own.
 #[derive(Drop)]
 pub(crate) struct Own {
     pub(crate) dot: Dot,

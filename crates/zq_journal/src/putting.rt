@@ -11,8 +11,8 @@ use zq_entry::Entry;
 use zq_shard::Shard;
 
 impl Change {
-    /// Takes the operation, of this key and this member, in a heap to which it is new, and answers what its member had
-    /// before. Where memory is short nothing changes.
+    /// Takes the operation, of this key and this member, in a heap to which it is new, and answers
+    /// what its member had before. Where memory is short nothing changes.
     #[inline(always)]
     pub(crate) fn put_in(
         &self,
@@ -21,17 +21,28 @@ impl Change {
         key: &[u8],
         member: &[u8],
     ) -> Result<Option<Entry>, AllocError>
-        requires key { key.now ≡ (placed_in (whole shard.old.heap shard.old.heaps shard.old.image.vector self.now)).operation.key }
-        requires member { member.now ≡ (placed_in (whole shard.old.heap shard.old.heaps shard.old.image.vector self.now)).operation.member }
-        requires own { IsRecordable shard.old.heap shard.old.heaps (placed_in (whole shard.old.heap shard.old.heaps shard.old.image.vector self.now)) }
-        requires new { taken_of shard.old.image.vector (placed_in (whole shard.old.heap shard.old.heaps shard.old.image.vector self.now)).operation ≡ New }
+        requires key { key.now
+            ≡ (placed_in (whole shard.old.heap shard.old.heaps shard.old.image.vector
+            self.now)).operation.key }
+        requires member { member.now
+            ≡ (placed_in (whole shard.old.heap shard.old.heaps shard.old.image.vector
+            self.now)).operation.member }
+        requires own { IsRecordable shard.old.heap shard.old.heaps
+            (placed_in (whole shard.old.heap shard.old.heaps shard.old.image.vector self.now)) }
+        requires new { taken_of shard.old.image.vector
+            (placed_in (whole shard.old.heap shard.old.heaps shard.old.image.vector
+            self.now)).operation ≡ New }
         ensures heap { shard.new.heap ≡ shard.old.heap }
         ensures heaps { shard.new.heaps ≡ shard.old.heaps }
         ensures rule { shard.new.rule ≡ shard.old.rule }
         ensures before { IfOk result (λ before. before ≡
-            get shard.old.image.members (place_of (placed_in (whole shard.old.heap shard.old.heaps shard.old.image.vector self.now)).operation)) }
+            get shard.old.image.members
+            (place_of (placed_in (whole shard.old.heap shard.old.heaps shard.old.image.vector
+            self.now)).operation)) }
         ensures image { OnOk result (shard.new.image ≡
-            image_after (placed_in (whole shard.old.heap shard.old.heaps shard.old.image.vector self.now)).operation shard.old.image) }
+            image_after (placed_in
+            (whole shard.old.heap shard.old.heaps shard.old.image.vector self.now)).operation
+            shard.old.image) }
         ensures refused { OnErr result (shard.new ≡ shard.old) }
     {
         match self {

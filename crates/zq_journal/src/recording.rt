@@ -26,12 +26,12 @@ use zq_shard::{MakeFault, Taken};
 
 impl Book {
     /// Makes the next operation of a site and takes it, with a record, whose operation
-    /// [`Book::newest`] then answers. The stamp is no less than the book's. It answers whether the member stood
-    /// before.
+    /// [`Book::newest`] then answers. The stamp is no less than the book's. It answers whether the
+    /// member stood before.
     ///
     /// `WrongHeap` where the member lies in another heap, else `Worn` where the site's counter or
-    /// the book's count is at its last value, else `NoMemory` where a growth was refused; after each
-    /// nothing has changed.
+    /// the book's count is at its last value, else `NoMemory` where a growth was refused; after
+    /// each nothing has changed.
     pub fn make(
         &mut self,
         alloc: Global,
@@ -45,12 +45,24 @@ impl Book {
         requires bounded { stamp ≤ LAST_STAMP }
         requires key { length key.now ≤ LONGEST }
         requires member { length member.now ≤ LONGEST }
-        ensures stood { IfOk result (λ stood. stood ≡ is_some (get self.old.state.members (key.now, member.now))) }
-        ensures wrong_heap { IsErrOf result MakeFault.WrongHeap ↔ (place.heap_of key.now member.now self.old.heaps ≢ self.old.heap) }
-        ensures worn { IsErrOf result MakeFault.Worn ↔ ((place.heap_of key.now member.now self.old.heaps ≡ self.old.heap) × ((slice_index self.old.state.vector site ≡ sets.LAST) ⊎ (self.old.count ≡ LAST_STAMP))) }
-        ensures recorded { OnOk result (self.new ≡ recorded self.old stamp (Made (next_operation (state_of self.old) site key.now member.now (act_of act)).operation)) }
-        ensures worked { OnOk result ((a : Books) (steps : List Step) → IsWorked self.old a stamp steps →
-            IsWorked self.new a stamp (steps ++ step_of stamp (Made (next_operation (state_of self.old) site key.now member.now (act_of act)).operation) ∷ [])) }
+        ensures stood { IfOk result
+            (λ stood. stood ≡ is_some (get self.old.state.members (key.now, member.now))) }
+        ensures wrong_heap { IsErrOf result MakeFault.WrongHeap
+            ↔ (place.heap_of key.now member.now self.old.heaps ≢ self.old.heap) }
+        ensures worn { IsErrOf result MakeFault.Worn
+            ↔ ((place.heap_of key.now member.now self.old.heaps ≡ self.old.heap)
+            × ((slice_index self.old.state.vector site ≡ sets.LAST)
+            ⊎ (self.old.count ≡ LAST_STAMP))) }
+        ensures recorded { OnOk result
+            (self.new ≡ recorded self.old stamp
+            (Made (next_operation (state_of self.old) site key.now member.now
+            (act_of act)).operation)) }
+        ensures worked { OnOk result ((a : Books) (steps : List Step) →
+            IsWorked self.old a stamp steps →
+            IsWorked self.new a stamp
+            (steps ++ step_of stamp
+            (Made (next_operation (state_of self.old) site key.now member.now
+            (act_of act)).operation) ∷ [])) }
         ensures refused { OnErr result (self.new ≡ self.old) }
     {
         if heap_of(key, member, self.shard.heaps()) != self.shard.heap() {
@@ -61,8 +73,8 @@ impl Book {
 
     /// The same of a member that lies in this heap, which its caller knows: it hashes nothing.
     ///
-    /// `Worn` where the site's counter or the book's count is at its last value, else `NoMemory` where a growth was
-    /// refused; after each nothing has changed.
+    /// `Worn` where the site's counter or the book's count is at its last value, else `NoMemory`
+    /// where a growth was refused; after each nothing has changed.
     pub fn make_here(
         &mut self,
         alloc: Global,
@@ -77,12 +89,22 @@ impl Book {
         requires bounded { stamp ≤ LAST_STAMP }
         requires key { length key.now ≤ LONGEST }
         requires member { length member.now ≤ LONGEST }
-        ensures stood { IfOk result (λ stood. stood ≡ is_some (get self.old.state.members (key.now, member.now))) }
+        ensures stood { IfOk result
+            (λ stood. stood ≡ is_some (get self.old.state.members (key.now, member.now))) }
         ensures here { IsErrOf result MakeFault.WrongHeap → ⊥ }
-        ensures worn { IsErrOf result MakeFault.Worn ↔ ((slice_index self.old.state.vector site ≡ sets.LAST) ⊎ (self.old.count ≡ LAST_STAMP)) }
-        ensures recorded { OnOk result (self.new ≡ recorded self.old stamp (Made (next_operation (state_of self.old) site key.now member.now (act_of act)).operation)) }
-        ensures worked { OnOk result ((a : Books) (steps : List Step) → IsWorked self.old a stamp steps →
-            IsWorked self.new a stamp (steps ++ step_of stamp (Made (next_operation (state_of self.old) site key.now member.now (act_of act)).operation) ∷ [])) }
+        ensures worn { IsErrOf result MakeFault.Worn
+            ↔ ((slice_index self.old.state.vector site ≡ sets.LAST)
+            ⊎ (self.old.count ≡ LAST_STAMP)) }
+        ensures recorded { OnOk result
+            (self.new ≡ recorded self.old stamp
+            (Made (next_operation (state_of self.old) site key.now member.now
+            (act_of act)).operation)) }
+        ensures worked { OnOk result ((a : Books) (steps : List Step) →
+            IsWorked self.old a stamp steps →
+            IsWorked self.new a stamp
+            (steps ++ step_of stamp
+            (Made (next_operation (state_of self.old) site key.now member.now
+            (act_of act)).operation) ∷ [])) }
         ensures refused { OnErr result (self.new ≡ self.old) }
     {
         within(&act);
@@ -98,20 +120,27 @@ impl Book {
     /// Takes an operation of another site where it is New, with a record; what is Known or Early
     /// changes nothing. The stamp is no less than the book's.
     ///
-    /// `WrongHeap` where the heap, the number of heaps or the member's hash is another. A New one is
-    /// refused with `Worn` where the book's count is at its last value, else with `NoMemory` where a
-    /// growth was refused; after each nothing has changed.
+    /// `WrongHeap` where the heap, the number of heaps or the member's hash is another. A New one
+    /// is refused with `Worn` where the book's count is at its last value, else with `NoMemory`
+    /// where a growth was refused; after each nothing has changed.
     #[tactic(auto, unfolding(crate::specs::Books::LAST_STAMP))]
     pub fn take(&mut self, alloc: Global, stamp: u64, op: &Op) -> Result<Taken, TakeFault>
         requires stamp { self.old.stamp ≤ stamp }
         requires bounded { stamp ≤ LAST_STAMP }
-        ensures judged { IfOk result (λ taken. answer_of taken ≡ sets.taken_of self.old.state.vector op.now.operation) }
-        ensures wrong_heap { IsErrOf result TakeFault.WrongHeap ↔ (IsOfHeap (state_of self.old) op.now → ⊥) }
+        ensures judged { IfOk result
+            (λ taken. answer_of taken ≡ sets.taken_of self.old.state.vector op.now.operation) }
+        ensures wrong_heap { IsErrOf result TakeFault.WrongHeap
+            ↔ (IsOfHeap (state_of self.old) op.now → ⊥) }
         ensures placed { OnOk result (IsOfHeap (state_of self.old) op.now) }
-        ensures worn { IsErrOf result TakeFault.Worn ↔ (IsOfHeap (state_of self.old) op.now × (sets.taken_of self.old.state.vector op.now.operation ≡ sets.New) × (self.old.count ≡ LAST_STAMP)) }
-        ensures no_memory { IsErrOf result TakeFault.NoMemory → sets.taken_of self.old.state.vector op.now.operation ≡ sets.New }
+        ensures worn { IsErrOf result TakeFault.Worn
+            ↔ (IsOfHeap (state_of self.old) op.now
+            × (sets.taken_of self.old.state.vector op.now.operation ≡ sets.New)
+            × (self.old.count ≡ LAST_STAMP)) }
+        ensures no_memory { IsErrOf result TakeFault.NoMemory →
+            sets.taken_of self.old.state.vector op.now.operation ≡ sets.New }
         ensures book { OnOk result (self.new ≡ book_taken self.old stamp op.now.operation) }
-        ensures worked { OnOk result ((a : Books) (steps : List Step) → IsWorked self.old a stamp steps →
+        ensures worked { OnOk result ((a : Books) (steps : List Step) →
+            IsWorked self.old a stamp steps →
             IsWorked self.new a stamp (steps ++ steps_taken self.old stamp op.now.operation)) }
         ensures refused { OnErr result (self.new ≡ self.old) }
     {
@@ -134,11 +163,14 @@ impl Book {
     fn next_here(&self, site: SiteNo) -> Result<Dot, MakeFault>
         ensures here { IsErrOf result MakeFault.WrongHeap → ⊥ }
         ensures memory { IsErrOf result MakeFault.NoMemory → ⊥ }
-        ensures worn { IsErrOf result MakeFault.Worn ↔ ((slice_index self.now.state.vector site ≡ sets.LAST) ⊎ (self.now.count ≡ LAST_STAMP)) }
+        ensures worn { IsErrOf result MakeFault.Worn
+            ↔ ((slice_index self.now.state.vector site ≡ sets.LAST)
+            ⊎ (self.now.count ≡ LAST_STAMP)) }
         ensures site { IfOk result (λ dot. dot.site ≡ site) }
         ensures next { IfOk result (λ dot. dot.n ≡ slice_index self.now.state.vector site + 1) }
         ensures bounded { IfOk result (λ dot. dot.n ≤ sets.LAST) }
-        ensures sound { OnOk result ((key member : List ℕ) (act : ModelAct) → length key ≤ LONGEST → length member ≤ LONGEST → IsAct act →
+        ensures sound { OnOk result ((key member : List ℕ) (act : ModelAct) → length key ≤ LONGEST →
+            length member ≤ LONGEST → IsAct act →
             IsRanged (next_operation (state_of self.now) site key member act)) }
         ensures room { OnOk result (self.now.count < LAST_STAMP) }
     {
@@ -148,8 +180,8 @@ impl Book {
         self.shard.next_here(site)
     }
 
-    /// Takes an operation of this key and this member that is new to the state, with a record at this stamp, and answers
-    /// whether its member stood before.
+    /// Takes an operation of this key and this member that is new to the state, with a record at
+    /// this stamp, and answers whether its member stood before.
     #[tactic(auto, unfolding(crate::specs::Books::LAST_STAMP))]
     #[inline(always)]
     fn enter(
@@ -163,14 +195,29 @@ impl Book {
         requires stamp { self.old.stamp ≤ at }
         requires bounded { at ≤ LAST_STAMP }
         requires count { self.old.count < LAST_STAMP }
-        requires key { key.now ≡ (placed_in (whole self.old.heap self.old.heaps self.old.state.vector what)).operation.key }
-        requires member { member.now ≡ (placed_in (whole self.old.heap self.old.heaps self.old.state.vector what)).operation.member }
-        requires recordable { IsRecordable self.old.heap self.old.heaps (placed_in (whole self.old.heap self.old.heaps self.old.state.vector what)) }
-        requires over { is_change_over self.old.heaps self.old.heap self.old.state.vector (change_of (whole self.old.heap self.old.heaps self.old.state.vector what)) ≡ true }
-        ensures stood { IfOk result (λ stood. stood ≡ is_some (get self.old.state.members (place_of (placed_in (whole self.old.heap self.old.heaps self.old.state.vector what)).operation))) }
-        ensures recorded { OnOk result (self.new ≡ recorded self.old at (change_of (whole self.old.heap self.old.heaps self.old.state.vector what))) }
-        ensures worked { OnOk result ((a : Books) (steps : List Step) → IsWorked self.old a at steps →
-            IsWorked self.new a at (steps ++ step_of at (change_of (whole self.old.heap self.old.heaps self.old.state.vector what)) ∷ [])) }
+        requires key { key.now
+            ≡ (placed_in (whole self.old.heap self.old.heaps self.old.state.vector
+            what)).operation.key }
+        requires member { member.now
+            ≡ (placed_in (whole self.old.heap self.old.heaps self.old.state.vector
+            what)).operation.member }
+        requires recordable { IsRecordable self.old.heap self.old.heaps
+            (placed_in (whole self.old.heap self.old.heaps self.old.state.vector what)) }
+        requires over { is_change_over self.old.heaps self.old.heap self.old.state.vector
+            (change_of (whole self.old.heap self.old.heaps self.old.state.vector what)) ≡ true }
+        ensures stood { IfOk result
+            (λ stood. stood ≡ is_some
+            (get self.old.state.members
+            (place_of (placed_in (whole self.old.heap self.old.heaps self.old.state.vector
+            what)).operation))) }
+        ensures recorded { OnOk result
+            (self.new ≡ recorded self.old at
+            (change_of (whole self.old.heap self.old.heaps self.old.state.vector what))) }
+        ensures worked { OnOk result ((a : Books) (steps : List Step) →
+            IsWorked self.old a at steps →
+            IsWorked self.new a at
+            (steps ++ step_of at (change_of
+            (whole self.old.heap self.old.heaps self.old.state.vector what)) ∷ [])) }
         ensures refused { OnErr result (self.new ≡ self.old) }
     {
         // A record of what is new keeps what a book keeps,

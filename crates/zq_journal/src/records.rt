@@ -23,8 +23,10 @@ impl Change {
     pub(crate) fn dot(&self) -> Dot
         ensures counted { 1 ≤ result.n }
         ensures bounded { result.n ≤ LAST }
-        ensures site { (h K : ℕ) (v : List ℕ) → result.site ≡ (placed_in (whole h K v self.now)).operation.site }
-        ensures n { (h K : ℕ) (v : List ℕ) → result.n ≡ (placed_in (whole h K v self.now)).operation.n }
+        ensures site { (h K : ℕ) (v : List ℕ) →
+            result.site ≡ (placed_in (whole h K v self.now)).operation.site }
+        ensures n { (h K : ℕ) (v : List ℕ) →
+            result.n ≡ (placed_in (whole h K v self.now)).operation.n }
     {
         match self {
             Change::Made(own) => own.dot,
@@ -34,7 +36,8 @@ impl Change {
 
     /// Its key.
     pub(crate) fn key(&self) -> &[u8]
-        ensures { (h K : ℕ) (v : List ℕ) → result.now ≡ (placed_in (whole h K v self.now)).operation.key }
+        ensures { (h K : ℕ) (v : List ℕ) →
+            result.now ≡ (placed_in (whole h K v self.now)).operation.key }
     {
         match self {
             Change::Made(own) => own.names.key(),
@@ -44,7 +47,8 @@ impl Change {
 
     /// Its member.
     pub(crate) fn member(&self) -> &[u8]
-        ensures { (h K : ℕ) (v : List ℕ) → result.now ≡ (placed_in (whole h K v self.now)).operation.member }
+        ensures { (h K : ℕ) (v : List ℕ) →
+            result.now ≡ (placed_in (whole h K v self.now)).operation.member }
     {
         match self {
             Change::Made(own) => own.names.member(),
@@ -61,7 +65,9 @@ impl Change {
 
     /// Whether a peer of this vector lacks it.
     pub(crate) fn is_new_to(&self, vector: &Vector) -> bool
-        ensures { (h K : ℕ) (v : List ℕ) → result ≡ not (has vector.now (placed_in (whole h K v self.now)).operation.site (placed_in (whole h K v self.now)).operation.n) }
+        ensures { (h K : ℕ) (v : List ℕ) →
+            result ≡ not (has vector.now (placed_in (whole h K v self.now)).operation.site
+            (placed_in (whole h K v self.now)).operation.n) }
     {
         !vector.has(self.dot())
     }

@@ -29,15 +29,24 @@ pub enum Since {
 
 impl Book {
     /// What a peer of this vector lacks: `TooOld` exactly where the vector does not cover the
-    /// base's, else those operations of the records that the vector lacks, oldest first. Each is New
-    /// to the peer where it comes, and all of them leave what merging the whole state would.
+    /// base's, else those operations of the records that the vector lacks, oldest first. Each is
+    /// New to the peer where it comes, and all of them leave what merging the whole state would.
     pub fn since(&self, alloc: Global, vector: &Vector) -> Result<Since, AllocError>
-        ensures too_old { IfOk result (λ since. is_too_old since ≡ not (sets.covers vector.now self.now.base.vector)) }
-        ensures ops { IfOk result (λ since. IfOps since (λ ops. ops ≡ map (placed_at self.now.heaps) (lacking vector.now (operations_of self.now.tail)))) }
-        ensures placed { IfOk result (λ since. IfOps since (λ ops. All (IsOfHeap (base_of self.now)) ops)) }
-        ensures new { IfOk result (λ since. IfOps since (λ ops. (S T : List Operation) → IsPeer self.now S T vector.now → AreNew (map (λ p. p.operation) ops) (image_of T self.now.heap))) }
-        ensures merges { IfOk result (λ since. IfOps since (λ ops. (S T : List Operation) → IsPeer self.now S T vector.now →
-            image_after_all (map (λ p. p.operation) ops) (image_of T self.now.heap) ≡ join (image_of T self.now.heap) self.now.state)) }
+        ensures too_old { IfOk result
+            (λ since. is_too_old since ≡ not (sets.covers vector.now self.now.base.vector)) }
+        ensures ops { IfOk result
+            (λ since. IfOps since
+            (λ ops. ops ≡ map (placed_at self.now.heaps)
+            (lacking vector.now (operations_of self.now.tail)))) }
+        ensures placed { IfOk result
+            (λ since. IfOps since (λ ops. All (IsOfHeap (base_of self.now)) ops)) }
+        ensures new { IfOk result
+            (λ since. IfOps since (λ ops. (S T : List Operation) → IsPeer self.now S T vector.now →
+            AreNew (map (λ p. p.operation) ops) (image_of T self.now.heap))) }
+        ensures merges { IfOk result
+            (λ since. IfOps since (λ ops. (S T : List Operation) → IsPeer self.now S T vector.now →
+            image_after_all (map (λ p. p.operation) ops) (image_of T self.now.heap)
+            ≡ join (image_of T self.now.heap) self.now.state)) }
     {
         // What the records say to a peer.
         telling();
@@ -50,7 +59,8 @@ impl Book {
     }
 }
 
-/// The operations of a heap's records that the vector lacks. The records begin at the base's vector.
+/// The operations of a heap's records that the vector lacks. The records begin at the base's
+/// vector.
 fn missing(
     alloc: Global,
     heap: u8,
@@ -60,7 +70,9 @@ fn missing(
     vector: &Vector,
 ) -> Result<Vec<Op>, AllocError>
     requires { All (IsRecord heap heaps) (records_over heap heaps base.now tail.now.items) }
-    ensures { IfOk result (λ ops. ops.items ≡ missing_of vector.now (records_over heap heaps base.now tail.now.items)) }
+    ensures { IfOk result
+        (λ ops. ops.items ≡ missing_of vector.now
+        (records_over heap heaps base.now tail.now.items)) }
 {
     let mut ops = Vec::new(alloc);
     let mut seen = *base;

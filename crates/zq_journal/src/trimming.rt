@@ -10,8 +10,9 @@ use std::collections::VecDeque;
 use zq_model::{cutting, reaching};
 
 impl Book {
-    /// Cuts the tail where it is longer than its limits say: to its newest records, so many, and to so many bytes; but only records
-    /// that were handed on, where that is asked. It takes no memory.
+    /// Cuts the tail where it is longer than its limits say: to its newest records, so many, and to
+    /// so many bytes; but only records that were handed on, where that is asked. It takes no
+    /// memory.
     #[inline(always)]
     pub fn cut(&mut self)
         ensures cut { self.new ≡ advanced (cut_of self.old) self.old }
@@ -69,7 +70,8 @@ impl Book {
     }
 }
 
-/// How many of the oldest records go, so that the keys and members of the rest have at most so many bytes.
+/// How many of the oldest records go, so that the keys and members of the rest have at most so many
+/// bytes.
 fn cut_to_bytes(tail: &VecDeque<Record>, most: u64) -> usize
     ensures { result ≡ cut_kept most tail.now.items }
 {

@@ -16,8 +16,8 @@ about (OfOps []) = None
 about (OfOps (op ∷ ops)) = Some (Answer op.operation.heap)
 about (OfState state) = Some (Answer state.heap)
 
--- what follows the kind is about: behind the number of heaps, which a State and an operation have behind their version,
--- and an operation behind four bytes that count
+-- what follows the kind is about: behind the number of heaps, which a State and an operation have
+-- behind their version, and an operation behind four bytes that count
 abbrev pub topic_in : Option Kind → List ℕ → Option Topic
 topic_in None bytes = None
 topic_in (Some (kind.Have v)) bytes = option_map Have (slice_get bytes 1)

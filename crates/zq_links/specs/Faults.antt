@@ -8,7 +8,9 @@ use Rattle.zq_links.specs.Limits.{most_held}
 -- by its remainder modulo 8
 abbrev pub fault_of : ℕ → Fault
 fault_of word =
-    cond (word % 8 == 0) Lost (cond (word % 8 == 1) Doubled (cond (word % 8 == 2) HeldBack (cond (word % 8 == 3) Overtakes Spared)))
+    cond (word % 8 == 0) Lost
+    (cond (word % 8 == 1) Doubled
+    (cond (word % 8 == 2) HeldBack (cond (word % 8 == 3) Overtakes Spared)))
 
 -- what is passed on now, in this order
 abbrev pub passed_on : Fault → List (List ℕ) → List ℕ → List (List ℕ)
@@ -26,8 +28,9 @@ held_after HeldBack held frame = newest (held ++ frame ∷ [])
 held_after Overtakes held frame = drop 1 held
 held_after Spared held frame = held
 
--- memory is asked for: for the list of what is passed on, for a copy, or for one place more behind those that are held. To lose a frame takes none, and where
--- as many are held as a link holds the frame has the place that the oldest leaves.
+-- memory is asked for: for the list of what is passed on, for a copy, or for one place more behind
+-- those that are held. To lose a frame takes none, and where as many are held as a link holds the
+-- frame has the place that the oldest leaves.
 abbrev pub AsksMemory : Fault → List (List ℕ) → Type 0
 AsksMemory Lost held = ⊥
 AsksMemory Doubled held = Unit {0}

@@ -24,7 +24,8 @@ abbrev pub Read : Type 0 → Type 0
 Read X = Result (X × List ℕ) FrameFault
 
 infixl 10 ◌>>=◌
-abbrev pub ◌>>=◌ : {X Y : Type 0} → Result X FrameFault → (X → Result Y FrameFault) → Result Y FrameFault
+abbrev pub ◌>>=◌ : {X Y : Type 0} → Result X FrameFault → (X → Result Y FrameFault) →
+    Result Y FrameFault
 (Ok x) >>= f = f x
 (Err fault) >>= f = Err fault
 

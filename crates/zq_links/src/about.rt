@@ -7,9 +7,10 @@ ghost use Rattle.zq_links.specs.Spelling.{IsSpelled};
 
 use zq_wire::Topic;
 
-/// What a frame is about, by its bytes: a Have of its heap, or an answer of its heap. The heap of operations is that of the
-/// first one; where there is none they are about nothing. It looks at the byte that names the kind and at that of the heap,
-/// which has one place in all versions; the other bytes may be anything.
+/// What a frame is about, by its bytes: a Have of its heap, or an answer of its heap. The heap of
+/// operations is that of the first one; where there is none they are about nothing. It looks at the
+/// byte that names the kind and at that of the heap, which has one place in all versions; the other
+/// bytes may be anything.
 pub fn topic_of(bytes: &[u8]) -> Option<Topic>
     ensures exact { result ≡ topic_at bytes.now }
     ensures spelled { (frame : Frame) → IsSpelled frame bytes.now → result ≡ about frame }

@@ -20,8 +20,8 @@ pub enum Fault {
 impl Fault {
     ghost use Rattle.zq_links.specs.Faults.{fault_of};
 
-    /// The fault that a word draws, by its remainder modulo 8: 0 lost, 1 doubled, 2 held back, 3 overtakes, 4 to 7
-    /// spared.
+    /// The fault that a word draws, by its remainder modulo 8: 0 lost, 1 doubled, 2 held back, 3
+    /// overtakes, 4 to 7 spared.
     pub fn of(word: u32) -> Fault
         ensures { result ≡ fault_of word }
     {

@@ -10,9 +10,9 @@ use crate::held::{Held, hold_back, let_go};
 use std::alloc::Global;
 use std::marker::Model;
 
-/// A link that loses frames, doubles them and changes their order, as the words say that it is given. It invents none:
-/// each frame that it passes on was handed in. It is seen as the frames that it holds back, the oldest first, at most
-/// [`MOST_HELD`](crate::MOST_HELD).
+/// A link that loses frames, doubles them and changes their order, as the words say that it is
+/// given. It invents none: each frame that it passes on was handed in. It is seen as the frames
+/// that it holds back, the oldest first, at most [`MOST_HELD`](crate::MOST_HELD).
 #[derive(Drop)]
 pub struct Faulty {
     held: Held,
@@ -38,16 +38,17 @@ impl Faulty {
         Faulty { held: None }
     }
 
-    /// What the link passes on now, in this order, where a frame comes and a word draws a fault. Where there is no memory
-    /// the frame comes back, and those that are held back stay. To lose a frame takes no memory, nor does holding one back
-    /// where as many are held as a link holds.
+    /// What the link passes on now, in this order, where a frame comes and a word draws a fault.
+    /// Where there is no memory the frame comes back, and those that are held back stay. To lose a
+    /// frame takes no memory, nor does holding one back where as many are held as a link holds.
     pub fn pass(
         &mut self,
         alloc: Global,
         word: u32,
         frame: Vec<u8>,
     ) -> Result<Vec<Vec<u8>>, (NoMemory, Vec<u8>)>
-        ensures passed { IfOk result (λ frames. frames_in frames ≡ passed_on (fault_of word) self.old frame.items) }
+        ensures passed { IfOk result
+            (λ frames. frames_in frames ≡ passed_on (fault_of word) self.old frame.items) }
         ensures held { OnOk result (self.new ≡ held_after (fault_of word) self.old frame.items) }
         ensures refused { IfErr result (λ e. e.1 ≡ frame) }
         ensures unchanged { OnErr result (self.new ≡ self.old) }

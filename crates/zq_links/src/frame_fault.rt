@@ -13,7 +13,8 @@ pub enum FrameFault {
     Kind,
     /// The field that begins at this place, from 0 at the frame's first byte, is out of its range.
     Field(usize),
-    /// The operation of this number, from 0, has this fault. Places are counted from its own first byte.
+    /// The operation of this number, from 0, has this fault. Places are counted from its own first
+    /// byte.
     Op(u32, OpFault),
     /// The state has this fault. Places are counted from its own first byte.
     State(StateFault),

@@ -27,8 +27,10 @@ pub(crate) fn read_have(
     whole: usize,
     bytes: &mut &[u8],
 ) -> Result<Have, PartFault>
-    ensures exact { Gives (λ x. (have_of x, bytes.new.now)) result (read.have_at version whole bytes.old.now) }
-    ensures found { IfOk result (λ x. bytes.old.now ≡ have_bytes version (have_of x) ++ bytes.new.now) }
+    ensures exact { Gives (λ x. (have_of x, bytes.new.now)) result
+        (read.have_at version whole bytes.old.now) }
+    ensures found { IfOk result
+        (λ x. bytes.old.now ≡ have_bytes version (have_of x) ++ bytes.new.now) }
     ensures version { IfOk result (λ x. HasHave version (have_of x)) }
     ensures sound { IfOk result (λ x. IsHave (have_of x)) }
 {
@@ -59,8 +61,10 @@ fn sites(version: Version) -> u8
 
 /// Takes the rule where the version has it. The versions before the third mean High.
 fn read_have_rule(version: Version, whole: usize, bytes: &mut &[u8]) -> Result<Rule, PartFault>
-    ensures exact { Gives (λ x. (rule_of x, bytes.new.now)) result (read.rule_at version whole bytes.old.now) }
-    ensures found { IfOk result (λ x. bytes.old.now ≡ spell.rule_bytes version (rule_of x) ++ bytes.new.now) }
+    ensures exact { Gives (λ x. (rule_of x, bytes.new.now)) result
+        (read.rule_at version whole bytes.old.now) }
+    ensures found { IfOk result
+        (λ x. bytes.old.now ≡ spell.rule_bytes version (rule_of x) ++ bytes.new.now) }
     ensures version { IfOk result (λ x. versions.HasRule version (rule_of x)) }
 {
     match version {
@@ -70,8 +74,10 @@ fn read_have_rule(version: Version, whole: usize, bytes: &mut &[u8]) -> Result<R
 }
 
 fn read_vector(version: Version, whole: usize, bytes: &mut &[u8]) -> Result<Vector, PartFault>
-    ensures exact { Gives (λ x. (x, bytes.new.now)) result (read.vector_at version whole bytes.old.now) }
-    ensures found { IfOk result (λ x. bytes.old.now ≡ spell.vector_bytes version x ++ bytes.new.now) }
+    ensures exact { Gives (λ x. (x, bytes.new.now)) result
+        (read.vector_at version whole bytes.old.now) }
+    ensures found { IfOk result
+        (λ x. bytes.old.now ≡ spell.vector_bytes version x ++ bytes.new.now) }
     ensures version { IfOk result (λ x. versions.HasVector version x) }
     ensures counters { IfOk result (λ x. sets.IsCounters x) }
 {

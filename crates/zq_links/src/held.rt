@@ -13,8 +13,8 @@ pub const MOST_HELD: usize = 64;
 /// The frames, where one was ever held back.
 pub(crate) type Held = Option<VecDeque<Vec<u8>>>;
 
-/// Puts the frame behind the others. Where as many are held as a link holds, the oldest is lost, and no memory is
-/// taken.
+/// Puts the frame behind the others. Where as many are held as a link holds, the oldest is lost,
+/// and no memory is taken.
 fn push_last(frames: &mut VecDeque<Vec<u8>>, frame: Vec<u8>) -> Result<(), (NoMemory, Vec<u8>)>
     requires { length frames.old.items ≤ most_held }
     ensures held { OnOk result (frames.new.items ≡ newest (frames.old.items ++ frame ∷ [])) }
@@ -46,8 +46,9 @@ fn taken(held: &mut Held, alloc: Global) -> VecDeque<Vec<u8>>
     }
 }
 
-/// Holds the frame back, behind the others. Where as many are held as a link holds, the oldest is lost, and no memory is
-/// taken. Where there is no memory the frame comes back, and those that are held stay.
+/// Holds the frame back, behind the others. Where as many are held as a link holds, the oldest is
+/// lost, and no memory is taken. Where there is no memory the frame comes back, and those that are
+/// held stay.
 pub(crate) fn hold_back(
     held: &mut Held,
     alloc: Global,

@@ -9,8 +9,8 @@ use crate::frame_fault::FrameFault;
 use zq_fields::read_byte;
 use zq_merge::Version;
 
-/// A kind of frame, which its first byte names. A Have has what stands before the keys of a state of the same version,
-/// and its sender.
+/// A kind of frame, which its first byte names. A Have has what stands before the keys of a state
+/// of the same version, and its sender.
 #[derive(Clone, Copy, Debug, PartialEq, Eq)]
 pub(crate) enum Kind {
     Have(Version),

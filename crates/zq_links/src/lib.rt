@@ -1,5 +1,5 @@
-//! What goes over the links between sites: messages and the frames in them, and links that lose frames, double them and
-//! change their order.
+//! What goes over the links between sites: messages and the frames in them, and links that lose
+//! frames, double them and change their order.
 //!
 //! A frame says what a site has of a heap, or holds operations, or a whole state.
 //!
@@ -13,8 +13,8 @@
 //! | 4 | Have | number of heaps; heap; sender's site, 0 to 63; vector by its entries |
 //! | 5 | Have | number of heaps; heap; sender's site; rule, 0 High or 1 Low; vector by its entries |
 //!
-//! The rule of kinds 1 and 4 is High. Nothing follows a frame. All kinds are read; kinds 2, 3 and 5 are written, with
-//! the newest versions inside. The first fault from the left is the answer.
+//! The rule of kinds 1 and 4 is High. Nothing follows a frame. All kinds are read; kinds 2, 3 and 5
+//! are written, with the newest versions inside. The first fault from the left is the answer.
 #![tactic(auto)]
 
 mod about;

@@ -28,8 +28,8 @@ pub(crate) fn read_ops(alloc: Global, bytes: &mut &[u8]) -> Result<Vec<Op>, Fram
     Ok(ops)
 }
 
-/// Takes so many operations. No memory is asked for what the number only declares: an operation is read before there is a
-/// place for it in the list.
+/// Takes so many operations. No memory is asked for what the number only declares: an operation is
+/// read before there is a place for it in the list.
 fn read_each(alloc: Global, count: u32, bytes: &mut &[u8]) -> Result<Vec<Op>, FrameFault>
     ensures exact { Answers (IsOfMemoryAmong count bytes.old.now)
         (λ ops. (ops.items, bytes.new.now)) result (read.more_ops_at count [] bytes.old.now) }
@@ -80,7 +80,8 @@ pub(crate) fn write_ops(out: &mut Vec<u8>, ops: &[Op]) -> Result<(), AllocError>
 }
 
 fn write_each(out: &mut Vec<u8>, ops: &[Op]) -> Result<(), AllocError>
-    ensures { OnOk result (out.new.items ≡ out.old.items ++ flat_map op_bytes (map newest_op ops.now)) }
+    ensures { OnOk result
+        (out.new.items ≡ out.old.items ++ flat_map op_bytes (map newest_op ops.now)) }
 {
     for op in ops {
         append_op(out, op)?;

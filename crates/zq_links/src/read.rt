@@ -18,14 +18,16 @@ use zq_posheap::Seeded;
 
 /// The frame that the bytes are, of any kind; the members of a state use this hasher.
 ///
-/// A fault is that of the first field, from the left, that is missing or wrong. No memory is asked for what a number only
-/// declares. Want of memory is answered as `NoMemory` where it was for the list of operations, and as the fault of the
-/// operation or of the state where it was for that. An operation is there, and so are those before it, where there was no
-/// memory for it or for its place in the list; a Have takes none.
+/// A fault is that of the first field, from the left, that is missing or wrong. No memory is asked
+/// for what a number only declares. Want of memory is answered as `NoMemory` where it was for the
+/// list of operations, and as the fault of the operation or of the state where it was for that. An
+/// operation is there, and so are those before it, where there was no memory for it or for its
+/// place in the list; a Have takes none.
 pub fn read_frame(alloc: Global, bytes: &[u8], hasher: Seeded) -> Result<Frame, FrameFault>
     ensures exact { Answers (IsOfMemory bytes.now) model.frame_of result (frame_at bytes.now) }
     ensures found { IfOk result (λ f. IsSpelled (model.frame_of f) bytes.now) }
-    ensures only { (s : Spelled) → model.IsFrame (value_of s) → HasSpelling s → bytes.now ≡ frame_spelling s →
+    ensures only { (s : Spelled) → model.IsFrame (value_of s) → HasSpelling s →
+        bytes.now ≡ frame_spelling s →
         MatchResult result (λ f. model.frame_of f ≡ value_of s) (IsOfMemory bytes.now) }
     ensures sound { IfOk result model.IsWritable }
 {
@@ -48,7 +50,8 @@ fn read_whole(alloc: Global, bytes: &[u8], hasher: Seeded) -> Result<Frame, Fram
 /// What a site has, and nothing more.
 fn read_only_have(version: Version, whole: usize, bytes: &[u8]) -> Result<Frame, FrameFault>
     ensures exact { Gives model.frame_of result (body_at (kind.Have version) whole bytes.now) }
-    ensures found { IfOk result (λ f. IsSpelled (model.frame_of f) (kind_byte (kind.Have version) ∷ bytes.now)) }
+    ensures found { IfOk result
+        (λ f. IsSpelled (model.frame_of f) (kind_byte (kind.Have version) ∷ bytes.now)) }
     ensures sound { IfOk result model.IsWritable }
 {
     let mut rest = bytes;
@@ -61,7 +64,8 @@ fn read_only_have(version: Version, whole: usize, bytes: &[u8]) -> Result<Frame,
 fn read_only_ops(alloc: Global, bytes: &[u8]) -> Result<Frame, FrameFault>
     ensures exact { Answers (IsOfMemoryIn kind.Ops bytes.now)
         model.frame_of result (body_at kind.Ops 0 bytes.now) }
-    ensures found { IfOk result (λ f. IsSpelled (model.frame_of f) (kind_byte kind.Ops ∷ bytes.now)) }
+    ensures found { IfOk result
+        (λ f. IsSpelled (model.frame_of f) (kind_byte kind.Ops ∷ bytes.now)) }
     ensures sound { IfOk result model.IsWritable }
 {
     let mut rest = bytes;
@@ -74,7 +78,8 @@ fn read_only_ops(alloc: Global, bytes: &[u8]) -> Result<Frame, FrameFault>
 fn read_only_state(alloc: Global, bytes: &[u8], hasher: Seeded) -> Result<Frame, FrameFault>
     ensures exact { Answers (IsOfMemoryIn kind.State bytes.now)
         model.frame_of result (body_at kind.State 0 bytes.now) }
-    ensures found { IfOk result (λ f. IsSpelled (model.frame_of f) (kind_byte kind.State ∷ bytes.now)) }
+    ensures found { IfOk result
+        (λ f. IsSpelled (model.frame_of f) (kind_byte kind.State ∷ bytes.now)) }
     ensures sound { IfOk result model.IsWritable }
 {
     match read_state(alloc, bytes, hasher) {

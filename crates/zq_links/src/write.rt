@@ -11,10 +11,12 @@ use std::alloc::{AllocError, Global};
 use zq_fields::{write_byte, write_bytes};
 use zq_merge::{Version, write_state};
 
-/// The bytes of a frame, of kind 5, 2 or 3, with the newest versions inside. It fails only where memory is refused.
+/// The bytes of a frame, of kind 5, 2 or 3, with the newest versions inside. It fails only where
+/// memory is refused.
 pub fn write_frame(alloc: Global, frame: &Frame) -> Result<Vec<u8>, AllocError>
     requires { model.IsWritable frame.now }
-    ensures written { IfOk result (λ v. v.items ≡ frame_spelling (newest (model.frame_of frame.now))) }
+    ensures written { IfOk result
+        (λ v. v.items ≡ frame_spelling (newest (model.frame_of frame.now))) }
 {
     let mut out = Vec::new(alloc);
     match frame {

@@ -13,12 +13,14 @@ use Rattle.zq_shard.specs.Shard.{HeapImage}
 -- each member is above the one before it
 abbrev pub AreMembersAbove : Option (List ℕ) → List MemberRow → Type 0
 AreMembersAbove before [] = Unit {0}
-AreMembersAbove before (m ∷ members) = (is_after before m.member ≡ true) × AreMembersAbove (Some m.member) members
+AreMembersAbove before (m ∷ members) = (is_after before m.member ≡ true)
+    × AreMembersAbove (Some m.member) members
 
 -- each key is above the one before it, and has members that rise
 abbrev pub AreKeysAbove : Option (List ℕ) → List KeyRows → Type 0
 AreKeysAbove before [] = Unit {0}
-AreKeysAbove before (k ∷ keys) = (is_after before k.key ≡ true) × ((k.members ≢ []) × (AreMembersAbove None k.members × AreKeysAbove (Some k.key) keys))
+AreKeysAbove before (k ∷ keys) = (is_after before k.key ≡ true)
+    × ((k.members ≢ []) × (AreMembersAbove None k.members × AreKeysAbove (Some k.key) keys))
 
 -- the keys of a state with their members
 abbrev pub keys_of : HeapImage → List KeyRows

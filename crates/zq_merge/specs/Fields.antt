@@ -46,7 +46,8 @@ frame_at v whole bytes = do
 
 -- ---- additions
 
--- the sum of the next site: its amount is at most the greatest increment times the vector's counter of the site
+-- the sum of the next site: its amount is at most the greatest increment times the vector's counter
+-- of the site
 abbrev pub next_sum_at : List ℕ → List ℤ → List ℕ → Read ℤ
 next_sum_at vector sums bytes = sum_in (MOST * slice_index vector (length sums)) bytes
 
@@ -73,11 +74,13 @@ listed_sums_at whole vector bytes = do
 
 -- a sum for each site, of which the first alone are written
 abbrev pub all_sums_at : List ℕ → List ℕ → Read (List ℤ)
-all_sums_at vector bytes = each_sum_at vector bytes >>= λ sums. Ok (by_site (λ s. slice_index_or sums.0 s (pos 0)), sums.1)
+all_sums_at vector bytes = each_sum_at vector bytes >>= λ sums.
+    Ok (by_site (λ s. slice_index_or sums.0 s (pos 0)), sums.1)
 
 -- a sum for each site, of which those that are not 0 are written
 abbrev pub some_sums_at : ℕ → List ℕ → List ℕ → Read (List ℤ)
-some_sums_at whole vector bytes = listed_sums_at whole vector bytes >>= λ sums. Ok (dense_sums sums.0, sums.1)
+some_sums_at whole vector bytes = listed_sums_at whole vector bytes >>= λ sums.
+    Ok (dense_sums sums.0, sums.1)
 
 -- a sum for each site
 abbrev pub sums_at : Version → ℕ → List ℕ → List ℕ → Read (List ℤ)
@@ -127,7 +130,8 @@ member_at v whole frame key before bytes = do
 
 -- a member above those before it
 abbrev pub later_member_at : Version → ℕ → Frame → List ℕ → List MemberRow → List ℕ → Read MemberRow
-later_member_at v whole frame key members bytes = member_at v whole frame key (last_member members) bytes
+later_member_at v whole frame key members bytes =
+    member_at v whole frame key (last_member members) bytes
 
 -- a number of members, at least one, and as many
 unfoldable pub members_at : Version → ℕ → Frame → List ℕ → List ℕ → Read (List MemberRow)

@@ -33,7 +33,8 @@ member_of row = record { member = row.member; additions = row.additions }
 abbrev pub with_row : Row → List KeyRows → List KeyRows
 with_row row [] = record { key = row.key; members = member_of row ∷ [] } ∷ []
 with_row row (k ∷ keys) =
-    if pointwise nat_eq row.key k.key then record { key = k.key; members = member_of row ∷ k.members } ∷ keys
+    if pointwise nat_eq row.key k.key then
+    record { key = k.key; members = member_of row ∷ k.members } ∷ keys
     else record { key = row.key; members = member_of row ∷ [] } ∷ (k ∷ keys)
 
 -- rows, key by key

@@ -1,4 +1,5 @@
--- Reading from the front of the bytes, with the first fault that is met. What is read comes with the bytes after it.
+-- Reading from the front of the bytes, with the first fault that is met. What is read comes with
+-- the bytes after it.
 
 use Rattle.std.specs.Cmp.Lexicographic.{slice_cmp}
 use Rattle.std.specs.Int.{w64, w128}
@@ -17,7 +18,8 @@ abbrev pub Read : Type 0 → Type 0
 Read X = Result (X × List ℕ) StateFault
 
 infixl 10 ◌>>=◌
-abbrev pub ◌>>=◌ : {X Y : Type 0} → Result X StateFault → (X → Result Y StateFault) → Result Y StateFault
+abbrev pub ◌>>=◌ : {X Y : Type 0} → Result X StateFault → (X → Result Y StateFault) →
+    Result Y StateFault
 (Ok x) >>= f = f x
 (Err fault) >>= f = Err fault
 
@@ -33,7 +35,8 @@ of_part (Ok x) = Ok x
 of_part (Err fault) = Err (fault_of fault)
 
 -- k items, one after the other; each is read beside those that were read before it
-unfoldable pub many_at : {X : Type 0} → (List X → List ℕ → Read X) → ℕ → List X → List ℕ → Read (List X)
+unfoldable pub many_at : {X : Type 0} → (List X → List ℕ → Read X) → ℕ → List X → List ℕ →
+    Read (List X)
 many_at read zero items bytes = Ok (items, bytes)
 many_at read (suc k) items bytes = do
   x ← read items bytes

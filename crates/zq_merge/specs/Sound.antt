@@ -9,7 +9,8 @@ use Rattle.zq_model.specs.Rows.{Row}
 use Rattle.zq_model.specs.Sets.{SITES}
 use Rattle.zq_model.specs.Sparse.{AreBySite}
 
--- its key and its member are short and lie in the heap, and it has additions by rising site which keep their bounds
+-- its key and its member are short and lie in the heap, and it has additions by rising site which
+-- keep their bounds
 pub record IsSoundRow (frame : Frame) (row : Row) : Type 0 where
   pub key : length row.key ≤ LONGEST
   pub member : length row.member ≤ LONGEST

@@ -48,7 +48,8 @@ sums_bytes Three sums = listed_sums (nonzero_sums sums)
 
 -- the site, the counter, the score and the sums
 unfoldable pub addition_bytes : Version → OfSite → List ℕ
-addition_bytes v a = a.0 ∷ (to_be_bytes w64 a.1.n ++ (signed w64 a.1.score ++ sums_bytes v a.1.sums))
+addition_bytes v a = a.0
+    ∷ (to_be_bytes w64 a.1.n ++ (signed w64 a.1.score ++ sums_bytes v a.1.sums))
 
 -- the number of additions, and each
 unfoldable pub additions_bytes : Version → List OfSite → List ℕ
@@ -59,7 +60,8 @@ member_bytes v m = text m.member ++ additions_bytes v m.additions
 
 -- the key, the number of its members, and each
 unfoldable pub key_bytes : Version → KeyRows → List ℕ
-key_bytes v k = text k.key ++ (to_be_bytes w64 (length k.members) ++ flat_map (member_bytes v) k.members)
+key_bytes v k = text k.key
+    ++ (to_be_bytes w64 (length k.members) ++ flat_map (member_bytes v) k.members)
 
 -- the number of keys, and each
 unfoldable pub keys_bytes : Version → List KeyRows → List ℕ

@@ -13,7 +13,8 @@ version_byte Two = 2
 version_byte Three = 3
 
 abbrev pub version_of : ℕ → Option Version
-version_of b = if b == 1 then Some One else (if b == 2 then Some Two else (if b == 3 then Some Three else None))
+version_of b = if b == 1 then Some One else
+    (if b == 2 then Some Two else (if b == 3 then Some Three else None))
 
 -- the sites that a version knows
 abbrev pub sites : Version → ℕ

@@ -22,7 +22,8 @@ use zq_dots::{Dot, Vector};
 use zq_entry::{Addition, Entry};
 use zq_fields::{read_byte_in, read_score};
 
-/// Takes an addition of a site from `low` on: its site, its counter, which the vector knows, its score and its sums.
+/// Takes an addition of a site from `low` on: its site, its counter, which the vector knows, its
+/// score and its sums.
 #[tactic(auto, unfolding(crate::specs::Fields::addition_at, crate::specs::Spelling::addition_bytes))]
 pub(crate) fn read_addition(
     alloc: Global,
@@ -32,10 +33,12 @@ pub(crate) fn read_addition(
     low: u8,
     bytes: &mut &[u8],
 ) -> Result<Addition, StateFault>
-    ensures exact { Answers (λ x. (x, bytes.new.now)) result (fields.addition_at version whole vector.now low bytes.old.now) }
+    ensures exact { Answers (λ x. (x, bytes.new.now)) result
+        (fields.addition_at version whole vector.now low bytes.old.now) }
     ensures memory { IfErr result (λ fault. fault ≡ NoMemory →
         refused.IsInAddition version whole vector.now low bytes.old.now) }
-    ensures found { IfOk result (λ x. bytes.old.now ≡ spell.addition_bytes version x ++ bytes.new.now) }
+    ensures found { IfOk result
+        (λ x. bytes.old.now ≡ spell.addition_bytes version x ++ bytes.new.now) }
     ensures site { IfOk result (λ x. (low ≤ x.0) × (x.0 < sets.SITES)) }
     ensures bounded { IfOk result (λ x. IsAdditionBounded vector.now x) }
 {
@@ -54,10 +57,12 @@ pub(crate) fn read_entry(
     vector: &Vector,
     bytes: &mut &[u8],
 ) -> Result<Entry, StateFault>
-    ensures exact { Answers (λ e. (additions_from 0 e, bytes.new.now)) result (fields.additions_at version whole vector.now bytes.old.now) }
+    ensures exact { Answers (λ e. (additions_from 0 e, bytes.new.now)) result
+        (fields.additions_at version whole vector.now bytes.old.now) }
     ensures memory { IfErr result (λ fault. fault ≡ NoMemory →
         refused.IsInEntry version whole vector.now bytes.old.now) }
-    ensures found { IfOk result (λ e. bytes.old.now ≡ spell.additions_bytes version (additions_from 0 e) ++ bytes.new.now) }
+    ensures found { IfOk result
+        (λ e. bytes.old.now ≡ spell.additions_bytes version (additions_from 0 e) ++ bytes.new.now) }
     ensures wide { IfOk result (λ e. length e ≡ sets.SITES) }
     ensures full { IfOk result (λ e. is_bare e ≡ false) }
     ensures bounded { IfOk result (λ e. AreAdditionsBounded vector.now (additions_from 0 e)) }
@@ -88,10 +93,12 @@ fn read_counted(
     vector: &Vector,
     bytes: &mut &[u8],
 ) -> Result<Vec<Addition>, StateFault>
-    ensures exact { Answers (λ x. (x.items, bytes.new.now)) result (fields.additions_at version whole vector.now bytes.old.now) }
+    ensures exact { Answers (λ x. (x.items, bytes.new.now)) result
+        (fields.additions_at version whole vector.now bytes.old.now) }
     ensures memory { IfErr result (λ fault. fault ≡ NoMemory →
         refused.IsInAdditions version whole vector.now bytes.old.now) }
-    ensures found { IfOk result (λ x. bytes.old.now ≡ spell.additions_bytes version x.items ++ bytes.new.now) }
+    ensures found { IfOk result
+        (λ x. bytes.old.now ≡ spell.additions_bytes version x.items ++ bytes.new.now) }
     ensures some { IfOk result (λ x. 1 ≤ length x.items) }
     ensures rising { IfOk result (λ x. AreBySite 0 sets.SITES x.items) }
     ensures bounded { IfOk result (λ x. AreAdditionsBounded vector.now x.items) }
@@ -110,10 +117,12 @@ fn read_additions(
     count: u8,
     bytes: &mut &[u8],
 ) -> Result<Vec<Addition>, StateFault>
-    ensures exact { Answers (λ x. (x.items, bytes.new.now)) result (read.many_at (fields.later_addition_at version whole vector.now) count [] bytes.old.now) }
+    ensures exact { Answers (λ x. (x.items, bytes.new.now)) result
+        (read.many_at (fields.later_addition_at version whole vector.now) count [] bytes.old.now) }
     ensures memory { IfErr result (λ fault. fault ≡ NoMemory →
         refused.IsInSomeAdditions version whole vector.now count bytes.old.now) }
-    ensures found { IfOk result (λ x. bytes.old.now ≡ flat_map (spell.addition_bytes version) x.items ++ bytes.new.now) }
+    ensures found { IfOk result
+        (λ x. bytes.old.now ≡ flat_map (spell.addition_bytes version) x.items ++ bytes.new.now) }
     ensures count { IfOk result (λ x. length x.items ≡ count) }
     ensures rising { IfOk result (λ x. AreBySite 0 sets.SITES x.items) }
     ensures bounded { IfOk result (λ x. AreAdditionsBounded vector.now x.items) }

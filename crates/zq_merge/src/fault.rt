@@ -14,7 +14,8 @@ pub enum StateFault {
     Field(usize),
     /// The length of a key or a member is above 1048576.
     Length,
-    /// A key or a member is not above the one before it, or the site of an addition or a sum is not.
+    /// A key or a member is not above the one before it, or the site of an addition or a sum is
+    /// not.
     Order,
     /// A member's hash gives another heap.
     WrongHeap,
@@ -22,8 +23,8 @@ pub enum StateFault {
     Dot,
     /// The amount of a score is above 9007199254740992.
     Score,
-    /// A sum is 0 where it is written with its site, or its amount is above 9007199254740992 times the vector's counter
-    /// of the site.
+    /// A sum is 0 where it is written with its site, or its amount is above 9007199254740992 times
+    /// the vector's counter of the site.
     Total,
     /// Bytes follow the state.
     Rest,

@@ -31,9 +31,11 @@ pub(crate) fn read_frame(
     whole: usize,
     bytes: &mut &[u8],
 ) -> Result<Frame, StateFault>
-    ensures exact { Gives (λ x. (frame_of x, bytes.new.now)) result (fields.frame_at version whole bytes.old.now) }
+    ensures exact { Gives (λ x. (frame_of x, bytes.new.now)) result
+        (fields.frame_at version whole bytes.old.now) }
     ensures of_bytes { IfErr result IsOfBytes }
-    ensures found { IfOk result (λ x. bytes.old.now ≡ spell.frame_bytes version (frame_of x) ++ bytes.new.now) }
+    ensures found { IfOk result
+        (λ x. bytes.old.now ≡ spell.frame_bytes version (frame_of x) ++ bytes.new.now) }
     ensures rule { IfOk result (λ x. HasRule version (rule_of x.rule)) }
     ensures vector { IfOk result (λ x. HasVector version x.vector) }
     ensures heaps { IfOk result (λ x. sets.IsHeaps x.heap.heaps) }
@@ -48,9 +50,11 @@ pub(crate) fn read_frame(
 
 /// Takes the rule where the version has it. The versions before the third mean High.
 fn read_frame_rule(version: Version, whole: usize, bytes: &mut &[u8]) -> Result<Rule, StateFault>
-    ensures exact { Gives (λ x. (rule_of x, bytes.new.now)) result (fields.rule_at version whole bytes.old.now) }
+    ensures exact { Gives (λ x. (rule_of x, bytes.new.now)) result
+        (fields.rule_at version whole bytes.old.now) }
     ensures of_bytes { IfErr result IsOfBytes }
-    ensures found { IfOk result (λ x. bytes.old.now ≡ spell.rule_bytes version (rule_of x) ++ bytes.new.now) }
+    ensures found { IfOk result
+        (λ x. bytes.old.now ≡ spell.rule_bytes version (rule_of x) ++ bytes.new.now) }
     ensures version { IfOk result (λ x. HasRule version (rule_of x)) }
 {
     match version {
@@ -60,9 +64,11 @@ fn read_frame_rule(version: Version, whole: usize, bytes: &mut &[u8]) -> Result<
 }
 
 fn read_vector(version: Version, whole: usize, bytes: &mut &[u8]) -> Result<Vector, StateFault>
-    ensures exact { Gives (λ x. (x, bytes.new.now)) result (fields.vector_at version whole bytes.old.now) }
+    ensures exact { Gives (λ x. (x, bytes.new.now)) result
+        (fields.vector_at version whole bytes.old.now) }
     ensures of_bytes { IfErr result IsOfBytes }
-    ensures found { IfOk result (λ x. bytes.old.now ≡ spell.vector_bytes version x ++ bytes.new.now) }
+    ensures found { IfOk result
+        (λ x. bytes.old.now ≡ spell.vector_bytes version x ++ bytes.new.now) }
     ensures version { IfOk result (λ x. HasVector version x) }
     ensures counters { IfOk result (λ x. sets.IsCounters x) }
 {

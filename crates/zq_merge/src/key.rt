@@ -36,10 +36,12 @@ pub(crate) fn read_keys(
 ) -> Result<(), StateFault>
     requires heaps { sets.IsHeaps frame.now.heap.heaps }
     requires empty { shard.old ≡ heap_image (frame_of frame.now) [] }
-    ensures exact { Answers (λ _. (keys_of shard.new, bytes.new.now)) result (fields.keys_at version whole (frame_of frame.now) bytes.old.now) }
+    ensures exact { Answers (λ _. (keys_of shard.new, bytes.new.now)) result
+        (fields.keys_at version whole (frame_of frame.now) bytes.old.now) }
     ensures memory { IfErr result (λ fault. fault ≡ NoMemory →
         refused.IsInKeys version whole (frame_of frame.now) bytes.old.now) }
-    ensures found { OnOk result (bytes.old.now ≡ spell.keys_bytes version (keys_of shard.new) ++ bytes.new.now) }
+    ensures found { OnOk result
+        (bytes.old.now ≡ spell.keys_bytes version (keys_of shard.new) ++ bytes.new.now) }
     ensures built { OnOk result (IsBuilt (frame_of frame.now) (keys_of shard.new) shard.new) }
 {
     let count = of_part(read_number_in(whole, bytes, 0, u64::MAX))?;
@@ -59,10 +61,13 @@ fn read_some_keys(
 ) -> Result<(), StateFault>
     requires heaps { sets.IsHeaps frame.now.heap.heaps }
     requires empty { shard.old ≡ heap_image (frame_of frame.now) [] }
-    ensures exact { Answers (λ _. (keys_of shard.new, bytes.new.now)) result (read.many_at (fields.later_key_at version whole (frame_of frame.now)) count [] bytes.old.now) }
+    ensures exact { Answers (λ _. (keys_of shard.new, bytes.new.now)) result
+        (read.many_at (fields.later_key_at version whole (frame_of frame.now)) count []
+        bytes.old.now) }
     ensures memory { IfErr result (λ fault. fault ≡ NoMemory →
         refused.IsInSomeKeys version whole (frame_of frame.now) count bytes.old.now) }
-    ensures found { OnOk result (bytes.old.now ≡ flat_map (spell.key_bytes version) (keys_of shard.new) ++ bytes.new.now) }
+    ensures found { OnOk result
+        (bytes.old.now ≡ flat_map (spell.key_bytes version) (keys_of shard.new) ++ bytes.new.now) }
     ensures count { OnOk result (length (keys_of shard.new) ≡ count) }
     ensures built { OnOk result (IsBuilt (frame_of frame.now) (keys_of shard.new) shard.new) }
 {
@@ -88,12 +93,22 @@ fn read_key<'a>(
     requires heaps { sets.IsHeaps frame.now.heap.heaps }
     requires built { IsBuilt (frame_of frame.now) (keys_of shard.old) shard.old }
     requires before { option_map (λ b. b.now) before ≡ fields.last_key (keys_of shard.old) }
-    ensures exact { Answers (λ key. (record { key = key.now; members = members_since shard.old shard.new }, bytes.new.now)) result (fields.key_at version whole (frame_of frame.now) (option_map (λ b. b.now) before.entry) bytes.old.now) }
+    ensures exact { Answers
+        (λ key. (
+          record { key = key.now; members = members_since shard.old shard.new },
+          bytes.new.now,
+        )) result
+        (fields.key_at version whole (frame_of frame.now)
+        (option_map (λ b. b.now) before.entry) bytes.old.now) }
     ensures memory { IfErr result (λ fault. fault ≡ NoMemory →
         refused.IsInKey version whole (frame_of frame.now)
         (option_map (λ b. b.now) before.entry) bytes.old.now) }
-    ensures found { IfOk result (λ key. bytes.old.now ≡ spell.key_bytes version (record { key = key.now; members = members_since shard.old shard.new }) ++ bytes.new.now) }
-    ensures built { IfOk result (λ key. IsBuilt (frame_of frame.now) (keys_of shard.old ++ (record { key = key.now; members = members_since shard.old shard.new }) ∷ []) shard.new) }
+    ensures found { IfOk result
+        (λ key. bytes.old.now ≡ spell.key_bytes version
+        (record { key = key.now; members = members_since shard.old shard.new }) ++ bytes.new.now) }
+    ensures built { IfOk result
+        (λ key. IsBuilt (frame_of frame.now)
+        (keys_of shard.old ++ (record { key = key.now; members = members_since shard.old shard.new }) ∷ []) shard.new) }
 {
     let key = read_rising_text(before, bytes)?;
     read_counted_members(alloc, version, whole, frame, key, bytes, shard)?;
@@ -115,11 +130,17 @@ fn read_counted_members(
     requires key { length key.now ≤ placed.LONGEST }
     requires built { IsBuilt (frame_of frame.now) (keys_of shard.old) shard.old }
     requires after { read.is_after (fields.last_key (keys_of shard.old)) key.now ≡ true }
-    ensures exact { Answers (λ _. (members_since shard.old shard.new, bytes.new.now)) result (fields.members_at version whole (frame_of frame.now) key.now bytes.old.now) }
+    ensures exact { Answers (λ _. (members_since shard.old shard.new, bytes.new.now)) result
+        (fields.members_at version whole (frame_of frame.now) key.now bytes.old.now) }
     ensures memory { IfErr result (λ fault. fault ≡ NoMemory →
         refused.IsInMembers version whole (frame_of frame.now) key.now bytes.old.now) }
-    ensures found { OnOk result (bytes.old.now ≡ to_be_bytes w64 (length (members_since shard.old shard.new)) ++ (flat_map (spell.member_bytes version) (members_since shard.old shard.new) ++ bytes.new.now)) }
-    ensures built { OnOk result (IsBuilt (frame_of frame.now) (keys_of shard.old ++ (record { key = key.now; members = members_since shard.old shard.new }) ∷ []) shard.new) }
+    ensures found { OnOk result
+        (bytes.old.now ≡ to_be_bytes w64 (length (members_since shard.old shard.new))
+        ++ (flat_map (spell.member_bytes version) (members_since shard.old shard.new)
+        ++ bytes.new.now)) }
+    ensures built { OnOk result
+        (IsBuilt (frame_of frame.now)
+        (keys_of shard.old ++ (record { key = key.now; members = members_since shard.old shard.new }) ∷ []) shard.new) }
 {
     let count = of_part(read_number_in(whole, bytes, 1, u64::MAX))?;
     read_members(alloc, version, whole, frame, key, count, bytes, shard)?;
@@ -142,12 +163,18 @@ fn read_members(
     requires some { 1 ≤ count }
     requires built { IsBuilt (frame_of frame.now) (keys_of shard.old) shard.old }
     requires after { read.is_after (fields.last_key (keys_of shard.old)) key.now ≡ true }
-    ensures exact { Answers (λ _. (members_since shard.old shard.new, bytes.new.now)) result (read.many_at (fields.later_member_at version whole (frame_of frame.now) key.now) count [] bytes.old.now) }
+    ensures exact { Answers (λ _. (members_since shard.old shard.new, bytes.new.now)) result
+        (read.many_at (fields.later_member_at version whole (frame_of frame.now) key.now) count []
+        bytes.old.now) }
     ensures memory { IfErr result (λ fault. fault ≡ NoMemory →
         refused.IsInSomeMembers version whole (frame_of frame.now) key.now count bytes.old.now) }
-    ensures found { OnOk result (bytes.old.now ≡ flat_map (spell.member_bytes version) (members_since shard.old shard.new) ++ bytes.new.now) }
+    ensures found { OnOk result
+        (bytes.old.now ≡ flat_map (spell.member_bytes version) (members_since shard.old shard.new)
+        ++ bytes.new.now) }
     ensures count { OnOk result (length (members_since shard.old shard.new) ≡ count) }
-    ensures built { OnOk result (IsBuilt (frame_of frame.now) (keys_of shard.old ++ (record { key = key.now; members = members_since shard.old shard.new }) ∷ []) shard.new) }
+    ensures built { OnOk result
+        (IsBuilt (frame_of frame.now)
+        (keys_of shard.old ++ (record { key = key.now; members = members_since shard.old shard.new }) ∷ []) shard.new) }
 {
     let mut before = None;
     for _number in 0..count {

@@ -16,7 +16,9 @@ use zq_shard::RowRef;
 #[tactic(auto, unfolding(crate::specs::Spelling::keys_bytes))]
 pub(crate) fn write_keys(out: &mut Vec<u8>, rows: &[RowRef<'_>]) -> Result<(), AllocError>
     requires { AreWritable (map lent_row rows.now) }
-    ensures { OnOk result (out.new.items ≡ out.old.items ++ spell.keys_bytes version.Three (keys.by_key (map lent_row rows.now))) }
+    ensures { OnOk result
+        (out.new.items ≡ out.old.items ++ spell.keys_bytes version.Three
+        (keys.by_key (map lent_row rows.now))) }
 {
     write_u64(out, count_keys(rows) as u64)?;
     write_each_key(out, rows)?;
@@ -38,7 +40,9 @@ fn count_keys(rows: &[RowRef<'_>]) -> usize
 
 fn write_each_key(out: &mut Vec<u8>, rows: &[RowRef<'_>]) -> Result<(), AllocError>
     requires { AreWritable (map lent_row rows.now) }
-    ensures { OnOk result (out.new.items ≡ out.old.items ++ flat_map (spell.key_bytes version.Three) (keys.by_key (map lent_row rows.now))) }
+    ensures { OnOk result
+        (out.new.items ≡ out.old.items ++ flat_map (spell.key_bytes version.Three)
+        (keys.by_key (map lent_row rows.now))) }
 {
     let mut place = 0;
     while place < rows.len() {
@@ -54,7 +58,9 @@ fn key_end(rows: &[RowRef<'_>], place: usize) -> usize
     requires { place < length rows.now }
     ensures after { place < result }
     ensures most { result ≤ length rows.now }
-    ensures key { keys.by_key (drop place (map lent_row rows.now)) ≡ group_key (take (result - place) (drop place (map lent_row rows.now))) ∷ keys.by_key (drop result (map lent_row rows.now)) }
+    ensures key { keys.by_key (drop place (map lent_row rows.now))
+        ≡ group_key (take (result - place) (drop place (map lent_row rows.now)))
+        ∷ keys.by_key (drop result (map lent_row rows.now)) }
 {
     place + 1 + group_len(&rows[place + 1..], rows[place].key)
 }
@@ -77,7 +83,9 @@ fn group_len(rows: &[RowRef<'_>], key: &[u8]) -> usize
 fn write_key(out: &mut Vec<u8>, rows: &[RowRef<'_>]) -> Result<(), AllocError>
     requires some { 0 < length rows.now }
     requires writable { AreWritable (map lent_row rows.now) }
-    ensures { OnOk result (out.new.items ≡ out.old.items ++ spell.key_bytes version.Three (group_key (map lent_row rows.now))) }
+    ensures { OnOk result
+        (out.new.items ≡ out.old.items ++ spell.key_bytes version.Three
+        (group_key (map lent_row rows.now))) }
 {
     write_text(out, rows[0].key)?;
     write_u64(out, rows.len() as u64)?;
@@ -87,7 +95,9 @@ fn write_key(out: &mut Vec<u8>, rows: &[RowRef<'_>]) -> Result<(), AllocError>
 
 fn write_members(out: &mut Vec<u8>, rows: &[RowRef<'_>]) -> Result<(), AllocError>
     requires { AreWritable (map lent_row rows.now) }
-    ensures { OnOk result (out.new.items ≡ out.old.items ++ flat_map (spell.member_bytes version.Three) (map keys.member_of (map lent_row rows.now))) }
+    ensures { OnOk result
+        (out.new.items ≡ out.old.items ++ flat_map (spell.member_bytes version.Three)
+        (map keys.member_of (map lent_row rows.now))) }
 {
     for row in rows {
         write_member(out, row.member, row.entry)?;

@@ -26,8 +26,9 @@
 //! | 2 | High | 0 to 63 | how many are not 0, and for each of those the site, in rising order, and eight bytes | how many are not 0, and for each of those the site, in rising order, and the sum |
 //! | 3 | in the frame | 0 to 63 | as 2 | as 2 |
 //!
-//! All versions are read; what is written has version 3. The first fault from the left is the answer. Where a field has
-//! more than one, they are looked for in the order of the table; bytes that are missing are Short.
+//! All versions are read; what is written has version 3. The first fault from the left is the
+//! answer. Where a field has more than one, they are looked for in the order of the table; bytes
+//! that are missing are Short.
 #![tactic(auto)]
 
 mod addition;

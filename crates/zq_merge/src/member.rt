@@ -36,17 +36,23 @@ pub(crate) fn read_member<'a>(
 ) -> Result<(&'a [u8], Entry), StateFault>
     requires heaps { sets.IsHeaps frame.now.heap.heaps }
     requires key { length key.now ≤ placed.LONGEST }
-    ensures exact { Answers (λ x. (member_read x, bytes.new.now)) result (fields.member_at version whole (frame_of frame.now) key.now (option_map (λ b. b.now) before.entry) bytes.old.now) }
+    ensures exact { Answers (λ x. (member_read x, bytes.new.now)) result
+        (fields.member_at version whole (frame_of frame.now) key.now
+        (option_map (λ b. b.now) before.entry) bytes.old.now) }
     ensures memory { IfErr result (λ fault. fault ≡ NoMemory →
         refused.IsInMember version whole (frame_of frame.now) key.now
         (option_map (λ b. b.now) before.entry) bytes.old.now) }
-    ensures found { IfOk result (λ x. bytes.old.now ≡ spell.member_bytes version (member_read x) ++ bytes.new.now) }
+    ensures found { IfOk result (λ x. bytes.old.now ≡ spell.member_bytes version (member_read x)
+        ++ bytes.new.now) }
     ensures short { IfOk result (λ x. length x.0.now ≤ placed.LONGEST) }
-    ensures after { IfOk result (λ x. read.is_after (option_map (λ b. b.now) before.entry) x.0.now ≡ true) }
-    ensures placed { IfOk result (λ x. model.heap_of key.now x.0.now frame.now.heap.heaps ≡ frame.now.heap.heap) }
+    ensures after { IfOk result (λ x. read.is_after (option_map (λ b. b.now) before.entry) x.0.now
+        ≡ true) }
+    ensures placed { IfOk result (λ x. model.heap_of key.now x.0.now frame.now.heap.heaps
+        ≡ frame.now.heap.heap) }
     ensures wide { IfOk result (λ x. length x.1 ≡ sets.SITES) }
     ensures full { IfOk result (λ x. is_bare x.1 ≡ false) }
-    ensures bounded { IfOk result (λ x. AreAdditionsBounded frame.now.vector (additions_from 0 x.1)) }
+    ensures bounded { IfOk result
+        (λ x. AreAdditionsBounded frame.now.vector (additions_from 0 x.1)) }
 {
     let member = read_placed_member(frame.heap, key, before, bytes)?;
     let entry = read_entry(alloc, version, whole, &frame.vector, bytes)?;

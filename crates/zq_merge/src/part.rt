@@ -31,7 +31,8 @@ pub(crate) fn read_rising_site(
     past: u8,
 ) -> Result<SiteNo, StateFault>
     requires { past ≤ sets.SITES }
-    ensures exact { Gives (λ x. (x, bytes.new.now)) result (read.site_at whole past low bytes.old.now) }
+    ensures exact { Gives (λ x. (x, bytes.new.now)) result
+        (read.site_at whole past low bytes.old.now) }
     ensures of_bytes { IfErr result IsOfBytes }
     ensures found { IfOk result (λ x. bytes.old.now ≡ x ∷ bytes.new.now) }
     ensures low { IfOk result (λ x. low ≤ x) }

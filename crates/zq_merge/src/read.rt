@@ -18,14 +18,16 @@ use zq_shard::Shard;
 
 /// The state that the bytes are, in version 1, 2 or 3, as a shard whose members use this hasher.
 ///
-/// A fault is that of the first field, from the left, that is missing or wrong. Members go into the shard as they are
-/// read, and no memory is asked for what a number only declares: `NoMemory` comes where there was none for what stands
-/// at the field that was read.
+/// A fault is that of the first field, from the left, that is missing or wrong. Members go into the
+/// shard as they are read, and no memory is asked for what a number only declares: `NoMemory` comes
+/// where there was none for what stands at the field that was read.
 pub fn read_state(alloc: Global, bytes: &[u8], hasher: Seeded) -> Result<Shard, StateFault>
     ensures exact { Answers (λ x. x) result (state_at bytes.now) }
     ensures memory { IfErr result (λ fault. fault ≡ NoMemory → IsRefusedIn bytes.now) }
-    ensures found { IfOk result (λ s. (v : Version) × HasSpelling v s × (bytes.now ≡ state_spelling v s)) }
-    ensures only { (v : Version) (s : HeapImage) → IsState s → HasSpelling v s → bytes.now ≡ state_spelling v s →
+    ensures found { IfOk result (λ s. (v : Version) × HasSpelling v s
+        × (bytes.now ≡ state_spelling v s)) }
+    ensures only { (v : Version) (s : HeapImage) → IsState s → HasSpelling v s →
+        bytes.now ≡ state_spelling v s →
         MatchResult result (λ x. x ≡ s) (λ fault. fault ≡ NoMemory) }
 {
     read_whole(alloc, bytes, hasher)
@@ -35,7 +37,8 @@ pub fn read_state(alloc: Global, bytes: &[u8], hasher: Seeded) -> Result<Shard, 
 fn read_whole(alloc: Global, bytes: &[u8], hasher: Seeded) -> Result<Shard, StateFault>
     ensures exact { Answers (λ x. x) result (state_at bytes.now) }
     ensures memory { IfErr result (λ fault. fault ≡ NoMemory → IsRefusedIn bytes.now) }
-    ensures found { IfOk result (λ s. (v : Version) × HasSpelling v s × (bytes.now ≡ state_spelling v s)) }
+    ensures found { IfOk result (λ s. (v : Version) × HasSpelling v s
+        × (bytes.now ≡ state_spelling v s)) }
 {
     let whole = bytes.len();
     let mut rest = bytes;

@@ -28,7 +28,8 @@ pub fn write_state(alloc: Global, shard: &Shard) -> Result<Vec<u8>, AllocError>
 /// Appends the version, the heap, the rule and the vector.
 #[tactic(auto, unfolding(crate::specs::Spelling::frame_bytes))]
 fn write_frame(out: &mut Vec<u8>, shard: &Shard) -> Result<(), AllocError>
-    ensures { OnOk result (out.new.items ≡ out.old.items ++ 3 ∷ spell.frame_bytes version.Three (frame_in shard.now)) }
+    ensures { OnOk result (out.new.items ≡ out.old.items ++ 3
+        ∷ spell.frame_bytes version.Three (frame_in shard.now)) }
 {
     let rule = rule_byte(shard.rule());
     write_bytes(

@@ -17,7 +17,8 @@ use crate::part::read_rising_site;
 use zq_dots::{GREATEST, SITES, SiteNo, Vector};
 use zq_fields::read_i128;
 
-/// The greatest amount of a site's sum: the greatest increment for each operation of the site that the vector knows.
+/// The greatest amount of a site's sum: the greatest increment for each operation of the site that
+/// the vector knows.
 #[tactic(auto, unfolding(zq_model::specs::Sets::LAST))]
 pub(crate) fn most(vector: &Vector, site: SiteNo) -> u128
     ensures exact { result ≡ MOST * slice_index vector.now site }
@@ -52,7 +53,8 @@ pub(crate) fn read_site_sum(
     low: u8,
     bytes: &mut &[u8],
 ) -> Result<(SiteNo, i128), StateFault>
-    ensures exact { Gives (λ x. ((x.0, x.1), bytes.new.now)) result (fields.site_sum_at whole vector.now low bytes.old.now) }
+    ensures exact { Gives (λ x. ((x.0, x.1), bytes.new.now)) result
+        (fields.site_sum_at whole vector.now low bytes.old.now) }
     ensures of_bytes { IfErr result IsOfBytes }
     ensures found { IfOk result (λ x. bytes.old.now ≡ spell.sum_bytes (x.0, x.1) ++ bytes.new.now) }
     ensures site { IfOk result (λ x. (low ≤ x.0) × (x.0 < sets.SITES)) }

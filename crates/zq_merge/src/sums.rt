@@ -28,10 +28,12 @@ pub(crate) fn read_sums(
     vector: &Vector,
     bytes: &mut &[u8],
 ) -> Result<Vec<(SiteNo, i128)>, StateFault>
-    ensures exact { Answers (λ x. (dense_sums x.items, bytes.new.now)) result (fields.sums_at version whole vector.now bytes.old.now) }
+    ensures exact { Answers (λ x. (dense_sums x.items, bytes.new.now)) result
+        (fields.sums_at version whole vector.now bytes.old.now) }
     ensures memory { IfErr result (λ fault. fault ≡ NoMemory →
         refused.IsInSums version whole vector.now bytes.old.now) }
-    ensures found { IfOk result (λ x. bytes.old.now ≡ spell.sums_bytes version (dense_sums x.items) ++ bytes.new.now) }
+    ensures found { IfOk result (λ x. bytes.old.now ≡ spell.sums_bytes version (dense_sums x.items)
+        ++ bytes.new.now) }
     ensures sums { IfOk result (λ x. AreSums x.items) }
     ensures within { IfOk result (λ x. AreSumsBounded vector.now x.items) }
 {
@@ -47,10 +49,12 @@ fn read_each_sum(
     vector: &Vector,
     bytes: &mut &[u8],
 ) -> Result<Vec<(SiteNo, i128)>, StateFault>
-    ensures exact { Answers (λ x. (dense_sums x.items, bytes.new.now)) result (fields.all_sums_at vector.now bytes.old.now) }
+    ensures exact { Answers (λ x. (dense_sums x.items, bytes.new.now)) result
+        (fields.all_sums_at vector.now bytes.old.now) }
     ensures memory { IfErr result (λ fault. fault ≡ NoMemory →
         refused.IsInFirstSums vector.now bytes.old.now) }
-    ensures found { IfOk result (λ x. bytes.old.now ≡ spell.each_sum (dense_sums x.items) ++ bytes.new.now) }
+    ensures found { IfOk result
+        (λ x. bytes.old.now ≡ spell.each_sum (dense_sums x.items) ++ bytes.new.now) }
     ensures sums { IfOk result (λ x. AreSums x.items) }
     ensures within { IfOk result (λ x. AreSumsBounded vector.now x.items) }
 {
@@ -96,10 +100,13 @@ fn read_listed_sums(
     vector: &Vector,
     bytes: &mut &[u8],
 ) -> Result<Vec<(SiteNo, i128)>, StateFault>
-    ensures exact { Answers (λ x. (dense_sums x.items, bytes.new.now)) result (fields.some_sums_at whole vector.now bytes.old.now) }
+    ensures exact { Answers (λ x. (dense_sums x.items, bytes.new.now)) result
+        (fields.some_sums_at whole vector.now bytes.old.now) }
     ensures memory { IfErr result (λ fault. fault ≡ NoMemory →
         refused.IsInListedSums whole vector.now bytes.old.now) }
-    ensures found { IfOk result (λ x. bytes.old.now ≡ spell.listed_sums (nonzero_sums (dense_sums x.items)) ++ bytes.new.now) }
+    ensures found { IfOk result
+        (λ x. bytes.old.now ≡ spell.listed_sums (nonzero_sums (dense_sums x.items))
+        ++ bytes.new.now) }
     ensures sums { IfOk result (λ x. AreSums x.items) }
     ensures within { IfOk result (λ x. AreSumsBounded vector.now x.items) }
 {
@@ -117,10 +124,12 @@ fn read_some_sums(
     count: u8,
     bytes: &mut &[u8],
 ) -> Result<Vec<(SiteNo, i128)>, StateFault>
-    ensures exact { Answers (λ x. (x.items, bytes.new.now)) result (read.many_at (fields.later_sum_at whole vector.now) count [] bytes.old.now) }
+    ensures exact { Answers (λ x. (x.items, bytes.new.now)) result
+        (read.many_at (fields.later_sum_at whole vector.now) count [] bytes.old.now) }
     ensures memory { IfErr result (λ fault. fault ≡ NoMemory →
         refused.IsInSomeSums whole vector.now count bytes.old.now) }
-    ensures found { IfOk result (λ x. bytes.old.now ≡ flat_map spell.sum_bytes x.items ++ bytes.new.now) }
+    ensures found { IfOk result
+        (λ x. bytes.old.now ≡ flat_map spell.sum_bytes x.items ++ bytes.new.now) }
     ensures count { IfOk result (λ x. length x.items ≡ count) }
     ensures sums { IfOk result (λ x. AreSums x.items) }
     ensures within { IfOk result (λ x. AreSumsBounded vector.now x.items) }

@@ -20,11 +20,13 @@ pub(crate) fn read_rising_text<'a>(
     before: Option<&[u8]>,
     bytes: &mut &'a [u8],
 ) -> Result<&'a [u8], StateFault>
-    ensures exact { Gives (λ x. (x.now, bytes.new.now)) result (read.rising_text_at (option_map (λ b. b.now) before.entry) bytes.old.now) }
+    ensures exact { Gives (λ x. (x.now, bytes.new.now)) result
+        (read.rising_text_at (option_map (λ b. b.now) before.entry) bytes.old.now) }
     ensures of_bytes { IfErr result IsOfBytes }
     ensures found { IfOk result (λ x. bytes.old.now ≡ text x.now ++ bytes.new.now) }
     ensures short { IfOk result (λ x. length x.now ≤ placed.LONGEST) }
-    ensures after { IfOk result (λ x. read.is_after (option_map (λ b. b.now) before.entry) x.now ≡ true) }
+    ensures after { IfOk result (λ x. read.is_after (option_map (λ b. b.now) before.entry) x.now
+        ≡ true) }
 {
     let text = match read_text(bytes) {
         Ok(text) => text,
@@ -56,11 +58,14 @@ pub(crate) fn read_placed_member<'a>(
 ) -> Result<&'a [u8], StateFault>
     requires heaps { sets.IsHeaps heap.heaps }
     requires key { length key.now ≤ placed.LONGEST }
-    ensures exact { Gives (λ x. (x.now, bytes.new.now)) result (fields.placed_member_at heap key.now (option_map (λ b. b.now) before.entry) bytes.old.now) }
+    ensures exact { Gives (λ x. (x.now, bytes.new.now)) result
+        (fields.placed_member_at heap key.now
+        (option_map (λ b. b.now) before.entry) bytes.old.now) }
     ensures of_bytes { IfErr result IsOfBytes }
     ensures found { IfOk result (λ x. bytes.old.now ≡ text x.now ++ bytes.new.now) }
     ensures short { IfOk result (λ x. length x.now ≤ placed.LONGEST) }
-    ensures after { IfOk result (λ x. read.is_after (option_map (λ b. b.now) before.entry) x.now ≡ true) }
+    ensures after { IfOk result (λ x. read.is_after (option_map (λ b. b.now) before.entry) x.now
+        ≡ true) }
     ensures placed { IfOk result (λ x. model.heap_of key.now x.now heap.heaps ≡ heap.heap) }
 {
     let member = read_rising_text(before, bytes)?;

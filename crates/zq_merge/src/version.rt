@@ -14,10 +14,11 @@ use zq_fields::{DENSE_SITES, read_byte};
 /// A version of the frame, which its first byte names.
 #[derive(Clone, Copy, Debug, PartialEq, Eq)]
 pub enum Version {
-    /// The sites are 0 to 7; the vector has a counter and an addition a sum for each of them. The rule is High.
+    /// The sites are 0 to 7; the vector has a counter and an addition a sum for each of them. The
+    /// rule is High.
     One,
-    /// The vector has an entry for each site of which anything is known, and an addition a sum for each site where it
-    /// is not 0. The rule is High.
+    /// The vector has an entry for each site of which anything is known, and an addition a sum for
+    /// each site where it is not 0. The rule is High.
     Two,
     /// The second, with the rule.
     Three,

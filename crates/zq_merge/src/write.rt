@@ -26,7 +26,9 @@ pub(crate) fn write_member(
 ) -> Result<(), AllocError>
     requires member { length member.now ≤ placed.LONGEST }
     requires additions { length (additions_from 0 entry.now) ≤ sets.SITES }
-    ensures { OnOk result (out.new.items ≡ out.old.items ++ spell.member_bytes version.Three (member_of_entry member.now entry.now)) }
+    ensures { OnOk result
+        (out.new.items ≡ out.old.items ++ spell.member_bytes version.Three
+        (member_of_entry member.now entry.now)) }
 {
     write_text(out, member)?;
     write_entry(out, entry)
@@ -36,7 +38,9 @@ pub(crate) fn write_member(
 #[tactic(auto, unfolding(crate::specs::Spelling::additions_bytes))]
 fn write_entry(out: &mut Vec<u8>, entry: &Entry) -> Result<(), AllocError>
     requires { length (additions_from 0 entry.now) ≤ sets.SITES }
-    ensures { OnOk result (out.new.items ≡ out.old.items ++ spell.additions_bytes version.Three (additions_from 0 entry.now)) }
+    ensures { OnOk result
+        (out.new.items ≡ out.old.items ++ spell.additions_bytes version.Three
+        (additions_from 0 entry.now)) }
 {
     write_byte(out, entry.len() as u8)?;
     write_additions(out, entry)?;
@@ -44,7 +48,9 @@ fn write_entry(out: &mut Vec<u8>, entry: &Entry) -> Result<(), AllocError>
 }
 
 fn write_additions(out: &mut Vec<u8>, entry: &Entry) -> Result<(), AllocError>
-    ensures { OnOk result (out.new.items ≡ out.old.items ++ flat_map (spell.addition_bytes version.Three) (additions_from 0 entry.now)) }
+    ensures { OnOk result
+        (out.new.items ≡ out.old.items ++ flat_map (spell.addition_bytes version.Three)
+        (additions_from 0 entry.now)) }
 {
     for place in 0..entry.len() {
         write_addition(out, &entry.at(place))?;
@@ -56,7 +62,8 @@ fn write_additions(out: &mut Vec<u8>, entry: &Entry) -> Result<(), AllocError>
 #[tactic(auto, unfolding(crate::specs::Spelling::addition_bytes))]
 fn write_addition(out: &mut Vec<u8>, addition: &AdditionRef<'_>) -> Result<(), AllocError>
     requires { AreSums addition.now.sums }
-    ensures { OnOk result (out.new.items ≡ out.old.items ++ spell.addition_bytes version.Three (lent addition.now)) }
+    ensures { OnOk result
+        (out.new.items ≡ out.old.items ++ spell.addition_bytes version.Three (lent addition.now)) }
 {
     write_byte(out, addition.dot.site.value())?;
     write_u64(out, addition.dot.n)?;

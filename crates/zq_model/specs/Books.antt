@@ -1,4 +1,5 @@
--- A book: the image of one heap, with the rule of its scores and the records that lead from an older image to it.
+-- A book: the image of one heap, with the rule of its scores and the records that lead from an
+-- older image to it.
 
 use Rattle.std.specs.Cmp.Lexicographic.{pointwise}
 use Rattle.std.specs.List.{list_all}
@@ -29,7 +30,8 @@ pub record Book : Type 0 where
   pub stamp : ℕ
   pub count : ℕ
   pub limits : TailLimits
-  -- how many of its records and merges, by their count, were handed on and may be cut; none: all may be
+  -- how many of its records and merges, by their count, were handed on and may be cut; none: all
+  -- may be
   pub handed : Option ℕ
 
 -- a step of a book's history: a record, or the merge of another image
@@ -60,10 +62,12 @@ is_wide v = length v == SITES
 abbrev pub are_counters : List ℕ → Bool
 are_counters v = is_wide v && list_all (λ n. nat_le n LAST) v
 
--- an operation among K heaps: it lies where its member's hash says, its number is the next of its site after those that it has seen, and what it puts or adds is in range
+-- an operation among K heaps: it lies where its member's hash says, its number is the next of its
+-- site after those that it has seen, and what it puts or adds is in range
 abbrev pub is_operation : ℕ → Operation → Bool
 is_operation K o =
-    nat_le 1 K && (nat_le K 16 && (is_act o.act && ((o.heap == heap_of o.key o.member K) && (nat_lt o.site SITES
+    nat_le 1 K && (nat_le K 16 &&
+    (is_act o.act && ((o.heap == heap_of o.key o.member K) && (nat_lt o.site SITES
     && (are_counters o.seen && ((o.n == slice_index o.seen o.site + 1) && nat_le o.n LAST))))))
 
 -- what a site of the vector v makes has seen v
@@ -80,7 +84,8 @@ is_over v (Took o) = is_new_to v o
 
 -- an operation of the heap h, of K, that a site of the vector v makes, or that is new to it
 abbrev pub is_change_over : ℕ → ℕ → List ℕ → Change → Bool
-is_change_over K h v c = is_wide v && (((operation_of c).heap == h) && (is_operation K (operation_of c) && is_over v c))
+is_change_over K h v c =
+    is_wide v && (((operation_of c).heap == h) && (is_operation K (operation_of c) && is_over v c))
 
 abbrev pub is_step_over : ℕ → ℕ → Image → Step → Bool
 is_step_over K h a (Recorded r) = is_change_over K h a.vector r.change
@@ -103,7 +108,8 @@ are_steps_over K h a (s ∷ ss) = is_step_over K h a s && are_steps_over K h (im
 -- the stamps never fall, and lie between low and high
 abbrev pub are_rising : ℕ → ℕ → List Step → Bool
 are_rising low high [] = true
-are_rising low high (s ∷ ss) = nat_le low (stamp_of s) && (nat_le (stamp_of s) high && are_rising (stamp_of s) high ss)
+are_rising low high (s ∷ ss) =
+    nat_le low (stamp_of s) && (nat_le (stamp_of s) high && are_rising (stamp_of s) high ss)
 
 -- the tail after the steps: all that follows the last merge, and the whole where there is none
 abbrev pub tail_after : List Record → List Step → List Record
@@ -115,8 +121,8 @@ tail_after tail (Merged stamp other ∷ ss) = tail_after [] ss
 abbrev pub steps_of : List Record → List Step
 steps_of tail = map (λ r. Recorded r) tail
 
--- what a book keeps: its tail replayed from the base gives the state; the stamps in the tail never fall, and none is
--- above the book's; the count is no less than the tail's length
+-- what a book keeps: its tail replayed from the base gives the state; the stamps in the tail never
+-- fall, and none is above the book's; the count is no less than the tail's length
 pub record IsBook (b : Book) : Type 0 where
   pub steps : are_steps_over b.heaps b.heap b.base (steps_of b.tail) ≡ true
   pub replay : steps_image (steps_of b.tail) b.base ≡ b.state

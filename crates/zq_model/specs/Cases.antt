@@ -63,12 +63,14 @@ drop_and_bump p =
     ∷ Met (at_first p Drop (pos 3)) (at_second p (Bump (pos 7)) (pos 3)) None
     ∷ []
 
--- two sites put x apart, at 5 and at 9, and it is at this score once they meet; one of them then adds -6 to both Puts, and it is at that score
+-- two sites put x apart, at 5 and at 9, and it is at this score once they meet; one of them then
+-- adds -6 to both Puts, and it is at that score
 abbrev pub puts_apart : ℤ → ℤ → Pair → List Case
 puts_apart met lowered p =
     Met (put_by p p.first (pos 5)) (put_by p p.second (pos 9)) (Some met)
     ∷ Alone (on_x p p.first 1 1 (Bump (neg_ℤ (pos 6))) ∷ put_apart p (pos 5) (pos 9)) (Some lowered)
-    ∷ Met (on_x p p.first 1 1 (Bump (neg_ℤ (pos 6))) ∷ put_apart p (pos 5) (pos 9)) (put_apart p (pos 5) (pos 9)) (Some lowered)
+    ∷ Met (on_x p p.first 1 1 (Bump (neg_ℤ (pos 6))) ∷ put_apart p (pos 5) (pos 9))
+    (put_apart p (pos 5) (pos 9)) (Some lowered)
     ∷ []
 
 -- two sites share x at 0, and each adds the greatest increment; one of them then takes it back once
@@ -76,9 +78,13 @@ abbrev pub greatest_bumps : Pair → List Case
 greatest_bumps p =
     Alone (at_first p (Bump (pos MOST)) (pos 0)) (Some (pos 9007199254740992))
     ∷ Alone (at_second p (Bump (pos MOST)) (pos 0)) (Some (pos 9007199254740992))
-    ∷ Met (at_first p (Bump (pos MOST)) (pos 0)) (at_second p (Bump (pos MOST)) (pos 0)) (Some (pos 18014398509481984))
-    ∷ Alone (on_x p p.first 2 1 (Bump (neg_ℤ (pos MOST))) ∷ at_both p (Bump (pos MOST)) (Bump (pos MOST)) (pos 0)) (Some (pos 9007199254740992))
-    ∷ Met (on_x p p.first 2 1 (Bump (neg_ℤ (pos MOST))) ∷ at_both p (Bump (pos MOST)) (Bump (pos MOST)) (pos 0)) (at_both p (Bump (pos MOST)) (Bump (pos MOST)) (pos 0)) (Some (pos 9007199254740992))
+    ∷ Met (at_first p (Bump (pos MOST)) (pos 0)) (at_second p (Bump (pos MOST)) (pos 0))
+    (Some (pos 18014398509481984))
+    ∷ Alone (on_x p p.first 2 1 (Bump (neg_ℤ (pos MOST)))
+    ∷ at_both p (Bump (pos MOST)) (Bump (pos MOST)) (pos 0)) (Some (pos 9007199254740992))
+    ∷ Met (on_x p p.first 2 1 (Bump (neg_ℤ (pos MOST)))
+    ∷ at_both p (Bump (pos MOST)) (Bump (pos MOST)) (pos 0))
+    (at_both p (Bump (pos MOST)) (Bump (pos MOST)) (pos 0)) (Some (pos 9007199254740992))
     ∷ []
 
 -- two sites share x at 1, and both drop it

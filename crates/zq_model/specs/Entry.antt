@@ -35,13 +35,15 @@ abbrev pub sum_upto : (ℕ → ℤ) → ℕ → ℤ
 sum_upto f zero = pos 0
 sum_upto f (suc n) = sum_upto f n +ℤ f (suc n)
 
--- the sum of the increments of the site t's Bumps on this member that have seen the Put with the dot (s, n)
+-- the sum of the increments of the site t's Bumps on this member that have seen the Put with the
+-- dot (s, n)
 abbrev pub site_sum : List Operation → ℕ → List ℕ → List ℕ → ℕ → ℕ → ℕ → ℤ
 site_sum S h k m s n t = sum_upto (λ i. amount h k m s n (at S h t i)) (last S h t)
 
 abbrev pub addition : List Operation → ℕ → List ℕ → List ℕ → ℕ → Option Operation → Option Addition
 addition S h k m s None = None
-addition S h k m s (Some o) = Some (record { n = o.n; score = score_put o.act; sums = by_site (site_sum S h k m s o.n) })
+addition S h k m s (Some o) =
+    Some (record { n = o.n; score = score_put o.act; sums = by_site (site_sum S h k m s o.n) })
 
 -- the live addition of a site on this member
 abbrev pub addition_of : List Operation → ℕ → List ℕ → List ℕ → ℕ → Option Addition
@@ -52,7 +54,9 @@ sum_at a t = slice_index_or a.sums t (pos 0)
 
 -- each site's sum from the side that knows more of the site
 abbrev pub sums_joined : List ℕ → List ℕ → List ℤ → List ℤ → List ℤ
-sums_joined u v a b = by_site (λ t. if nat_lt (slice_index u t) (slice_index v t) then slice_index_or b t (pos 0) else slice_index_or a t (pos 0))
+sums_joined u v a b =
+    by_site (λ t. if nat_lt (slice_index u t) (slice_index v t) then slice_index_or b t
+    (pos 0) else slice_index_or a t (pos 0))
 
 -- an addition that both sides have
 abbrev pub joined : List ℕ → List ℕ → Addition → Addition → Addition
@@ -81,15 +85,20 @@ without seen s (Some a) = unless_known seen s a
 
 -- the addition after the site t's Bump by i that has seen this vector
 abbrev pub bumped : List ℕ → ℕ → ℕ → ℤ → Addition → Addition
-bumped seen s t i a = if has seen s a.n then record { n = a.n; score = a.score; sums = by_site (λ r. if r == t then sum_at a r +ℤ i else sum_at a r) } else a
+bumped seen s t i a =
+    if has seen s a.n then
+    record { n = a.n; score = a.score; sums = by_site (λ r. if r == t then sum_at a r +ℤ i else sum_at a r) } else a
 
 abbrev pub bumped_if : List ℕ → ℕ → ℕ → ℤ → Option Addition → Option Addition
 bumped_if seen s t i None = None
 bumped_if seen s t i (Some a) = Some (bumped seen s t i a)
 
--- what an act with the dot (t, n) that has seen this vector makes of what its member has of the site s
+-- what an act with the dot (t, n) that has seen this vector makes of what its member has of the
+-- site s
 abbrev pub after_act : Act → ℕ → ℕ → List ℕ → ℕ → Option Addition → Option Addition
-after_act (Put score) t n seen s x = if t == s then Some (record { n = n; score = score; sums = by_site (λ _. pos 0) }) else without seen s x
+after_act (Put score) t n seen s x =
+    if t == s then Some (record { n = n; score = score; sums = by_site (λ _. pos 0) }) else without
+    seen s x
 after_act (Bump increment) t n seen s x = bumped_if seen s t increment x
 after_act Drop t n seen s x = without seen s x
 

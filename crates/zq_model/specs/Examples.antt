@@ -1,4 +1,5 @@
--- Some sets of operations, and what a member's score is where they meet. There are two heaps, and two sites, the first and the second, act on members of the key `q`.
+-- Some sets of operations, and what a member's score is where they meet. There are two heaps, and
+-- two sites, the first and the second, act on members of the key `q`.
 
 use Rattle.std.specs.Prelude.{List, None, Option, Some, [], if◌then◌else◌, pos, slice_index, ℕ, ℤ, ◌+◌, ◌++◌, ◌==◌, ◌∷◌, ◌≡◌}
 use Rattle.zq_model.specs.Image.{Image, entry_at, image_of, join}
@@ -40,7 +41,8 @@ far = record { first = 7; second = 63 }
 abbrev pub vector_with : Pair → ℕ → ℕ → List ℕ
 vector_with p i j = by_site (λ t. if t == p.first then i else if t == p.second then j else 0)
 
--- a site's act on a member, which lies in this heap, where the site had seen i dots of the first site and j of the second
+-- a site's act on a member, which lies in this heap, where the site had seen i dots of the first
+-- site and j of the second
 abbrev pub made : Pair → ℕ → List ℕ → ℕ → ℕ → ℕ → Act → Operation
 made p heap member site i j act = record {
   heap = heap;
@@ -89,11 +91,16 @@ put_y p = made p 0 member_y p.first 1 0 (Put (pos 2))
 -- each operation of the examples is what its site makes over what it has
 pub record AreMade (p : Pair) : Type 0 where
   pub put_first : (score : ℤ) → IsAct (Put score) → IsMade HEAPS [] (on_x p p.first 0 0 (Put score))
-  pub put_second : (score : ℤ) → IsAct (Put score) → IsMade HEAPS [] (on_x p p.second 0 0 (Put score))
-  pub first : (act : Act) (score : ℤ) → IsAct act → IsMade HEAPS (shared p score) (on_x p p.first 1 0 act)
-  pub second : (act : Act) (score : ℤ) → IsAct act → IsMade HEAPS (shared p score) (on_x p p.second 1 0 act)
-  pub after_apart : (act : Act) (x y : ℤ) → IsAct act → IsMade HEAPS (put_apart p x y) (on_x p p.first 1 1 act)
-  pub after_both : (act one other : Act) (score : ℤ) → IsAct act → IsMade HEAPS (at_both p one other score) (on_x p p.first 2 1 act)
+  pub put_second : (score : ℤ) → IsAct (Put score) →
+      IsMade HEAPS [] (on_x p p.second 0 0 (Put score))
+  pub first : (act : Act) (score : ℤ) → IsAct act →
+      IsMade HEAPS (shared p score) (on_x p p.first 1 0 act)
+  pub second : (act : Act) (score : ℤ) → IsAct act →
+      IsMade HEAPS (shared p score) (on_x p p.second 1 0 act)
+  pub after_apart : (act : Act) (x y : ℤ) → IsAct act →
+      IsMade HEAPS (put_apart p x y) (on_x p p.first 1 1 act)
+  pub after_both : (act one other : Act) (score : ℤ) → IsAct act →
+      IsMade HEAPS (at_both p one other score) (on_x p p.first 2 1 act)
   pub a_first : IsMade HEAPS [] (put_a p)
   pub y_then : IsMade HEAPS (put_a p ∷ []) (put_y p)
 
@@ -107,14 +114,17 @@ abbrev pub image_score : Rule → Image → List ℕ → List ℕ → Option ℤ
 image_score rule a key member = score_of rule (entry_at a.members (key, member))
 
 -- a site's set is closed and of one world, and gives the member this score, and so does its image
-pub record StandsAt (rule : Rule) (S : List Operation) (heap : ℕ) (key member : List ℕ) (score : Option ℤ) : Type 0 where
+pub record StandsAt (rule : Rule) (S : List Operation) (heap : ℕ) (key member : List ℕ)
+    (score : Option ℤ) : Type 0 where
   pub world : IsWorld HEAPS S
   pub closed : IsClosed S
   pub set : HasScore rule S key member score
   pub image : image_score rule (image_of S heap) key member ≡ score
 
--- two sites' sets are closed and of one world, and give the member this score once they meet: in either order, also where one comes again, by the sets and by the images
-pub record MeetAt (rule : Rule) (S T : List Operation) (heap : ℕ) (key member : List ℕ) (score : Option ℤ) : Type 0 where
+-- two sites' sets are closed and of one world, and give the member this score once they meet: in
+-- either order, also where one comes again, by the sets and by the images
+pub record MeetAt (rule : Rule) (S T : List Operation) (heap : ℕ) (key member : List ℕ)
+    (score : Option ℤ) : Type 0 where
   pub world : IsWorld HEAPS (S ++ T)
   pub first_closed : IsClosed S
   pub second_closed : IsClosed T
@@ -123,4 +133,5 @@ pub record MeetAt (rule : Rule) (S T : List Operation) (heap : ℕ) (key member 
   pub union_again : HasScore rule (T ++ (S ++ T)) key member score
   pub joined : image_score rule (join (image_of S heap) (image_of T heap)) key member ≡ score
   pub joined_turned : image_score rule (join (image_of T heap) (image_of S heap)) key member ≡ score
-  pub joined_again : image_score rule (join (join (image_of S heap) (image_of T heap)) (image_of T heap)) key member ≡ score
+  pub joined_again : image_score rule
+      (join (join (image_of S heap) (image_of T heap)) (image_of T heap)) key member ≡ score

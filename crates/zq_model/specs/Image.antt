@@ -30,7 +30,8 @@ is_bare entry = list_all is_none entry
 abbrev pub unless_bare : Entry → Option Entry
 unless_bare entry = if is_bare entry then None else Some entry
 
-abbrev pub insert_option : {K X : Type 0} {R : K → K → Ordering} → FinMap R X → K → Option X → FinMap R X
+abbrev pub insert_option : {K X : Type 0} {R : K → K → Ordering} → FinMap R X → K → Option X →
+    FinMap R X
 insert_option m q None = m
 insert_option m q (Some x) = insert m q x
 

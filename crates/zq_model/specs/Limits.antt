@@ -2,7 +2,8 @@
 
 use Rattle.std.specs.Prelude.{None, Option, ℕ}
 
--- a tail of so many records is cut to so many of its newest, and to so many bytes of keys and members, where there is such a number
+-- a tail of so many records is cut to so many of its newest, and to so many bytes of keys and
+-- members, where there is such a number
 pub record TailLimits : Type 0 where
   pub long : ℕ
   pub kept : ℕ

@@ -1,4 +1,5 @@
--- What a set of operations means, read off the set: which Puts are live, what each is worth, a member's score, a key's queue.
+-- What a set of operations means, read off the set: which Puts are live, what each is worth, a
+-- member's score, a key's queue.
 
 use Rattle.std.specs.Cmp.Lexicographic.{pointwise, slice_cmp}
 use Rattle.std.specs.Ordering.{then_cmp, int_eq, on, int_cmp, nat_cmp}
@@ -19,12 +20,14 @@ is_of k m o = pointwise nat_eq o.key k && pointwise nat_eq o.member m
 abbrev pub has_seen : Operation → Operation → Bool
 has_seen o p = (o.heap == p.heap) && has o.seen p.site p.n
 
--- p is a Put of the set on the member m of the key k, and no Put or Drop of the set on it has seen p
+-- p is a Put of the set on the member m of the key k, and no Put or Drop of the set on it has seen
+-- p
 pub record IsLive (S : List Operation) (k m : List ℕ) (p : Operation) : Type 0 where
   pub here : IsIn p S
   pub on : is_of k m p ≡ true
   pub put : is_put p.act ≡ true
-  pub kept : (o : Operation) → IsIn o S → is_of k m o ≡ true → is_removal o.act ≡ true → has_seen o p ≡ false
+  pub kept : (o : Operation) → IsIn o S → is_of k m o ≡ true → is_removal o.act ≡ true →
+      has_seen o p ≡ false
 
 abbrev pub is_same_act : Act → Act → Bool
 is_same_act (Put x) (Put y) = int_eq x y
@@ -34,7 +37,10 @@ is_same_act a b = false
 
 abbrev pub is_same : Operation → Operation → Bool
 is_same o p =
-    (o.heap == p.heap) && ((o.site == p.site) && ((o.n == p.n) && (pointwise nat_eq o.seen p.seen && (is_of p.key p.member o && is_same_act o.act p.act))))
+    (o.heap == p.heap) &&
+    ((o.site == p.site) &&
+    ((o.n == p.n) && (pointwise nat_eq o.seen p.seen &&
+    (is_of p.key p.member o && is_same_act o.act p.act))))
 
 -- the set without repeats
 abbrev pub each_once : List Operation → List Operation
@@ -72,17 +78,22 @@ abbrev pub IsRising : List Scored → Type 0
 IsRising [] = Unit {0}
 IsRising (x ∷ q) = ((y : Scored) → IsIn y q → scored_cmp x y ≡ Less) × IsRising q
 
--- q is the key's queue over the heaps named, of K: it has each member of these heaps that has a score, with that score, in order
-pub record IsQueue (rule : Rule) (K : ℕ) (S : List Operation) (key : List ℕ) (heaps : List ℕ) (q : List Scored) : Type 0 where
+-- q is the key's queue over the heaps named, of K: it has each member of these heaps that has a
+-- score, with that score, in order
+pub record IsQueue (rule : Rule) (K : ℕ) (S : List Operation) (key : List ℕ) (heaps : List ℕ)
+    (q : List Scored) : Type 0 where
   pub rising : IsRising q
-  pub members : (x : ℤ) (m : List ℕ) → IsIn (x, m) q ↔ (IsIn (heap_of key m K) heaps × IsScore rule S key m x)
+  pub members : (x : ℤ) (m : List ℕ) → IsIn (x, m) q
+      ↔ (IsIn (heap_of key m K) heaps × IsScore rule S key m x)
 
 -- q is the key's queue over all heaps
-pub record IsWholeQueue (rule : Rule) (S : List Operation) (key : List ℕ) (q : List Scored) : Type 0 where
-  pub rising : IsRising q
-  pub members : (x : ℤ) (m : List ℕ) → IsIn (x, m) q ↔ IsScore rule S key m x
+pub record IsWholeQueue (rule : Rule) (S : List Operation) (key : List ℕ) (q : List Scored) : Type 0
+  where
+    pub rising : IsRising q
+    pub members : (x : ℤ) (m : List ℕ) → IsIn (x, m) q ↔ IsScore rule S key m x
 
--- v has, for each site, the greatest counter of its operations in the heap, and 0 where there is none
+-- v has, for each site, the greatest counter of its operations in the heap, and 0 where there is
+-- none
 pub record IsVectorOf (S : List Operation) (heap : ℕ) (v : List ℕ) : Type 0 where
   pub wide : length v ≡ SITES
   pub above : (o : Operation) → IsIn o S → o.heap ≡ heap → o.n ≤ slice_index v o.site

@@ -1,4 +1,5 @@
--- Moves, and what they make of queues. A queue is a list of members with their scores, by score and then by bytes.
+-- Moves, and what they make of queues. A queue is a list of members with their scores, by score and
+-- then by bytes.
 
 use Rattle.std.specs.BTreeSet.{insert_key}
 use Rattle.std.specs.Cmp.Lexicographic.{pointwise}
@@ -45,7 +46,8 @@ after_act Drop queue member = without queue member
 
 -- the queues after a move: its key's is changed, and no other
 abbrev pub after : Move → Queues → Queues
-after move queues = λ key. if pointwise nat_eq move.key key then after_act move.act (queues key) move.member else queues key
+after move queues = λ key. if pointwise nat_eq move.key key then after_act move.act
+    (queues key) move.member else queues key
 
 abbrev pub after_all : List Move → Queues → Queues
 after_all [] queues = queues

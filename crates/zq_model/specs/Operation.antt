@@ -9,7 +9,8 @@ pub data Act : Type 0 where
   Bump : (increment : ℤ) → Act
   Drop : Act
 
--- an operation: its heap, its dot (site, n), what its site had seen, and the act on a member of a key
+-- an operation: its heap, its dot (site, n), what its site had seen, and the act on a member of a
+-- key
 pub record Operation : Type 0 where
   pub heap : ℕ
   pub site : ℕ

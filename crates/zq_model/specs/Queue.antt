@@ -10,7 +10,8 @@ use Rattle.zq_model.specs.Score.{score_of}
 
 abbrev pub scored_at : Rule → List ℕ → Members → Place → Option Scored
 scored_at rule key members q =
-    if pointwise nat_eq q.0 key then option_map (λ x. (x, q.1)) (score_of rule (entry_at members q)) else None
+    if pointwise nat_eq q.0 key then option_map (λ x. (x, q.1))
+    (score_of rule (entry_at members q)) else None
 
 abbrev pub scored_of : Rule → List ℕ → Members → List Scored
 scored_of rule key members = filter_map (scored_at rule key members) (keys members)

@@ -18,12 +18,15 @@ abbrev pub IsHeavy : Option ℕ → List Record → Type 0
 IsHeavy None tail = ⊥
 IsHeavy (Some most) tail = most < bytes_in tail
 
--- records may have been cut off before this tail: none were, or as many as a cut leaves are left, or all together had more bytes than a tail keeps
+-- records may have been cut off before this tail: none were, or as many as a cut leaves are left,
+-- or all together had more bytes than a tail keeps
 abbrev pub IsCutOff : TailLimits → List Record → List Record → Type 0
-IsCutOff limits cut tail = (cut ≡ []) ⊎ ((limits.kept ≤ length tail) ⊎ IsHeavy limits.bytes (cut ++ tail))
+IsCutOff limits cut tail = (cut ≡ [])
+    ⊎ ((limits.kept ≤ length tail) ⊎ IsHeavy limits.bytes (cut ++ tail))
 
--- these steps lead from a to b: their stamps are above a's and none is above b's, each counts one, and b's tail is a's with them, or what follows the
--- last merge, of which the oldest may have been cut off
+-- these steps lead from a to b: their stamps are above a's and none is above b's, each counts one,
+-- and b's tail is a's with them, or what follows the last merge, of which the oldest may have been
+-- cut off
 pub record IsReachedBy (b a : Book) (steps : List Step) : Type 0 where
   pub heap : b.heap ≡ a.heap
   pub heaps : b.heaps ≡ a.heaps
@@ -49,22 +52,26 @@ cut_by_length limits n = if nat_le limits.long n then n - limits.kept else 0
 -- how many of the oldest go, so that the rest has at most so many bytes
 abbrev pub cut_to_bytes : ℕ → List Record → ℕ
 cut_to_bytes most [] = 0
-cut_to_bytes most (r ∷ tail) = if nat_le (bytes_in (r ∷ tail)) most then 0 else suc (cut_to_bytes most tail)
+cut_to_bytes most (r ∷ tail) =
+    if nat_le (bytes_in (r ∷ tail)) most then 0 else suc (cut_to_bytes most tail)
 
 abbrev pub cut_by_bytes : Option ℕ → List Record → ℕ
 cut_by_bytes None tail = 0
 cut_by_bytes (Some most) tail = cut_to_bytes most tail
 
--- how many of the oldest may go: of a tail's n, before which the book had others by its count, those that were handed on
+-- how many of the oldest may go: of a tail's n, before which the book had others by its count,
+-- those that were handed on
 abbrev pub cut_at_most : Option ℕ → ℕ → ℕ → ℕ
 cut_at_most None count n = n
 cut_at_most (Some handed) count n = handed - (count - n)
 
 -- how many of the oldest records are cut off a book's tail
 abbrev pub cut_of : Book → ℕ
-cut_of b = min (cut_at_most b.handed b.count (length b.tail)) (max (cut_by_length b.limits (length b.tail)) (cut_by_bytes b.limits.bytes b.tail))
+cut_of b = min (cut_at_most b.handed b.count (length b.tail))
+    (max (cut_by_length b.limits (length b.tail)) (cut_by_bytes b.limits.bytes b.tail))
 
--- the book as a call of this stamp begins with it: the oldest records are cut off the tail where it is too long, and the stamp is the call's
+-- the book as a call of this stamp begins with it: the oldest records are cut off the tail where it
+-- is too long, and the stamp is the call's
 abbrev pub begun : ℕ → Book → Book
 begun stamp a = touched (advanced (cut_of a) a) stamp
 

@@ -10,8 +10,10 @@ is_before p q = is_lt (scored_cmp p q)
 
 -- the number of pairs before the member's
 abbrev pub rank_in : Queue → List ℕ → Option ℕ
-rank_in queue member = option_map (λ score. count_by (λ p. is_before p (score, member)) queue) (score_in queue member)
+rank_in queue member = option_map (λ score. count_by (λ p. is_before p (score, member)) queue)
+    (score_in queue member)
 
 -- the number of pairs after it
 abbrev pub turned_rank_in : Queue → List ℕ → Option ℕ
-turned_rank_in queue member = option_map (λ score. count_by (λ p. is_before (score, member) p) queue) (score_in queue member)
+turned_rank_in queue member =
+    option_map (λ score. count_by (λ p. is_before (score, member) p) queue) (score_in queue member)

@@ -52,7 +52,8 @@ image_of_rows vector rows = record { vector = vector; members = from_entries (ma
 
 -- each entry has a place for each site, and an addition
 abbrev pub AreEntries : Members → Type 0
-AreEntries members = (k m : List ℕ) (e : Entry) → get members (k, m) ≡ Some e → (length e ≡ SITES) × (is_bare e ≡ false)
+AreEntries members = (k m : List ℕ) (e : Entry) → get members (k, m) ≡ Some e → (length e ≡ SITES)
+    × (is_bare e ≡ false)
 
 -- each row's key and member are below those of all that follow it
 abbrev pub AreInOrder : List Row → Type 0

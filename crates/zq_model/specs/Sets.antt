@@ -31,7 +31,8 @@ pub record IsCounters (v : List ℕ) : Type 0 where
 abbrev pub IsHeaps : ℕ → Type 0
 IsHeaps K = (1 ≤ K) × (K ≤ 16)
 
--- an operation among K heaps: it lies where its member's hash says, its number is the next of its site after those that it has seen, and what it puts or adds is in range
+-- an operation among K heaps: it lies where its member's hash says, its number is the next of its
+-- site after those that it has seen, and what it puts or adds is in range
 pub record IsOperation (K : ℕ) (o : Operation) : Type 0 where
   pub heaps : IsHeaps K
   pub act : IsAct o.act
@@ -44,7 +45,8 @@ pub record IsOperation (K : ℕ) (o : Operation) : Type 0 where
 -- operations of one number of heaps, no two of them with the same heap and dot
 pub record IsWorld (K : ℕ) (S : List Operation) : Type 0 where
   pub each : (o : Operation) → IsIn o S → IsOperation K o
-  pub one : (o p : Operation) → IsIn o S → IsIn p S → o.heap ≡ p.heap → o.site ≡ p.site → o.n ≡ p.n → o ≡ p
+  pub one : (o p : Operation) → IsIn o S → IsIn p S → o.heap ≡ p.heap → o.site ≡ p.site →
+      o.n ≡ p.n → o ≡ p
 
 -- with an operation the set has one for each dot that it has seen, in its heap
 pub record IsClosed (S : List Operation) : Type 0 where

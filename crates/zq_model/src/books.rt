@@ -10,20 +10,28 @@ ghost use Rattle.zq_model.specs.Tail.{AreNew, image_after_all, lacking, tail_set
 /// What each call of a book keeps.
 pub fn keeping()
     ensures touch { (b : Book) (stamp : ℕ) → b.stamp ≤ stamp → IsBook b → IsBook (touched b stamp) }
-    ensures recording { (b : Book) (stamp : ℕ) (c : Change) → b.stamp ≤ stamp → is_change_over b.heaps b.heap b.state.vector c ≡ true → IsBook b → IsBook (recorded b stamp c) }
+    ensures recording { (b : Book) (stamp : ℕ) (c : Change) → b.stamp ≤ stamp →
+        is_change_over b.heaps b.heap b.state.vector c ≡ true → IsBook b →
+        IsBook (recorded b stamp c) }
     ensures merge { (b : Book) (stamp : ℕ) (other : Image) → IsBook (merged b stamp other) }
     ensures advance { (n : ℕ) (b : Book) → IsBook b → IsBook (advanced n b) }
 {}
 
-/// Where a book's base is the image of a closed set of a world, its state is the image of that set with the operations of its tail.
-/// A peer of the same world whose vector covers the base's lacks nothing but operations of the tail: those that it lacks, taken in
-/// the tail's order, are each new to it where they come, and they give what merging the whole state gives.
+/// Where a book's base is the image of a closed set of a world, its state is the image of that set
+/// with the operations of its tail. A peer of the same world whose vector covers the base's lacks
+/// nothing but operations of the tail: those that it lacks, taken in the tail's order, are each new
+/// to it where they come, and they give what merging the whole state gives.
 pub fn telling()
-    ensures state { (K : ℕ) (b : Book) (S : List Operation) → IsBook b → IsWorld K (tail_set S (operations_of b.tail)) → IsClosed S → b.base ≡ image_of S b.heap →
+    ensures state { (K : ℕ) (b : Book) (S : List Operation) → IsBook b →
+        IsWorld K (tail_set S (operations_of b.tail)) → IsClosed S → b.base ≡ image_of S b.heap →
         b.state ≡ image_of (tail_set S (operations_of b.tail)) b.heap }
-    ensures new { (K : ℕ) (b : Book) (S T : List Operation) → IsBook b → IsWorld K (tail_set S (operations_of b.tail) ++ T) → IsClosed S → IsClosed T →
-        b.base ≡ image_of S b.heap → covers (vector_of T b.heap) b.base.vector ≡ true → AreNew (lacking (vector_of T b.heap) (operations_of b.tail)) (image_of T b.heap) }
-    ensures merges { (K : ℕ) (b : Book) (S T : List Operation) → IsBook b → IsWorld K (tail_set S (operations_of b.tail) ++ T) → IsClosed S → IsClosed T →
+    ensures new { (K : ℕ) (b : Book) (S T : List Operation) → IsBook b →
+        IsWorld K (tail_set S (operations_of b.tail) ++ T) → IsClosed S → IsClosed T →
         b.base ≡ image_of S b.heap → covers (vector_of T b.heap) b.base.vector ≡ true →
-        image_after_all (lacking (vector_of T b.heap) (operations_of b.tail)) (image_of T b.heap) ≡ join (image_of T b.heap) b.state }
+        AreNew (lacking (vector_of T b.heap) (operations_of b.tail)) (image_of T b.heap) }
+    ensures merges { (K : ℕ) (b : Book) (S T : List Operation) → IsBook b →
+        IsWorld K (tail_set S (operations_of b.tail) ++ T) → IsClosed S → IsClosed T →
+        b.base ≡ image_of S b.heap → covers (vector_of T b.heap) b.base.vector ≡ true →
+        image_after_all (lacking (vector_of T b.heap) (operations_of b.tail)) (image_of T b.heap)
+        ≡ join (image_of T b.heap) b.state }
 {}

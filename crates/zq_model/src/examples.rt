@@ -20,8 +20,9 @@ pub fn bumps_add_up()
     ensures least { Holds Least bumps }
 {}
 
-/// Two sites share x at 3. The second puts it at 2, or at 4. That is where x is at both after they meet, whichever score
-/// the rule prefers: a Put takes away what its site had seen, also Puts of other sites.
+/// Two sites share x at 3. The second puts it at 2, or at 4. That is where x is at both after they
+/// meet, whichever score the rule prefers: a Put takes away what its site had seen, also Puts of
+/// other sites.
 pub fn a_put_replaces_what_it_had_seen()
     ensures greatest { Holds Greatest second_puts }
     ensures least { Holds Least second_puts }
@@ -33,39 +34,48 @@ pub fn a_drop_takes_what_it_had_seen()
     ensures least { Holds Least second_drops }
 {}
 
-/// Two sites share x at 3. One drops it, the other puts it at 4. The Put, which the Drop had not seen, stands after they meet.
+/// Two sites share x at 3. One drops it, the other puts it at 4. The Put, which the Drop had not
+/// seen, stands after they meet.
 pub fn drop_spares_an_unseen_put()
     ensures greatest { Holds Greatest drop_and_put }
     ensures least { Holds Least drop_and_put }
 {}
 
-/// Two sites share x at 3. One drops it, the other adds 7. The Bump goes with the Put that it added to.
+/// Two sites share x at 3. One drops it, the other adds 7. The Bump goes with the Put that it added
+/// to.
 pub fn drop_takes_a_bump_along()
     ensures greatest { Holds Greatest drop_and_bump }
     ensures least { Holds Least drop_and_bump }
 {}
 
-/// Two sites put x apart, at 5 and at 9. After they meet the rule says which of the two counts: 9 by the greatest, 5 by the
-/// least. One of them then adds -6 to both Puts, and after they meet again x is at 3, or at -1.
+/// Two sites put x apart, at 5 and at 9. After they meet the rule says which of the two counts: 9
+/// by the greatest, 5 by the least. One of them then adds -6 to both Puts, and after they meet
+/// again x is at 3, or at -1.
 pub fn the_rule_chooses_between_puts()
     ensures greatest { Holds Greatest (puts_apart (pos 9) (pos 3)) }
     ensures least { Holds Least (puts_apart (pos 5) (neg_ℤ (pos 1))) }
 {}
 
-/// One site puts a and then y. A site that has nothing is handed y's Put too early, then a's, then y's again, and has both. Where it merges the image first, it knows both.
+/// One site puts a and then y. A site that has nothing is handed y's Put too early, then a's, then
+/// y's again, and has both. Where it merges the image first, it knows both.
 pub fn operations_come_in_turn()
     ensures early { taken_of (vector_of [] 0) (put_y near) ≡ Early }
     ensures new { taken_of (vector_of [] 0) (put_a near) ≡ New }
     ensures new_then { taken_of (vector_of (put_a near ∷ []) 0) (put_y near) ≡ New }
-    ensures known { taken_of (join (image_of [] 0) (image_of (put_y near ∷ put_a near ∷ []) 0)).vector (put_a near) ≡ Known }
-    ensures known_then { taken_of (join (image_of [] 0) (image_of (put_y near ∷ put_a near ∷ []) 0)).vector (put_y near) ≡ Known }
+    ensures known { taken_of
+        (join (image_of [] 0) (image_of (put_y near ∷ put_a near ∷ []) 0)).vector (put_a near)
+        ≡ Known }
+    ensures known_then { taken_of
+        (join (image_of [] 0) (image_of (put_y near ∷ put_a near ∷ []) 0)).vector (put_y near)
+        ≡ Known }
     ensures far_early { taken_of (vector_of [] 0) (put_y far) ≡ Early }
     ensures far_new_then { taken_of (vector_of (put_a far ∷ []) 0) (put_y far) ≡ New }
     ensures greatest { AreInTurn Greatest near }
     ensures least { AreInTurn Least far }
 {}
 
-/// Two sites share x at 0, and each adds the greatest increment. After they meet x is at twice the greatest score, and one of them can take half of it back.
+/// Two sites share x at 0, and each adds the greatest increment. After they meet x is at twice the
+/// greatest score, and one of them can take half of it back.
 pub fn sums_pass_the_greatest_score()
     ensures greatest { Holds Greatest greatest_bumps }
     ensures least { Holds Least greatest_bumps }

@@ -1,9 +1,11 @@
-//! The model of the replicated queue: sets of operations, what a set means, the images that replicas keep with their rows
-//! and their bounds, and the join of images. The history of a book of operations: what records and merges make of its base,
-//! what undoing them gives back, and when one book is reached from another. The queues of a site over the books of its
-//! heaps: what moves make of them, how they are read, and what they mean.
+//! The model of the replicated queue: sets of operations, what a set means, the images that
+//! replicas keep with their rows and their bounds, and the join of images. The history of a book of
+//! operations: what records and merges make of its base, what undoing them gives back, and when one
+//! book is reached from another. The queues of a site over the books of its heaps: what moves make
+//! of them, how they are read, and what they mean.
 //!
-//! The definitions are in `specs/`. Each law of them is the contract of a public function with an empty body.
+//! The definitions are in `specs/`. Each law of them is the contract of a public function with an
+//! empty body.
 #![tactic(auto)]
 
 mod books;

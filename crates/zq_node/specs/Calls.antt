@@ -16,7 +16,8 @@ use Rattle.zq_spread.specs.Worn.{IsWornIn}
 use Rattle.zq_spread.specs.declared.pass.Pass.{Pass}
 use Rattle.zq_spread.specs.declared.site.Site.{Site}
 
--- a call that the site answered: it took an operation, merged a heap, showed the vector of a heap, said what a peer of a vector lacks, or copied a heap
+-- a call that the site answered: it took an operation, merged a heap, showed the vector of a heap,
+-- said what a peer of a vector lacks, or copied a heap
 pub data Call : Type 0 where
   Took : (op : Placed) (answer : Taken) → Call
   Merged : (shard : HeapImage) → Call
@@ -26,25 +27,34 @@ pub data Call : Type 0 where
 
 -- the pass made this call of the site, and it was answered so
 abbrev pub IsCalled : Site → Pass → Pass → Call → Type 0
-IsCalled site before after (Took op answer) = IsOfSite site op × IsCall (IsTaken after.stamp op (Ok answer)) before after (op.operation.heap ∷ [])
-IsCalled site before after (Merged shard) = IsLikeSite site shard × IsCall (IsMerged after.stamp shard (Ok tt)) before after (shard.heap ∷ [])
+IsCalled site before after (Took op answer) = IsOfSite site op
+    × IsCall (IsTaken after.stamp op (Ok answer)) before after (op.operation.heap ∷ [])
+IsCalled site before after (Merged shard) = IsLikeSite site shard
+    × IsCall (IsMerged after.stamp shard (Ok tt)) before after (shard.heap ∷ [])
 IsCalled site before after (Saw heap vector) = IsCall (IsShown vector) before after (heap ∷ [])
-IsCalled site before after (Asked heap vector answer) = IsCall (IsAsked (Ok answer)) before after (heap ∷ []) × HasSeenBook after heap (IsSince vector answer)
-IsCalled site before after (Copied heap shard) = IsCall (IsCopied (Ok shard)) before after (heap ∷ [])
+IsCalled site before after (Asked heap vector answer) =
+    IsCall (IsAsked (Ok answer)) before after (heap ∷ [])
+    × HasSeenBook after heap (IsSince vector answer)
+IsCalled site before after (Copied heap shard) =
+    IsCall (IsCopied (Ok shard)) before after (heap ∷ [])
 
 -- the site had no memory to take the operation, which was New to it
 abbrev pub HadNoRoom : Site → Pass → Pass → Placed → Type 0
-HadNoRoom site before after op = IsOfSite site op × IsCall (IsTaken after.stamp op (Err unheld.NoMemory)) before after (op.operation.heap ∷ [])
+HadNoRoom site before after op = IsOfSite site op
+    × IsCall (IsTaken after.stamp op (Err unheld.NoMemory)) before after (op.operation.heap ∷ [])
 
--- the site found a last value as it was handed the operation: that of its lock or of the stamp; or that of its count, where the operation was New to it
+-- the site found a last value as it was handed the operation: that of its lock or of the stamp; or
+-- that of its count, where the operation was New to it
 abbrev pub WasAtLast : Site → Pass → Pass → Placed → Type 0
 WasAtLast site before after op =
-    IsOfSite site op × (IsCall (IsTaken after.stamp op (Err unheld.Worn)) before after (op.operation.heap ∷ []) ⊎ IsWornIn (op.operation.heap ∷ []) before after)
+    IsOfSite site op × (IsCall (IsTaken after.stamp op (Err unheld.Worn)) before after
+    (op.operation.heap ∷ []) ⊎ IsWornIn (op.operation.heap ∷ []) before after)
 
 -- the pass made these calls, one after the other, and no others
 abbrev pub AreCalled : Site → Pass → Pass → List Call → Type 0
 AreCalled site before after [] = after ≡ before
-AreCalled site before after (c ∷ calls) = (next : Pass) × IsCalled site before next c × AreCalled site next after calls
+AreCalled site before after (c ∷ calls) = (next : Pass) × IsCalled site before next c
+    × AreCalled site next after calls
 
 -- by one of these calls the operation was taken, or it was known
 abbrev pub WasTaken : List Call → Placed → Type 0
@@ -56,8 +66,10 @@ MadeNoStep before after = (h : ℕ) → steps_at after h ≡ steps_at before h
 
 -- the operation is in the vector that the pass has seen of its heap
 abbrev pub IsKnownTo : Pass → Placed → Type 0
-IsKnownTo pass o = HasSeenBook pass o.operation.heap (λ b. has b.state.vector o.operation.site o.operation.n ≡ true)
+IsKnownTo pass o = HasSeenBook pass o.operation.heap
+    (λ b. has b.state.vector o.operation.site o.operation.n ≡ true)
 
 -- the operation is Early by what the pass has seen of its heap
 abbrev pub IsEarlyTo : Pass → Placed → Type 0
-IsEarlyTo pass o = HasSeenBook pass o.operation.heap (λ b. sets.taken_of b.state.vector o.operation ≡ sets.Early)
+IsEarlyTo pass o = HasSeenBook pass o.operation.heap
+    (λ b. sets.taken_of b.state.vector o.operation ≡ sets.Early)

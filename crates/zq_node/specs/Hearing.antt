@@ -47,16 +47,16 @@ IsOfOneHeap (heard.Have h) = Unit {0}
 IsOfOneHeap (heard.Ops ops) = ⊥
 IsOfOneHeap (heard.State s) = Unit {0}
 
--- why a frame of one heap is refused: WrongHeap where it is not for the site, WrongRule where it is and its rule is another;
--- else it is the site's own fault
+-- why a frame of one heap is refused: WrongHeap where it is not for the site, WrongRule where it is
+-- and its rule is another; else it is the site's own fault
 abbrev pub IsRefusedFor : Site → code.Frame → NodeFault → Type 0
 IsRefusedFor site frame fault.WrongHeap = IsForSite site frame → ⊥
 IsRefusedFor site frame fault.WrongRule = IsForSite site frame × (HasSiteRule site frame → ⊥)
 IsRefusedFor site frame fault.Worn = IsForSite site frame × HasSiteRule site frame
 IsRefusedFor site frame fault.NoMemory = IsForSite site frame × HasSiteRule site frame
 
--- why operations are heard no further, by the one whose turn it is: WrongHeap where that is not the site's, and else the
--- site's own fault; and so it is after the last one
+-- why operations are heard no further, by the one whose turn it is: WrongHeap where that is not the
+-- site's, and else the site's own fault; and so it is after the last one
 abbrev pub IsStopOf : Site → Option Placed → NodeFault → Type 0
 IsStopOf site None why = IsOwnFault why
 IsStopOf site (Some o) fault.WrongHeap = IsOfSite site o → ⊥
@@ -80,7 +80,8 @@ IsFaultOf site (heard.State s) why = IsRefusedFor site (heard.State s) why
 -- why a heap of this number, among so many, with this rule is refused
 abbrev pub IsNotFor : Site → ℕ → ℕ → Rule → NodeFault → Type 0
 IsNotFor site heap heaps rule fault.WrongHeap = IsHeapOf site heap heaps → ⊥
-IsNotFor site heap heaps rule fault.WrongRule = IsHeapOf site heap heaps × (rule ≢ rule_of site.rule)
+IsNotFor site heap heaps rule fault.WrongRule = IsHeapOf site heap heaps
+    × (rule ≢ rule_of site.rule)
 IsNotFor site heap heaps rule fault.Worn = ⊥
 IsNotFor site heap heaps rule fault.NoMemory = ⊥
 
@@ -88,28 +89,35 @@ IsNotFor site heap heaps rule fault.NoMemory = ⊥
 
 -- by the site's answer to what a peer lacks: these operations, or the whole heap
 abbrev pub IsSince : Site → Pass → Pass → ℕ → Since → Frame → Type 0
-IsSince site before after heap (Ops ops) frame = (after ≡ before) × (frame ≡ OfOps (take MOST_TOLD ops.items))
-IsSince site before after heap TooOld frame = (shard : HeapImage) × IsCalled site before after (Copied heap shard) × (frame ≡ OfState shard)
+IsSince site before after heap (Ops ops) frame = (after ≡ before)
+    × (frame ≡ OfOps (take MOST_TOLD ops.items))
+IsSince site before after heap TooOld frame = (shard : HeapImage)
+    × IsCalled site before after (Copied heap shard) × (frame ≡ OfState shard)
 
 -- the site was asked what a peer of this vector lacks of the heap, and this frame tells it
-pub record IsTold (site : Site) (before after : Pass) (heap : ℕ) (theirs : List ℕ) (frame : Frame) : Type 0 where
+pub record IsTold (site : Site) (before after : Pass) (heap : ℕ) (theirs : List ℕ)
+    (frame : Frame) : Type 0 where
   pub answer : Since
   pub asked : Pass
   pub called : IsCalled site before asked (Asked heap theirs answer)
   pub told : IsSince site asked after heap answer frame
 
--- a peer that has all of the vector is told nothing, and the site is not asked; another is told what it lacks
+-- a peer that has all of the vector is told nothing, and the site is not asked; another is told
+-- what it lacks
 abbrev pub IsToldOf : Site → Pass → Pass → ℕ → List ℕ → List ℕ → Option Frame → Type 0
 IsToldOf site before after heap theirs vector told =
-    MatchBool (covers theirs vector) ((after ≡ before) × (told ≡ None)) ((frame : Frame) × (told ≡ Some frame) × IsTold site before after heap theirs frame)
+    MatchBool (covers theirs vector) ((after ≡ before) × (told ≡ None))
+    ((frame : Frame) × (told ≡ Some frame) × IsTold site before after heap theirs frame)
 
 -- what the site has of one of its heaps
 abbrev pub have_at : Site → ℕ → List ℕ → Have
-have_at site heap vector = record { from = site.number; heap = heap; heaps = heaps_of site; rule = rule_of site.rule; vector = vector }
+have_at site heap vector =
+    record { from = site.number; heap = heap; heaps = heaps_of site; rule = rule_of site.rule; vector = vector }
 
 -- which is sent where it lacks something that the peer has
 abbrev pub own_have : Site → ℕ → List ℕ → List ℕ → Option Frame
-own_have site heap theirs vector = if covers vector theirs then None else Some (OfHave (have_at site heap vector))
+own_have site heap theirs vector =
+    if covers vector theirs then None else Some (OfHave (have_at site heap vector))
 
 -- the frames, each to this site
 abbrev pub sent_to : ℕ → List Frame → List (ℕ × Frame)
@@ -119,18 +127,20 @@ sent_to to frames = map (λ f. (to, f)) frames
 abbrev pub sent_of : List (ℕ × code.Frame) → List (ℕ × Frame)
 sent_of sent = map (λ s. (s.0, frame_of s.1)) sent
 
--- the site showed its vector of the heap; then the peer is told what it lacks of that, and after it the site's vector where it lacks some of the peer's, and nothing else
--- is sent
-pub record IsHaveHeard (site : Site) (h : Have) (before after : Pass) (sent : List (ℕ × Frame)) : Type 0 where
+-- the site showed its vector of the heap; then the peer is told what it lacks of that, and after it
+-- the site's vector where it lacks some of the peer's, and nothing else is sent
+pub record IsHaveHeard (site : Site) (h : Have) (before after : Pass)
+    (sent : List (ℕ × Frame)) : Type 0 where
   pub vector : List ℕ
   pub shown : Pass
   pub saw : IsCalled site before shown (Saw h.heap vector)
   pub told : Option Frame
   pub told_is : IsToldOf site shown after h.heap h.vector vector told
-  pub sent_is : sent ≡ sent_to h.from (option_to_list told ++ option_to_list (own_have site h.heap h.vector vector))
+  pub sent_is : sent ≡ sent_to h.from
+      (option_to_list told ++ option_to_list (own_have site h.heap h.vector vector))
 
--- the node was handed these operations in turn, and then tried all that is parked: each of them is known, parked or dropped,
--- and those that are parked wait
+-- the node was handed these operations in turn, and then tried all that is parked: each of them is
+-- known, parked or dropped, and those that are parked wait
 pub record AreOpsHeard (ops : List Placed) (old new : Node) : Type 0 where
   pub work : HasWorked ops old new
   pub heard : Node
@@ -139,7 +149,8 @@ pub record AreOpsHeard (ops : List Placed) (old new : Node) : Type 0 where
   pub each : (o : Placed) → IsIn o ops → IsHeard ops old new o
   pub wait : AllWait new
 
--- the heap was merged, so that the vector that the pass has seen covers its, and those that are parked wait
+-- the heap was merged, so that the vector that the pass has seen covers its, and those that are
+-- parked wait
 pub record IsStateHeard (s : HeapImage) (old new : Node) : Type 0 where
   pub merged : Pass
   pub called : IsCalled (site_of old) (pass_of old) merged (Merged s)
@@ -149,7 +160,8 @@ pub record IsStateHeard (s : HeapImage) (old new : Node) : Type 0 where
 
 -- what hearing the frame does where it is heard to its end, and what is sent
 abbrev pub HasHeard : code.Frame → Node → Node → List (ℕ × Frame) → Type 0
-HasHeard (heard.Have h) old new sent = (parked_of new ≡ parked_of old) × IsHaveHeard (site_of old) (have_of h) (pass_of old) (pass_of new) sent
+HasHeard (heard.Have h) old new sent = (parked_of new ≡ parked_of old)
+    × IsHaveHeard (site_of old) (have_of h) (pass_of old) (pass_of new) sent
 HasHeard (heard.Ops ops) old new sent = (sent ≡ []) × AreOpsHeard ops.items old new
 HasHeard (heard.State s) old new sent = (sent ≡ []) × IsStateHeard s old new
 
@@ -158,10 +170,12 @@ abbrev pub IsStateStopped : HeapImage → Node → Node → Type 0
 IsStateStopped s old new =
     ((parked_of new ≡ parked_of old) × MadeNoStep (pass_of old) (pass_of new)) ⊎
     ((merged : Pass) × IsCalled (site_of old) (pass_of old) merged (Merged s) ×
-    ((mid : Pass) × IsWork (site_of old) [] (parked_of old) (parked_of new) merged mid × MadeNoStep mid (pass_of new)))
+    ((mid : Pass) × IsWork (site_of old) [] (parked_of old) (parked_of new) merged mid
+    × MadeNoStep mid (pass_of new)))
 
--- the node was handed these operations in turn as far as the one at which it stopped, or it stopped after the last one: what
--- was taken or parked before stays, and one that is not the site's changes nothing
+-- the node was handed these operations in turn as far as the one at which it stopped, or it stopped
+-- after the last one: what was taken or parked before stays, and one that is not the site's changes
+-- nothing
 pub record AreOpsStopped (ops : List Placed) (old new : Node) (why : NodeFault) : Type 0 where
   pub place : StopsAt (site_of old) ops why
   pub heard : Node
@@ -173,7 +187,8 @@ pub record AreOpsStopped (ops : List Placed) (old new : Node) (why : NodeFault) 
 
 -- what stands where it is not heard to its end
 abbrev pub HasStopped : code.Frame → Node → Node → NodeFault → Type 0
-HasStopped (heard.Have h) old new why = (parked_of new ≡ parked_of old) × MadeNoStep (pass_of old) (pass_of new)
+HasStopped (heard.Have h) old new why = (parked_of new ≡ parked_of old)
+    × MadeNoStep (pass_of old) (pass_of new)
 HasStopped (heard.Ops ops) old new why = AreOpsStopped ops.items old new why
 HasStopped (heard.State s) old new why = IsStateStopped s old new
 
@@ -186,9 +201,11 @@ shown_from h (vector ∷ vectors) = Saw h vector ∷ shown_from (h + 1) vectors
 
 abbrev pub haves_from : Site → ℕ → List (List ℕ) → List Frame
 haves_from site h [] = []
-haves_from site h (vector ∷ vectors) = OfHave (have_at site h vector) ∷ haves_from site (h + 1) vectors
+haves_from site h (vector ∷ vectors) = OfHave (have_at site h vector)
+    ∷ haves_from site (h + 1) vectors
 
--- the site showed the vector of each of its heaps, in rising order, and these frames say what it has there
+-- the site showed the vector of each of its heaps, in rising order, and these frames say what it
+-- has there
 pub record AreHaves (site : Site) (before after : Pass) (frames : List Frame) : Type 0 where
   pub vectors : List (List ℕ)
   pub each : length vectors ≡ heaps_of site

@@ -32,7 +32,8 @@ pub record IsHome (home : Home) : Type 0 where
 pub record IsNode (node : Node) : Type 0 where
   pub home : IsHome node.home
   pub pass : IsPassOf (site_of node) (pass_of node)
-  pub parked : (o : Placed) → IsParked (parked_of node) o → IsOfSite (site_of node) o × (o.operation.heap < heaps_of (site_of node))
+  pub parked : (o : Placed) → IsParked (parked_of node) o → IsOfSite (site_of node) o
+      × (o.operation.heap < heaps_of (site_of node))
 
 -- it is the node of the same site
 abbrev pub IsSameHome : Node → Node → Type 0

@@ -37,7 +37,8 @@ HasPlaceOf parked o = (p : Placed) × IsParked parked p × (place_of p ≡ place
 
 -- at this place there is what is given, and elsewhere what there was
 abbrev pub IsUpdated : Entries → Entries → Place → Option Placed → Type 0
-IsUpdated old new p what = (q : Place) → parked_at new q ≡ cond (is_at (place_cmp p) q) what (parked_at old q)
+IsUpdated old new p what = (q : Place) →
+    parked_at new q ≡ cond (is_at (place_cmp p) q) what (parked_at old q)
 
 -- each operation lies at its place, and its numbers are in range
 abbrev pub ArePlaced : Entries → Type 0
@@ -46,17 +47,20 @@ ArePlaced parked = (q : Place) → IfSome (parked_at parked q) (λ o. (place_of 
 -- an operation of this heap is parked there that is not Early by this vector
 abbrev pub IsReadyAt : Entries → ℕ → List ℕ → Place → Type 0
 IsReadyAt parked heap vector p =
-    (o : Placed) × (parked_at parked p ≡ Some o) × (o.operation.heap ≡ heap) × (taken_of vector o.operation ≢ Early)
+    (o : Placed) × (parked_at parked p ≡ Some o) × (o.operation.heap ≡ heap)
+    × (taken_of vector o.operation ≢ Early)
 
 -- what is parked of this heap and this site is Early by this vector
 abbrev pub IsSiteEarly : Entries → ℕ → List ℕ → ℕ → Type 0
 IsSiteEarly parked heap vector site =
-    (o : Placed) → IsParked parked o → o.operation.heap ≡ heap → o.operation.site ≡ site → taken_of vector o.operation ≡ Early
+    (o : Placed) → IsParked parked o → o.operation.heap ≡ heap → o.operation.site ≡ site →
+    taken_of vector o.operation ≡ Early
 
--- an operation is put away: where one of its heap and dot is parked, or as many as may be are, nothing changes, and else it
--- is parked
+-- an operation is put away: where one of its heap and dot is parked, or as many as may be are,
+-- nothing changes, and else it is parked
 abbrev pub IsPutAway : Placed → Entries → Entries → Type 0
 IsPutAway o old new =
     (HasPlaceOf old o × (new ≡ old))
     ⊎ ((HasPlaceOf old o → ⊥) × (MOST_PARKED ≤ length old) × (new ≡ old))
-    ⊎ ((HasPlaceOf old o → ⊥) × (length old < MOST_PARKED) × IsUpdated old new (place_of o) (Some o) × (length new ≡ length old + 1))
+    ⊎ ((HasPlaceOf old o → ⊥) × (length old < MOST_PARKED) × IsUpdated old new (place_of o) (Some o)
+    × (length new ≡ length old + 1))

@@ -8,8 +8,8 @@ use zq_ticketlock::Worn;
 /// Why a frame was not heard to its end.
 #[derive(Clone, Copy, Debug, PartialEq, Eq)]
 pub enum NodeFault {
-    /// The frame names another number of heaps than the site's, a heap that the site does not have, or an operation whose
-    /// member lies in another heap.
+    /// The frame names another number of heaps than the site's, a heap that the site does not have,
+    /// or an operation whose member lies in another heap.
     WrongHeap,
     /// The frame's rule is another than the site's.
     WrongRule,

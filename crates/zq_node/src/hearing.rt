@@ -24,11 +24,12 @@ impl Node<'_> {
     /// | Ops | hands each to the site, parks what is Early, and tries again what is parked | nothing |
     /// | State | merges it, and tries again what is parked | nothing |
     ///
-    /// `WrongHeap` where the frame names another number of heaps, a heap that is not there, or an operation that lies in
-    /// another heap than its member's. Else `WrongRule` where its rule is another. A Have and a State that are refused so
-    /// leave all as it was; an operation of an Ops that is leaves what those before it left. `Worn` where a lock, a stamp or
-    /// a count is at its last value, and `NoMemory` where a growth was refused, which none is asked for a Known operation:
-    /// what was taken or parked before stays.
+    /// `WrongHeap` where the frame names another number of heaps, a heap that is not there, or an
+    /// operation that lies in another heap than its member's. Else `WrongRule` where its rule is
+    /// another. A Have and a State that are refused so leave all as it was; an operation of an Ops
+    /// that is leaves what those before it left. `Worn` where a lock, a stamp or a count is at its
+    /// last value, and `NoMemory` where a growth was refused, which none is asked for a Known
+    /// operation: what was taken or parked before stays.
     pub fn hear<R: Wait>(
         &mut self,
         rt: &R,
@@ -38,12 +39,15 @@ impl Node<'_> {
         requires node { IsNode self.old }
         ensures node { IsNode self.new }
         ensures home { IsSameHome self.old self.new }
-        ensures heard { IfOk result (λ sent. HasHeard frame.now self.old self.new (sent_of sent.items)) }
+        ensures heard { IfOk result
+            (λ sent. HasHeard frame.now self.old self.new (sent_of sent.items)) }
         ensures writable { IfOk result (λ sent. All (λ s. IsWritable s.1) sent.items) }
         ensures stopped { IfErr result (HasStopped frame.now self.old self.new) }
-        ensures right { OnOk result (IsForSite (site_of self.old) frame.now × HasSiteRule (site_of self.old) frame.now) }
+        ensures right { OnOk result (IsForSite (site_of self.old) frame.now
+            × HasSiteRule (site_of self.old) frame.now) }
         ensures fault { IfErr result (IsFaultOf (site_of self.old) frame.now) }
-        ensures unheard { IfErr result (λ fault. IsOfOneHeap frame.now → IsOwnFault fault ⊎ (self.new ≡ self.old)) }
+        ensures unheard { IfErr result (λ fault. IsOfOneHeap frame.now → IsOwnFault fault
+            ⊎ (self.new ≡ self.old)) }
     {
         match frame {
             Frame::Have(have) => {
@@ -74,10 +78,13 @@ impl Node<'_> {
         ensures node { IsNode self.new }
         ensures home { IsSameHome self.old self.new }
         ensures parked { parked_of self.new ≡ parked_of self.old }
-        ensures answered { IfOk result (λ sent. IsHaveHeard (site_of self.old) (have_of have.now) (pass_of self.old) (pass_of self.new) (sent_of sent.items)) }
+        ensures answered { IfOk result
+            (λ sent. IsHaveHeard (site_of self.old) (have_of have.now) (pass_of self.old)
+            (pass_of self.new) (sent_of sent.items)) }
         ensures writable { IfOk result (λ sent. All (λ s. IsWritable s.1) sent.items) }
         ensures no_step { MadeNoStep (pass_of self.old) (pass_of self.new) }
-        ensures right { OnOk result (IsForSite (site_of self.old) (heard.Have have.now) × HasSiteRule (site_of self.old) (heard.Have have.now)) }
+        ensures right { OnOk result (IsForSite (site_of self.old) (heard.Have have.now)
+            × HasSiteRule (site_of self.old) (heard.Have have.now)) }
         ensures fault { IfErr result (IsFaultOf (site_of self.old) (heard.Have have.now)) }
         ensures unheard { IfErr result (λ fault. IsOwnFault fault ⊎ (self.new ≡ self.old)) }
     {
@@ -93,7 +100,8 @@ impl Node<'_> {
         ensures home { IsSameHome self.old self.new }
         ensures heard { OnOk result (IsStateHeard shard.now self.old self.new) }
         ensures stopped { OnErr result (IsStateStopped shard.now self.old self.new) }
-        ensures right { OnOk result (IsForSite (site_of self.old) (heard.State shard.now) × HasSiteRule (site_of self.old) (heard.State shard.now)) }
+        ensures right { OnOk result (IsForSite (site_of self.old) (heard.State shard.now)
+            × HasSiteRule (site_of self.old) (heard.State shard.now)) }
         ensures fault { IfErr result (IsFaultOf (site_of self.old) (heard.State shard.now)) }
         ensures unheard { IfErr result (λ fault. IsOwnFault fault ⊎ (self.new ≡ self.old)) }
     {
@@ -109,7 +117,9 @@ impl Node<'_> {
         ensures node { IsNode self.new }
         ensures home { IsSameHome self.old self.new }
         ensures parked { parked_of self.new ≡ parked_of self.old }
-        ensures haves { IfOk result (λ frames. AreHaves (site_of self.old) (pass_of self.old) (pass_of self.new) (map frame_of frames.items)) }
+        ensures haves { IfOk result
+            (λ frames. AreHaves (site_of self.old) (pass_of self.old) (pass_of self.new)
+            (map frame_of frames.items)) }
         ensures writable { IfOk result (λ frames. All IsWritable frames.items) }
         ensures no_step { MadeNoStep (pass_of self.old) (pass_of self.new) }
         ensures fault { IfErr result IsOwnFault }

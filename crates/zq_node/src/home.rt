@@ -41,7 +41,8 @@ impl Home<'_> {
     pub(crate) fn have_if(&self, heap: u8, theirs: &Vector, vector: &Vector) -> Option<Frame>
         requires home { IsHome self.now }
         requires heap { heap < heaps_of self.now.site.now }
-        ensures own { option_map frame_of result ≡ own_have self.now.site.now heap theirs.now vector.now }
+        ensures own { option_map frame_of result
+            ≡ own_have self.now.site.now heap theirs.now vector.now }
         ensures writable { IfSome result IsWritable }
     {
         if vector.covers(theirs) {
@@ -53,7 +54,8 @@ impl Home<'_> {
     /// Whether a frame of this heap, this number of heaps and this rule is for the site.
     pub(crate) fn judge(&self, heap: u8, heaps: u8, rule: Rule) -> Result<(), NodeFault>
         requires home { IsHome self.now }
-        ensures right { OnOk result (IsHeapOf self.now.site.now heap heaps × (rule_of rule ≡ rule_of self.now.site.now.rule)) }
+        ensures right { OnOk result (IsHeapOf self.now.site.now heap heaps
+            × (rule_of rule ≡ rule_of self.now.site.now.rule)) }
         ensures wrong { IfErr result (IsNotFor self.now.site.now heap heaps (rule_of rule)) }
     {
         if heaps != self.heaps || heap >= heaps {

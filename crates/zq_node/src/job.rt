@@ -2,8 +2,8 @@
 
 use zq_words::Command;
 
-/// A call that a worker is to make of its site: the number that the gate is told, the command, and the two words by which
-/// ZPOPNEAR draws heaps.
+/// A call that a worker is to make of its site: the number that the gate is told, the command, and
+/// the two words by which ZPOPNEAR draws heaps.
 #[derive(Debug, Drop)]
 pub struct Job<'a> {
     pub number: u64,

@@ -1,5 +1,5 @@
-//! A site's node: it hears frames, keeps operations that came early until what they follow has come, and answers what
-//! a peer lacks. Beside it, workers: threads that make calls of the site.
+//! A site's node: it hears frames, keeps operations that came early until what they follow has
+//! come, and answers what a peer lacks. Beside it, workers: threads that make calls of the site.
 #![tactic(auto)]
 
 mod duty;

@@ -8,8 +8,8 @@ use crate::parked::Parked;
 use std::alloc::Global;
 use zq_spread::{Pass, Site};
 
-/// What hears the frames that come to a site. It works with a pass of its own, and keeps operations that came early until
-/// what they follow has come.
+/// What hears the frames that come to a site. It works with a pass of its own, and keeps operations
+/// that came early until what they follow has come.
 #[derive(Drop)]
 pub struct Node<'a> {
     pub(crate) home: Home<'a>,
@@ -18,8 +18,8 @@ pub struct Node<'a> {
 }
 
 impl<'a> Node<'a> {
-    /// The node of this site. It has parked nothing, and the pass, which is one of the site's, is as it was. It takes no
-    /// memory.
+    /// The node of this site. It has parked nothing, and the pass, which is one of the site's, is
+    /// as it was. It takes no memory.
     pub fn new(alloc: Global, site: &'a Site, pass: Pass) -> Node<'a>
         requires { IsPassOf site.now pass }
         ensures node { IsNode result }

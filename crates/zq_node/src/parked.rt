@@ -17,12 +17,13 @@ pub const MOST_PARKED: usize = 1024;
 /// Where an operation is parked: its heap, its site and its counter.
 type Place = (u8, u8, u64);
 
-/// Operations that came early, until what they follow has come, at most [`MOST_PARKED`]. One that comes again takes no
-/// place of its own.
+/// Operations that came early, until what they follow has come, at most [`MOST_PARKED`]. One that
+/// comes again takes no place of its own.
 ///
-/// A site's operations come in the order of their counters, so of those that are parked only the first one of each site
-/// can be ready. They are kept by heap, site and counter, so that it is found at once, and a site of which none was
-/// parked since the last one left is passed over: what the others cost does not grow with them.
+/// A site's operations come in the order of their counters, so of those that are parked only the
+/// first one of each site can be ready. They are kept by heap, site and counter, so that it is
+/// found at once, and a site of which none was parked since the last one left is passed over: what
+/// the others cost does not grow with them.
 #[derive(Drop)]
 pub struct Parked {
     ops: BTreeMap<Place, Op>,
@@ -60,11 +61,13 @@ impl Parked {
         self.ops.len()
     }
 
-    /// Parks an operation, in the place of one of its heap and dot. Answers whether it is parked: where as many are as
-    /// there may be it is dropped, as if it had been lost, and so it is where memory is refused.
+    /// Parks an operation, in the place of one of its heap and dot. Answers whether it is parked:
+    /// where as many are as there may be it is dropped, as if it had been lost, and so it is where
+    /// memory is refused.
     pub fn park(&mut self, op: Op) -> Result<bool, AllocError>
         ensures full { IfOk result (λ kept. IsTrue kept ↔ (length self.old < limits.MOST_PARKED)) }
-        ensures parked { IfOk result (λ kept. IsTrue kept → IsUpdated self.old self.new (parked.place_of op) (Some op)) }
+        ensures parked { IfOk result (λ kept. IsTrue kept →
+            IsUpdated self.old self.new (parked.place_of op) (Some op)) }
         ensures dropped { IfOk result (λ kept. kept ≡ false → self.new ≡ self.old) }
         ensures more { IfOk result (λ kept. IsTrue kept → (HasPlaceOf self.old op → ⊥) →
             length self.new ≡ length self.old + 1) }
@@ -90,8 +93,10 @@ impl Parked {
 
     /// An operation of this heap that is not Early by this vector, if there is one.
     pub fn ready(&self, heap: u8, vector: &Vector) -> Option<&Op>
-        ensures ready { IfSome result (λ o. IsParked self.now o.now × (o.now.operation.heap ≡ heap) × (sets.taken_of vector.now o.now.operation ≢ sets.Early)) }
-        ensures none { IfNone result ((o : Placed) → IsParked self.now o → o.operation.heap ≡ heap → sets.taken_of vector.now o.operation ≡ sets.Early) }
+        ensures ready { IfSome result (λ o. IsParked self.now o.now × (o.now.operation.heap ≡ heap)
+            × (sets.taken_of vector.now o.now.operation ≢ sets.Early)) }
+        ensures none { IfNone result ((o : Placed) → IsParked self.now o → o.operation.heap ≡ heap →
+            sets.taken_of vector.now o.operation ≡ sets.Early) }
     {
         let place = self.ready_place(heap, vector)?;
         self.ops.get(&place)
@@ -122,7 +127,8 @@ impl Parked {
     /// Where an operation of this heap is parked that is not Early by this vector.
     fn ready_place(&self, heap: u8, vector: &Vector) -> Option<Place>
         ensures ready { IfSome result (IsReadyAt self.now heap vector.now) }
-        ensures none { IfNone result ((o : Placed) → IsParked self.now o → o.operation.heap ≡ heap → sets.taken_of vector.now o.operation ≡ sets.Early) }
+        ensures none { IfNone result ((o : Placed) → IsParked self.now o → o.operation.heap ≡ heap →
+            sets.taken_of vector.now o.operation ≡ sets.Early) }
     {
         for number in 0..SITES as u8 {
             let may = self.sites[number as usize];
@@ -134,7 +140,8 @@ impl Parked {
     }
 }
 
-/// Where an operation of this heap and this site is parked that is not Early by this vector, if the site may have any.
+/// Where an operation of this heap and this site is parked that is not Early by this vector, if the
+/// site may have any.
 fn ready_from(
     ops: &BTreeMap<Place, Op>,
     may: bool,
@@ -143,7 +150,8 @@ fn ready_from(
     vector: &Vector,
 ) -> Option<Place>
     requires placed { ArePlaced ops.now.entries }
-    requires may { (o : Placed) → IsParked ops.now.entries o → o.operation.site ≡ number → may ≡ true }
+    requires may { (o : Placed) → IsParked ops.now.entries o → o.operation.site ≡ number →
+        may ≡ true }
     requires site { number < sets.SITES }
     ensures ready { IfSome result (IsReadyAt ops.now.entries heap vector.now) }
     ensures none { IfNone result (IsSiteEarly ops.now.entries heap vector.now number) }

@@ -15,8 +15,8 @@ use std::alloc::Global;
 use std::sync::Wait;
 
 impl Node<'_> {
-    /// Hands the site one operation of a heap that is parked and no longer Early, and lets it go. Answers whether there
-    /// was one: then fewer are parked.
+    /// Hands the site one operation of a heap that is parked and no longer Early, and lets it go.
+    /// Answers whether there was one: then fewer are parked.
     fn try_next<R: Wait>(&mut self, rt: &R, alloc: Global, heap: u8) -> Result<bool, NodeFault>
         requires node { IsNode self.old }
         requires heap { heap < heaps_of (site_of self.old) }
@@ -25,10 +25,12 @@ impl Node<'_> {
         ensures work { OnOk result (HasWorked [] self.old self.new) }
         ensures stopped { OnErr result (WasStopped [] self.old self.new) }
         ensures wait { IfOk result (λ more. more ≡ false → WaitIn self.new heap) }
-        ensures others { OnOk result ((k : ℕ) → (k ≡ heap → ⊥) → seen_at (pass_of self.new) k ≡ seen_at (pass_of self.old) k) }
+        ensures others { OnOk result ((k : ℕ) → (k ≡ heap → ⊥) →
+            seen_at (pass_of self.new) k ≡ seen_at (pass_of self.old) k) }
         ensures fewer { IfOk result (λ more. IsTrue more →
             length (parked_of self.new) < length (parked_of self.old)) }
-        ensures none { IfOk result (λ more. more ≡ false → parked_of self.new ≡ parked_of self.old) }
+        ensures none { IfOk result (λ more. more ≡ false →
+            parked_of self.new ≡ parked_of self.old) }
         ensures fault { IfErr result IsOwnFault }
     {
         let site = self.home.site;
@@ -57,7 +59,8 @@ impl Node<'_> {
         ensures work { OnOk result (HasWorked [] self.old self.new) }
         ensures stopped { OnErr result (WasStopped [] self.old self.new) }
         ensures wait { OnOk result (WaitIn self.new heap) }
-        ensures others { OnOk result ((k : ℕ) → (k ≡ heap → ⊥) → seen_at (pass_of self.new) k ≡ seen_at (pass_of self.old) k) }
+        ensures others { OnOk result ((k : ℕ) → (k ≡ heap → ⊥) →
+            seen_at (pass_of self.new) k ≡ seen_at (pass_of self.old) k) }
         ensures fewer { OnOk result (length (parked_of self.new) ≤ length (parked_of self.old)) }
         ensures fault { IfErr result IsOwnFault }
     {

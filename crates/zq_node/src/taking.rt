@@ -18,8 +18,8 @@ use std::sync::Wait;
 use zq_dots::Op;
 use zq_shard::Taken;
 
-/// Parks a copy of an operation, unless one of its heap and dot is parked. Where as many are parked as there may be, it is
-/// dropped, as if it had been lost.
+/// Parks a copy of an operation, unless one of its heap and dot is parked. Where as many are parked
+/// as there may be, it is dropped, as if it had been lost.
 fn keep(parked: &mut Parked, alloc: Global, op: &Op) -> Result<(), AllocError>
     ensures put { OnOk result (IsPutAway op.now parked.old parked.new) }
     ensures refused { OnErr result (parked.new ≡ parked.old) }
@@ -44,7 +44,9 @@ impl Node<'_> {
         ensures node { IsNode self.new }
         ensures home { IsSameHome self.old self.new }
         ensures parked { parked_of self.new ≡ parked_of self.old }
-        ensures called { IfOk result (λ taken. IsCalled (site_of self.old) (pass_of self.old) (pass_of self.new) (Took op.now taken)) }
+        ensures called { IfOk result
+            (λ taken. IsCalled (site_of self.old) (pass_of self.old) (pass_of self.new)
+            (Took op.now taken)) }
         ensures within { OnOk result (op.now.operation.heap < heaps_of (site_of self.old)) }
         ensures stopped { OnErr result (MadeNoStep (pass_of self.old) (pass_of self.new)) }
         ensures stop { IfErr result (IsStopOf (site_of self.old) (Some op.now)) }
@@ -61,8 +63,8 @@ impl Node<'_> {
         }
     }
 
-    /// Hands the site an operation. One that is Early is parked, and after one that is New those that are parked in its heap
-    /// are tried again.
+    /// Hands the site an operation. One that is Early is parked, and after one that is New those
+    /// that are parked in its heap are tried again.
     fn take<R: Wait>(&mut self, rt: &R, alloc: Global, op: &Op) -> Result<(), NodeFault>
         requires node { IsNode self.old }
         ensures node { IsNode self.new }
@@ -100,7 +102,8 @@ impl Node<'_> {
         ensures home { IsSameHome self.old self.new }
         ensures heard { OnOk result (AreOpsHeard ops.now self.old self.new) }
         ensures stopped { IfErr result (AreOpsStopped ops.now self.old self.new) }
-        ensures for_site { OnOk result ((o : Placed) → IsIn o ops.now → IsOfSite (site_of self.old) o) }
+        ensures for_site { OnOk result ((o : Placed) → IsIn o ops.now →
+            IsOfSite (site_of self.old) o) }
     {
         self.take_each(rt, alloc, ops)?;
         self.settle_all(rt, alloc)?;

@@ -25,8 +25,11 @@ fn addressed(
     first: Option<Frame>,
     second: Option<Frame>,
 ) -> Result<Vec<(SiteNo, Frame)>, AllocError>
-    ensures sent { IfOk result (λ sent. sent_of sent.items ≡ sent_to to (option_to_list (option_map frame_of first) ++ option_to_list (option_map frame_of second))) }
-    ensures writable { IfSome first IsWritable → IfSome second IsWritable → IfOk result (λ sent. All (λ s. IsWritable s.1) sent.items) }
+    ensures sent { IfOk result (λ sent. sent_of sent.items
+        ≡ sent_to to (option_to_list (option_map frame_of first)
+        ++ option_to_list (option_map frame_of second))) }
+    ensures writable { IfSome first IsWritable → IfSome second IsWritable →
+        IfOk result (λ sent. All (λ s. IsWritable s.1) sent.items) }
 {
     let mut sent = Vec::new(alloc);
     if let Some(frame) = first {
@@ -52,7 +55,9 @@ impl Node<'_> {
         ensures node { IsNode self.new }
         ensures home { IsSameHome self.old self.new }
         ensures parked { parked_of self.new ≡ parked_of self.old }
-        ensures told { IfOk result (λ frame. IsTold (site_of self.old) (pass_of self.old) (pass_of self.new) heap theirs.now (frame_of frame)) }
+        ensures told { IfOk result
+            (λ frame. IsTold (site_of self.old) (pass_of self.old)
+            (pass_of self.new) heap theirs.now (frame_of frame)) }
         ensures writable { IfOk result IsWritable }
         ensures no_step { MadeNoStep (pass_of self.old) (pass_of self.new) }
         ensures fault { IfErr result IsOwnFault }
@@ -85,7 +90,9 @@ impl Node<'_> {
         ensures node { IsNode self.new }
         ensures home { IsSameHome self.old self.new }
         ensures parked { parked_of self.new ≡ parked_of self.old }
-        ensures told { IfOk result (λ told. IsToldOf (site_of self.old) (pass_of self.old) (pass_of self.new) heap theirs.now vector.now (option_map frame_of told)) }
+        ensures told { IfOk result
+            (λ told. IsToldOf (site_of self.old) (pass_of self.old)
+            (pass_of self.new) heap theirs.now vector.now (option_map frame_of told)) }
         ensures writable { IfOk result (λ told. IfSome told IsWritable) }
         ensures no_step { MadeNoStep (pass_of self.old) (pass_of self.new) }
         ensures fault { IfErr result IsOwnFault }
@@ -109,7 +116,9 @@ impl Node<'_> {
         ensures node { IsNode self.new }
         ensures home { IsSameHome self.old self.new }
         ensures parked { parked_of self.new ≡ parked_of self.old }
-        ensures answered { IfOk result (λ sent. IsHaveHeard (site_of self.old) (have_of have.now) (pass_of self.old) (pass_of self.new) (sent_of sent.items)) }
+        ensures answered { IfOk result
+            (λ sent. IsHaveHeard (site_of self.old) (have_of have.now) (pass_of self.old)
+            (pass_of self.new) (sent_of sent.items)) }
         ensures writable { IfOk result (λ sent. All (λ s. IsWritable s.1) sent.items) }
         ensures no_step { MadeNoStep (pass_of self.old) (pass_of self.new) }
         ensures fault { IfErr result IsOwnFault }

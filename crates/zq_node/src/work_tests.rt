@@ -63,7 +63,8 @@ fn opened(rt: &impl Abort, alloc: Global, passes: usize) -> (Site, Vec<Pass>)
     Site::new(alloc, number, 2, passes).expect(rt, "a site")
 }
 
-/// The requests `ZADD q N M` for each N from 10 up to `end`, where M is the letter with N, or with 10 if it is to be the same.
+/// The requests `ZADD q N M` for each N from 10 up to `end`, where M is the letter with N, or with
+/// 10 if it is to be the same.
 fn puts(rt: &impl Abort, alloc: Global, letter: char, is_same: bool, end: u8) -> Vec<Request> {
     let mut bytes = Vec::new(alloc);
     for n in 10..end.min(100) {

@@ -24,7 +24,8 @@ fn call_once<G: Gate, R: Wait>(
 ) -> Reply
     requires pass { IsPassOf site.now pass.old }
     ensures pass { IsPassOf site.now pass.new }
-    ensures called { IsCalled site.now job.now.command job.now.w1 job.now.w2 (reply_bytes result) pass.old pass.new }
+    ensures called { IsCalled site.now job.now.command job.now.w1 job.now.w2
+        (reply_bytes result) pass.old pass.new }
     ensures writable { IsTrue (is_writable result) }
 {
     gate.before(job.number);
@@ -33,8 +34,8 @@ fn call_once<G: Gate, R: Wait>(
     reply
 }
 
-/// Makes the calls of the jobs on the pass, one after the other, and gives their replies and the pass back. `NoMemory`
-/// comes before the first call.
+/// Makes the calls of the jobs on the pass, one after the other, and gives their replies and the
+/// pass back. `NoMemory` comes before the first call.
 pub(crate) fn run<G: Gate, R: Wait>(
     rt: &R,
     alloc: Global,
@@ -44,7 +45,8 @@ pub(crate) fn run<G: Gate, R: Wait>(
     gate: &G,
 ) -> Result<(Vec<Reply>, Pass), WorkFault>
     requires pass { IsPassOf site.now pass }
-    ensures worked { IfOk result (λ done. AreWorked site.now jobs.entry.items done.0.items pass done.1) }
+    ensures worked { IfOk result
+        (λ done. AreWorked site.now jobs.entry.items done.0.items pass done.1) }
     ensures pass { IfOk result (λ done. IsPassOf site.now done.1) }
 {
     let mut replies = Vec::with_capacity(alloc, jobs.len())?;

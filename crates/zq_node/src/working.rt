@@ -20,16 +20,19 @@ use zq_spread::{Pass, Site};
 
 type Worker<'a> = PromisedHandle<Result<(Vec<Reply>, Pass), WorkFault>, Duty<'a>>;
 
-/// Has the site called once for each job: each list of jobs in a thread of its own, by the pass at its place, one call
-/// after the other. Each call goes through the gate: `before` with the job's number, the call, `after` with the number.
+/// Has the site called once for each job: each list of jobs in a thread of its own, by the pass at
+/// its place, one call after the other. Each call goes through the gate: `before` with the job's
+/// number, the call, `after` with the number.
 ///
-/// Gives, at the place of each list, the replies of its jobs in their order, and its pass, which is the site's as before.
-/// It takes as many passes as lists. Where there is none of either it gives an empty list, and starts no thread.
+/// Gives, at the place of each list, the replies of its jobs in their order, and its pass, which is
+/// the site's as before. It takes as many passes as lists. Where there is none of either it gives
+/// an empty list, and starts no thread.
 ///
 /// # Errors
 ///
-/// `Start` where a thread could not be started, `NoMemory` where a growth was refused. The passes are gone then, and the
-/// calls that were made stand; those of threads that had started go on to their end, and are waited for.
+/// `Start` where a thread could not be started, `NoMemory` where a growth was refused. The passes
+/// are gone then, and the calls that were made stand; those of threads that had started go on to
+/// their end, and are waited for.
 pub fn work<G: Gate, R: Threads + Wait + Sync>(
     rt: &R,
     alloc: Global,
@@ -40,7 +43,8 @@ pub fn work<G: Gate, R: Threads + Wait + Sync>(
 ) -> Result<Vec<(Vec<Reply>, Pass)>, WorkFault>
     requires lists { length passes.items ≡ length jobs.items }
     requires passes { All (IsPassOf site.now) passes.items }
-    ensures worked { IfOk result (λ done. AreAllWorked site.now jobs.entry.items passes.items done.items) }
+    ensures worked { IfOk result
+        (λ done. AreAllWorked site.now jobs.entry.items passes.items done.items) }
     ensures passes { IfOk result (λ done. All (λ d. IsPassOf site.now d.1) done.items) }
     ensures none { jobs.entry.items ≡ [] → IsOk result }
 {
@@ -51,8 +55,11 @@ pub fn work<G: Gate, R: Threads + Wait + Sync>(
         thread::scope_env(),
         rt,
         move |scope| -> Result<Vec<(Vec<Reply>, Pass)>, WorkFault>
-            requires { (length passes.items ≡ length jobs.items) × All (IsPassOf site.now) passes.items }
-            ensures { IfOk result (λ done. AreAllWorked site.entry.now jobs.entry.items passes.items done.items) × IfOk result (λ done. All (λ d. IsPassOf site.entry.now d.1) done.items) }
+            requires { (length passes.items ≡ length jobs.items)
+                × All (IsPassOf site.now) passes.items }
+            ensures { IfOk result
+                (λ done. AreAllWorked site.entry.now jobs.entry.items passes.items done.items)
+                × IfOk result (λ done. All (λ d. IsPassOf site.entry.now d.1) done.items) }
         {
             let workers = start_all(scope, rt, alloc, site, passes, jobs, gate)?;
             join_all(rt, alloc, workers)
@@ -72,7 +79,8 @@ fn start_all<'s, 'e: 's, G: Gate, R: Threads + Wait + Sync>(
 ) -> Result<Vec<Worker<'e>>, WorkFault>
     requires lists { length passes.items ≡ length jobs.items }
     requires passes { All (IsPassOf site.now) passes.items }
-    ensures duties { IfOk result (λ workers. AreDuties site.now jobs.entry.items passes.items (duties_of workers.items)) }
+    ensures duties { IfOk result
+        (λ workers. AreDuties site.now jobs.entry.items passes.items (duties_of workers.items)) }
 {
     let mut workers = Vec::with_capacity(alloc, jobs.len())?;
     let mut passes = passes.into_iter();
@@ -87,7 +95,9 @@ fn start_all<'s, 'e: 's, G: Gate, R: Threads + Wait + Sync>(
         };
         let task = move || -> Result<(Vec<Reply>, Pass), WorkFault>
             requires { IsPassOf site.now pass }
-            ensures { IfOk result (λ done. AreWorked site.entry.now list.entry.items done.0.items pass done.1 × IsPassOf site.entry.now done.1) }
+            ensures { IfOk result
+                (λ done. AreWorked site.entry.now list.entry.items done.0.items pass done.1
+                × IsPassOf site.entry.now done.1) }
         { run(rt, alloc, site, pass, list, gate) };
         match scope.spawn_with(duty, task) {
             Ok(worker) => workers.push_reserved(worker),

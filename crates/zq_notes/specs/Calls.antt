@@ -20,27 +20,36 @@ use Rattle.zq_words.specs.declared.heaps.Heaps.TheVariants.{All, Near, NoHeap, O
 
 -- the note is that of a call by which the pass came from the one to the other
 pub record IsNoteOf (site : Site) (before after : Pass) (n : Note) : Type 0 where
-  pub call : IsCall (Does (rule_of site.rule) (heaps_of site) site.number n.stamp n.asked n.heaps n.answer) before after n.heaps
+  pub call : IsCall (Does (rule_of site.rule)
+      (heaps_of site) site.number n.stamp n.asked n.heaps n.answer) before after n.heaps
   pub stamp : n.stamp ≡ after.stamp
   pub steps : n.steps ≡ call.steps
 
 -- there is such a note of the pass p, of what was asked and answered
 abbrev pub HasNote : Site → ℕ → Pass → Pass → Asked → Answer → Type 0
-HasNote site p before after asked answer = (n : Note) × IsNoteOf site before after n × (n.pass ≡ p) × (n.asked ≡ asked) × (n.answer ≡ answer)
+HasNote site p before after asked answer = (n : Note) × IsNoteOf site before after n × (n.pass ≡ p)
+    × (n.asked ≡ asked) × (n.answer ≡ answer)
 
--- a command left no note: one that needs no heap was answered over no books; one that works in a single heap was refused, since its lock or the stamp is at its
--- last value; any other for the same reason, or since there was no memory to hold more heaps than one; ZPOPNEAR in the two heaps that it drew, or in all, where
--- it has passed over those
+-- a command left no note: one that needs no heap was answered over no books; one that works in a
+-- single heap was refused, since its lock or the stamp is at its last value; any other for the same
+-- reason, or since there was no memory to hold more heaps than one; ZPOPNEAR in the two heaps that
+-- it drew, or in all, where it has passed over those
 abbrev pub HeldNoneIn : Heaps → Site → Command → ℕ → ℕ → Word → Pass → Pass → Type 0
-HeldNoneIn NoHeap site command w1 w2 reply before after = (after ≡ before) × DoesCommand site after.stamp command reply [] []
-HeldNoneIn (One heap) site command w1 w2 reply before after = IsWornOut (heap ∷ []) reply before after
+HeldNoneIn NoHeap site command w1 w2 reply before after = (after ≡ before)
+    × DoesCommand site after.stamp command reply [] []
+HeldNoneIn (One heap) site command w1 w2 reply before after =
+    IsWornOut (heap ∷ []) reply before after
 HeldNoneIn Near site command w1 w2 reply before after =
-    IsTurnedAway (drawn (heaps_of site) w1 w2) reply before after ⊎ (IsWornOut (all_heaps site) reply before after × HasFoundNone command before after (drawn (heaps_of site) w1 w2))
-HeldNoneIn All site command w1 w2 reply before after = IsTurnedAway (all_heaps site) reply before after
+    IsTurnedAway (drawn (heaps_of site) w1 w2) reply before after
+    ⊎ (IsWornOut (all_heaps site) reply before after
+    × HasFoundNone command before after (drawn (heaps_of site) w1 w2))
+HeldNoneIn All site command w1 w2 reply before after =
+    IsTurnedAway (all_heaps site) reply before after
 
 -- the command was called by the two words, and is such a one
 abbrev pub HeldNone : Site → Command → ℕ → ℕ → Word → Pass → Pass → Type 0
-HeldNone site command w1 w2 reply before after = HeldNoneIn (named.heaps_of command (heaps_of site)) site command w1 w2 reply before after
+HeldNone site command w1 w2 reply before after =
+    HeldNoneIn (named.heaps_of command (heaps_of site)) site command w1 w2 reply before after
 
 -- a call that was made: its pass before and after it, and its note
 pub record Call : Type 0 where
@@ -61,7 +70,8 @@ pub record IsCallOver (site : Site) (books : Books) (c : Call) : Type 0 where
 
 -- each call found in its heaps what those before it left there
 abbrev pub AreCallsFrom : Site → Books → List Call → Type 0
-AreCallsFrom site opening calls = (before : List Call) (c : Call) (after : List Call) → calls ≡ before ++ c ∷ after → IsCallOver site (left_by_all (notes_of before) opening) c
+AreCallsFrom site opening calls = (before : List Call) (c : Call) (after : List Call) →
+    calls ≡ before ++ c ∷ after → IsCallOver site (left_by_all (notes_of before) opening) c
 
 -- the call c may stand before d: stamps do not fall, and a pass makes its calls one after the other
 pub record IsInTurn (c d : Call) : Type 0 where

@@ -20,8 +20,9 @@ use Rattle.zq_words.specs.Heaps as named
 use Rattle.zq_words.specs.declared.heaps.Heaps.{Heaps}
 use Rattle.zq_words.specs.declared.heaps.Heaps.TheVariants.{All, Near, NoHeap, One}
 
--- the heaps that a call of the command holds, of K: the one of its member; the two that are drawn, where one of them has a member of the key, or all; else all.
--- A command that needs no heap holds none, and leaves no note
+-- the heaps that a call of the command holds, of K: the one of its member; the two that are drawn,
+-- where one of them has a member of the key, or all; else all. A command that needs no heap holds
+-- none, and leaves no note
 abbrev pub AreHeapsFor : Heaps → Rule → ℕ → Command → ℕ → ℕ → List ℕ → List Book → Type 0
 AreHeapsFor NoHeap rule K command w1 w2 heaps found = ⊥
 AreHeapsFor (One heap) rule K command w1 w2 heaps found = heaps ≡ heap ∷ []
@@ -30,7 +31,9 @@ AreHeapsFor All rule K command w1 w2 heaps found = heaps ≡ range_with_len 0 K
 
 -- what a peer of this vector lacks of a heap's book, as a call of this stamp begins with it
 abbrev pub IsTold : ℕ → List ℕ → Result Since ReadFault → List Book → List (List Step) → Type 0
-IsTold stamp vector result (b ∷ []) (steps ∷ []) = read_of (λ (since : Since) (book : Book). IsSince vector since (begun stamp book)) result b × (steps ≡ [])
+IsTold stamp vector result (b ∷ []) (steps ∷ []) =
+    read_of (λ (since : Since) (book : Book). IsSince vector since (begun stamp book)) result b
+    × (steps ≡ [])
 IsTold stamp vector result books steps = ⊥
 
 -- the operation was made among K heaps, and lies in its own
@@ -43,14 +46,22 @@ pub record IsLike (rule : Rule) (K : ℕ) (s : HeapImage) : Type 0 where
   pub heaps : s.heaps ≡ K
   pub ruled : s.rule ≡ rule
 
--- what a site of this rule, of K heaps and this number does at a stamp: what it was asked, the heaps that it held, its answer, the books that it found there, and
--- its steps in each. An operation of another number of heaps, and a heap of another number or rule, is refused before any heap is held, and leaves no note
+-- what a site of this rule, of K heaps and this number does at a stamp: what it was asked, the
+-- heaps that it held, its answer, the books that it found there, and its steps in each. An
+-- operation of another number of heaps, and a heap of another number or rule, is refused before any
+-- heap is held, and leaves no note
 abbrev pub Does : Rule → ℕ → ℕ → ℕ → Asked → List ℕ → Answer → List Book → List (List Step) → Type 0
 Does rule K site stamp (ToRun command w1 w2) heaps (Replied reply) found steps =
-    AreHeapsFor (named.heaps_of command K) rule K command w1 w2 heaps found × IsAnswered rule site stamp command reply found steps
-Does rule K site stamp (ToTake op) heaps (Handed result) found steps = (heaps ≡ op.operation.heap ∷ []) × IsTaken stamp op result found steps × IsOfHeaps K op
-Does rule K site stamp (ToMerge other) heaps (Joined result) found steps = (heaps ≡ other.heap ∷ []) × IsMerged stamp other result found steps × IsLike rule K other
-Does rule K site stamp (ToTell heap vector) heaps (Told result) found steps = (heaps ≡ heap ∷ []) × IsTold stamp vector result found steps
-Does rule K site stamp (ToCopy heap) heaps (Copied result) found steps = (heaps ≡ heap ∷ []) × IsCopied result found steps
-Does rule K site stamp (ToShow heap) heaps (Shown vector) found steps = (heaps ≡ heap ∷ []) × IsShown vector found steps
+    AreHeapsFor (named.heaps_of command K) rule K command w1 w2 heaps found
+    × IsAnswered rule site stamp command reply found steps
+Does rule K site stamp (ToTake op) heaps (Handed result) found steps =
+    (heaps ≡ op.operation.heap ∷ []) × IsTaken stamp op result found steps × IsOfHeaps K op
+Does rule K site stamp (ToMerge other) heaps (Joined result) found steps = (heaps ≡ other.heap ∷ [])
+    × IsMerged stamp other result found steps × IsLike rule K other
+Does rule K site stamp (ToTell heap vector) heaps (Told result) found steps = (heaps ≡ heap ∷ [])
+    × IsTold stamp vector result found steps
+Does rule K site stamp (ToCopy heap) heaps (Copied result) found steps = (heaps ≡ heap ∷ [])
+    × IsCopied result found steps
+Does rule K site stamp (ToShow heap) heaps (Shown vector) found steps = (heaps ≡ heap ∷ [])
+    × IsShown vector found steps
 Does rule K site stamp asked heaps answer found steps = ⊥

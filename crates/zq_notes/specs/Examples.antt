@@ -16,7 +16,8 @@ use Rattle.zq_words.specs.Words.{Word}
 
 -- a call in the heap 1
 abbrev pub in_one : ℕ → Asked → Answer → List Step → Note
-in_one stamp asked answer steps = record { pass = 0; stamp = stamp; heaps = 1 ∷ []; asked = asked; answer = answer; steps = steps ∷ [] }
+in_one stamp asked answer steps =
+    record { pass = 0; stamp = stamp; heaps = 1 ∷ []; asked = asked; answer = answer; steps = steps ∷ [] }
 
 -- ---- an operation of another site
 
@@ -29,7 +30,8 @@ abbrev pub placed_x : ℕ → Placed
 placed_x heaps = record { heaps = heaps; operation = put_x }
 
 abbrev pub took_among : ℕ → ℕ → Note
-took_among heaps stamp = in_one stamp (ToTake (placed_x heaps)) (Handed (Ok New)) (step_of stamp (Took put_x) ∷ [])
+took_among heaps stamp = in_one stamp (ToTake (placed_x heaps)) (Handed (Ok New))
+    (step_of stamp (Took put_x) ∷ [])
 
 abbrev pub took : ℕ → Note
 took stamp = took_among HEAPS stamp
@@ -45,13 +47,15 @@ showed stamp = in_one stamp (ToShow 1) (Shown (vector_with near 1 0)) []
 -- the merge of one that has nothing, and whose scores go by this rule
 abbrev pub merged : Rule → ℕ → Note
 merged rule stamp =
-    in_one stamp (ToMerge (record { heap = 1; heaps = HEAPS; rule = rule; image = empty_image })) (Joined (Ok tt)) (Merged stamp empty_image ∷ [])
+    in_one stamp (ToMerge (record { heap = 1; heaps = HEAPS; rule = rule; image = empty_image }))
+    (Joined (Ok tt)) (Merged stamp empty_image ∷ [])
 
 -- ---- commands of the site 1
 
 -- ZADD of x at 3, answered 1, with these steps
 abbrev pub added : ℕ → List Step → Note
-added stamp steps = in_one stamp (ToRun (Zadd key_q no_flags ((pos 3, member_x) ∷ [])) 0 0) (Replied (codes ":1\r\n")) steps
+added stamp steps = in_one stamp (ToRun (Zadd key_q no_flags ((pos 3, member_x) ∷ [])) 0 0)
+    (Replied (codes ":1\r\n")) steps
 
 -- its step
 abbrev pub put : ℕ → Step

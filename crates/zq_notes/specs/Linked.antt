@@ -30,28 +30,42 @@ pub record IsLinked (rule : Rule) (K : ℕ) (events : List Event) : Type 0 where
 
   -- each heap is the image of what its site has, a closed set
   pub images : (s : ℕ) (before after : List Event) → events ≡ before ++ after →
-      AreImagesOf rule K (made_of events) (has_at (made_of events) s before) (books_at rule K s before)
+      AreImagesOf rule K (made_of events) (has_at (made_of events) s before)
+      (books_at rule K s before)
   -- which is of that world
-  pub within : (s : ℕ) (before after : List Event) → events ≡ before ++ after → (o : Operation) → IsIn o (has_at (made_of events) s before) → IsIn o (made_of events)
+  pub within : (s : ℕ) (before after : List Event) → events ≡ before ++ after → (o : Operation) →
+      IsIn o (has_at (made_of events) s before) → IsIn o (made_of events)
   -- sites that have the same operations hold the same, whenever each of them has these
-  pub converges : (s t : ℕ) (before after past later : List Event) → events ≡ before ++ after → events ≡ past ++ later →
-      AreSame (has_at (made_of events) s before) (has_at (made_of events) t past) → HoldSame rule K (books_at rule K s before) (books_at rule K t past)
+  pub converges : (s t : ℕ) (before after past later : List Event) → events ≡ before ++ after →
+      events ≡ past ++ later →
+      AreSame (has_at (made_of events) s before) (has_at (made_of events) t past) →
+      HoldSame rule K (books_at rule K s before) (books_at rule K t past)
   -- ---- what a site has
 
   -- what it made by then
-  pub own : (before after : List Event) → events ≡ before ++ after → (o : Operation) → IsIn o (made_of before) → IsIn o (has_at (made_of events) o.site before)
+  pub own : (before after : List Event) → events ≡ before ++ after → (o : Operation) →
+      IsIn o (made_of before) → IsIn o (has_at (made_of events) o.site before)
   -- what it was handed and answered New or Known
-  pub taken : (before : List Event) (e : Event) (after : List Event) → events ≡ before ++ e ∷ after → (op : Placed) (answer : Taken) → e.call.note.asked ≡ ToTake op →
-      e.call.note.answer ≡ Handed (Ok answer) → (answer_of answer ≡ Early → ⊥) → IsIn op.operation (made_of events) →
+  pub taken : (before : List Event) (e : Event) (after : List Event) →
+      events ≡ before ++ e ∷ after → (op : Placed) (answer : Taken) →
+      e.call.note.asked ≡ ToTake op →
+      e.call.note.answer ≡ Handed (Ok answer) → (answer_of answer ≡ Early → ⊥) →
+      IsIn op.operation (made_of events) →
       IsIn op.operation (has_at (made_of events) e.site (before ++ e ∷ []))
   -- what an image that it merged covers
-  pub merged : (before : List Event) (e : Event) (after : List Event) → events ≡ before ++ e ∷ after → (other : HeapImage) (done : Unit {0}) → e.call.note.asked ≡ ToMerge other →
-      e.call.note.answer ≡ Joined (Ok done) → (o : Operation) → IsIn o (made_of events) → o.heap ≡ other.heap → has other.image.vector o.site o.n ≡ true →
+  pub merged : (before : List Event) (e : Event) (after : List Event) →
+      events ≡ before ++ e ∷ after → (other : HeapImage) (done : Unit {0}) →
+      e.call.note.asked ≡ ToMerge other →
+      e.call.note.answer ≡ Joined (Ok done) → (o : Operation) → IsIn o (made_of events) →
+      o.heap ≡ other.heap → has other.image.vector o.site o.n ≡ true →
       IsIn o (has_at (made_of events) e.site (before ++ e ∷ []))
   -- and what it had: no call loses an operation
-  pub stays : (s : ℕ) (before between after : List Event) → events ≡ before ++ between ++ after → (o : Operation) → IsIn o (has_at (made_of events) s before) →
+  pub stays : (s : ℕ) (before between after : List Event) → events ≡ before ++ between ++ after →
+      (o : Operation) → IsIn o (has_at (made_of events) s before) →
       IsIn o (has_at (made_of events) s (before ++ between))
   -- ---- what a call answers and does
 
   -- it is read off what its site had before it
-  pub answers : (before : List Event) (e : Event) (after : List Event) → events ≡ before ++ e ∷ after → IsReadOff rule K e.site (has_at (made_of events) e.site before) e.call.note
+  pub answers : (before : List Event) (e : Event) (after : List Event) →
+      events ≡ before ++ e ∷ after →
+      IsReadOff rule K e.site (has_at (made_of events) e.site before) e.call.note

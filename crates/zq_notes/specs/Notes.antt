@@ -36,7 +36,8 @@ pub data Answer : Type 0 where
   Copied : (result : Result HeapImage ReadFault) → Answer
   Shown : (vector : List ℕ) → Answer
 
--- a call: whose, its stamp, the heaps that it held, what was asked, its answer, and its own steps in each heap that it held
+-- a call: whose, its stamp, the heaps that it held, what was asked, its answer, and its own steps
+-- in each heap that it held
 pub record Note : Type 0 where
   pub pass : ℕ
   pub stamp : ℕ

@@ -19,8 +19,8 @@ use Rattle.zq_words.specs.Words.{Word}
 
 -- ---- one call
 
--- a ZPOPNEAR that held all heaps, though one of the two that it drew has a member of the key in this
--- set: it may have come since these two were held
+-- a ZPOPNEAR that held all heaps, though one of the two that it drew has a member of the key in
+-- this set: it may have come since these two were held
 pub record IsPassedOver (rule : Rule) (K : ℕ) (S : List Operation) (w1 w2 : ℕ) (heaps : List ℕ)
     (command : Command) : Type 0 where
   pub key : Word

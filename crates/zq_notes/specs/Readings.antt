@@ -34,8 +34,8 @@ use Rattle.zq_spread.specs.declared.faults.ReadFault.TheVariants as unread
 use Rattle.zq_words.specs.Command.{Command, Reading, Zpopnear, Zrange}
 use Rattle.zq_words.specs.Words.{Word}
 
--- a command of so many moves may be cut after k of them: before a move that needs a number past its last value, and for want of
--- memory before a move, or for a reply that takes some
+-- a command of so many moves may be cut after k of them: before a move that needs a number past its
+-- last value, and for want of memory before a move, or for a reply that takes some
 abbrev pub IsCutAt : Want → Takes → ℕ → ℕ → Type 0
 IsCutAt Number takes k moves = k < moves
 IsCutAt Memory (ForReply is_long counted) k moves = (k ≤ moves) × IsReadShort is_long counted
@@ -74,8 +74,9 @@ moved_in K site stamp h (move ∷ moves) v =
     ∷ moved_in K site stamp h moves (slice_set v site (slice_index v site + 1))
     else moved_in K site stamp h moves v
 
--- the operations are those that the set has in the heap, of K, and the vector lacks. A set says nothing of their order, nor whether one comes twice: over the
--- book that the call found each of them is new where it comes (`IsSince`)
+-- the operations are those that the set has in the heap, of K, and the vector lacks. A set says
+-- nothing of their order, nor whether one comes twice: over the book that the call found each of
+-- them is new where it comes (`IsSince`)
 pub record AreLacked (K : ℕ) (S : List Operation) (heap : ℕ) (vector : List ℕ)
     (ops : List Placed) : Type 0 where
   pub told : List Operation
@@ -84,7 +85,8 @@ pub record AreLacked (K : ℕ) (S : List Operation) (heap : ℕ) (vector : List 
 
 -- ---- each kind of call: what it answers and does, read off the set that the site has
 
--- a command of a site of this number: all that it makes lies in the heaps that it held, and these are its steps in each
+-- a command of a site of this number: all that it makes lies in the heaps that it held, and these
+-- are its steps in each
 abbrev pub IsRunOff : Rule → ℕ → ℕ → List Operation → Command → ℕ → ℕ → ℕ → List ℕ → Word →
     List (List Step) → Type 0
 IsRunOff rule K site S command w1 w2 stamp heaps reply steps =
@@ -152,9 +154,11 @@ IsReadOff rule K site S n = IsAnswerOf rule K site S n.asked n.stamp n.heaps n.a
 
 -- the answer over these queues is a list with something in it
 abbrev pub is_list : Queues → Reading → Bool
-is_list queues (Ok (Zrange key range is_turned with_scores)) = is_there (ranged range (turned_if is_turned (queues key)))
+is_list queues (Ok (Zrange key range is_turned with_scores)) =
+    is_there (ranged range (turned_if is_turned (queues key)))
 is_list queues reading = false
 
 -- the answer, or, where that is such a list, that there was no memory for it
 abbrev pub IsOrShort : Bool → Word → Word → Type 0
-IsOrShort is_list answer reply = (reply ≡ answer) ⊎ ((is_list ≡ true) × (reply ≡ bytes_of (cut_error 0 Memory)))
+IsOrShort is_list answer reply = (reply ≡ answer)
+    ⊎ ((is_list ≡ true) × (reply ≡ bytes_of (cut_error 0 Memory)))

@@ -1,4 +1,5 @@
--- Several sites: their calls in one order, in which what a site takes was made before, and what it merges was had before.
+-- Several sites: their calls in one order, in which what a site takes was made before, and what it
+-- merges was had before.
 
 use Rattle.std.specs.Prelude.{List, [], if◌then◌else◌, ℕ, ◌++◌, ◌==◌, ◌∷◌, ◌≡◌}
 use Rattle.zq_dots.specs.Rule.{rule_of}
@@ -30,7 +31,8 @@ notes_at s events = notes_of (calls_of s events)
 
 -- the books of a new site
 abbrev pub empty_books : Rule → ℕ → Books
-empty_books rule K = λ h. opened (record { heap = h; heaps = K; rule = rule; image = empty_image }) 0 0
+empty_books rule K = λ h.
+    opened (record { heap = h; heaps = K; rule = rule; image = empty_image }) 0 0
 
 -- the books of a site that was new, after these events
 abbrev pub books_at : Rule → ℕ → ℕ → List Event → Books
@@ -60,7 +62,8 @@ made_from (e ∷ events) W = made_from events (made_in_all e.call.note.steps W)
 abbrev pub made_of : List Event → List Operation
 made_of events = made_from events []
 
--- what a site has after these events: what it made and took, and what the images that it merged cover
+-- what a site has after these events: what it made and took, and what the images that it merged
+-- cover
 abbrev pub has_at : List Operation → ℕ → List Event → List Operation
 has_at W s events = gathered W (notes_at s events) []
 
@@ -74,19 +77,24 @@ IsSent before (Took o) = IsIn o (made_of before)
 -- and an image that is merged in the heap h is what some site had there, now or before
 abbrev pub IsBrought : Rule → ℕ → List Event → ℕ → Step → Type 0
 IsBrought rule K before h (Recorded r) = IsSent before r.change
-IsBrought rule K before h (Merged stamp other) = (t : ℕ) × (past : List Event) × (later : List Event) × (before ≡ past ++ later) × (other ≡ (books_at rule K t past h).state)
+IsBrought rule K before h (Merged stamp other) = (t : ℕ) × (past : List Event)
+    × (later : List Event) × (before ≡ past ++ later) × (other ≡ (books_at rule K t past h).state)
 
 abbrev pub AreBrought : Rule → ℕ → List Event → ℕ → List Step → Type 0
 AreBrought rule K before h [] = Unit {0}
-AreBrought rule K before h (s ∷ steps) = IsBrought rule K before h s × AreBrought rule K before h steps
+AreBrought rule K before h (s ∷ steps) = IsBrought rule K before h s
+    × AreBrought rule K before h steps
 
 abbrev pub AreBroughtIn : Rule → ℕ → List Event → List ℕ → List (List Step) → Type 0
 AreBroughtIn rule K before [] steps = Unit {0}
 AreBroughtIn rule K before (h ∷ heaps) [] = Unit {0}
-AreBroughtIn rule K before (h ∷ heaps) (ss ∷ steps) = AreBrought rule K before h ss × AreBroughtIn rule K before heaps steps
+AreBroughtIn rule K before (h ∷ heaps) (ss ∷ steps) = AreBrought rule K before h ss
+    × AreBroughtIn rule K before heaps steps
 
--- the event is a call of the site of its number, over what that site's calls before it left, and what it takes and merges reached it
-pub record IsEventAfter (rule : Rule) (K : ℕ) (sites : ℕ → Site) (before : List Event) (e : Event) : Type 0 where
+-- the event is a call of the site of its number, over what that site's calls before it left, and
+-- what it takes and merges reached it
+pub record IsEventAfter (rule : Rule) (K : ℕ) (sites : ℕ →
+    Site) (before : List Event) (e : Event) : Type 0 where
   pub number : (sites e.site).number ≡ e.site
   pub heaps : heaps_of (sites e.site) ≡ K
   pub ruled : rule_of (sites e.site).rule ≡ rule
@@ -95,4 +103,5 @@ pub record IsEventAfter (rule : Rule) (K : ℕ) (sites : ℕ → Site) (before :
 
 -- such events, of sites that were new in the beginning
 abbrev pub AreEventsOf : Rule → ℕ → (ℕ → Site) → List Event → Type 0
-AreEventsOf rule K sites events = (before : List Event) (e : Event) (after : List Event) → events ≡ before ++ e ∷ after → IsEventAfter rule K sites before e
+AreEventsOf rule K sites events = (before : List Event) (e : Event) (after : List Event) →
+    events ≡ before ++ e ∷ after → IsEventAfter rule K sites before e

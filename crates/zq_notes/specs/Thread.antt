@@ -12,7 +12,8 @@ use Rattle.zq_notes.specs.Notes.{Books, Note}
 abbrev pub left_in : ℕ → List ℕ → List (List Step) → ℕ → Book → Book
 left_in stamp [] steps h b = b
 left_in stamp (k ∷ heaps) [] h b = b
-left_in stamp (k ∷ heaps) (ss ∷ steps) h b = if k == h then worked stamp ss b else left_in stamp heaps steps h b
+left_in stamp (k ∷ heaps) (ss ∷ steps) h b =
+    if k == h then worked stamp ss b else left_in stamp heaps steps h b
 
 -- the books after a call
 abbrev pub left_by : Note → Books → Books
@@ -31,7 +32,8 @@ pub record AreOwn (stamp : ℕ) (b : Book) (steps : List Step) : Type 0 where
 -- in each of these heaps
 abbrev pub AreOwnIn : ℕ → Books → List ℕ → List (List Step) → Type 0
 AreOwnIn stamp books [] [] = Unit {0}
-AreOwnIn stamp books (h ∷ heaps) (ss ∷ steps) = AreOwn stamp (books h) ss × AreOwnIn stamp books heaps steps
+AreOwnIn stamp books (h ∷ heaps) (ss ∷ steps) = AreOwn stamp (books h) ss
+    × AreOwnIn stamp books heaps steps
 AreOwnIn stamp books heaps steps = ⊥
 
 -- a site of this rule, of K heaps and this number
@@ -48,4 +50,5 @@ module _ (rule : Rule) (K site : ℕ) where
 
   -- each note is, in each of its heaps, over what the notes before it left in that heap
   abbrev pub AreOverLeft : Books → List Note → Type 0
-  AreOverLeft opening notes = (before : List Note) (n : Note) (after : List Note) → notes ≡ before ++ n ∷ after → IsNoteOver (left_by_all before opening) n
+  AreOverLeft opening notes = (before : List Note) (n : Note) (after : List Note) →
+      notes ≡ before ++ n ∷ after → IsNoteOver (left_by_all before opening) n

@@ -56,8 +56,8 @@ pub record IsRunnable (rule : Rule) (K count : ℕ) (before : List Event) (e : E
   pub uncut : IsUncut rule e.call.note.asked e.call.note.answer
       (map (books_at rule K e.site before) e.call.note.heaps) e.call.note.steps
 
--- so are all of these, of sites of K heaps, and they have fewer steps than the last stamp: so in the
--- run of a world no stamp and no count comes to its last value
+-- so are all of these, of sites of K heaps, and they have fewer steps than the last stamp: so in
+-- the run of a world no stamp and no count comes to its last value
 pub record AreRunnable (rule : Rule) (K count : ℕ) (events : List Event) : Type 0 where
   pub two : 2 ≤ K
   pub most : K ≤ 16

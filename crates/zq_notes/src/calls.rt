@@ -18,20 +18,31 @@ ghost use Rattle.zq_spread.specs.declared.site.Site.{Site};
 ghost use Rattle.zq_words.specs.Command.{Command};
 ghost use Rattle.zq_words.specs.Words.{Word};
 
-/// Each call of a site that held a heap leaves a note: what [`zq_spread::Site::call`], `try_call`, `take`, `merge`, `since`, `state` and `vector` promise is
-/// that there is one. A command that held none needs none, or was refused before it held any. An operation or a heap that is not of the site's kind is refused
-/// with no lock taken.
+/// Each call of a site that held a heap leaves a note: what [`zq_spread::Site::call`], `try_call`,
+/// `take`, `merge`, `since`, `state` and `vector` promise is that there is one. A command that held
+/// none needs none, or was refused before it held any. An operation or a heap that is not of the
+/// site's kind is refused with no lock taken.
 pub fn noting()
-    ensures calls { (site : Site) (p : ℕ) (before after : Pass) (command : Command) (w1 w2 : ℕ) (reply : Word) → IsCalled site command w1 w2 reply before after →
-        HasNote site p before after (ToRun command w1 w2) (Replied reply) ⊎ HeldNone site command w1 w2 reply before after }
-    ensures takes { (site : Site) (p : ℕ) (before after : Pass) (op : Placed) (result : Results Taken TakeFault) → IsOfSite site op →
-        IsCall (IsTaken after.stamp op result) before after (op.operation.heap ∷ []) → HasNote site p before after (ToTake op) (Handed result) }
-    ensures merges { (site : Site) (p : ℕ) (before after : Pass) (other : HeapImage) (result : Results (Unit {0}) MergeFault) → IsLikeSite site other →
-        IsCall (IsMerged after.stamp other result) before after (other.heap ∷ []) → HasNote site p before after (ToMerge other) (Joined result) }
-    ensures tells { (site : Site) (p : ℕ) (before after : Pass) (heap : ℕ) (vector : List ℕ) (result : Results Since ReadFault) → IsCall (IsAsked result) before after (heap ∷ []) →
-        IfOk result (λ since. HasSeenBook after heap (IsSince vector since)) → HasNote site p before after (ToTell heap vector) (Told result) }
-    ensures copies { (site : Site) (p : ℕ) (before after : Pass) (heap : ℕ) (result : Results HeapImage ReadFault) → IsCall (IsCopied result) before after (heap ∷ []) →
+    ensures calls { (site : Site) (p : ℕ) (before after : Pass) (command : Command) (w1 w2 : ℕ)
+        (reply : Word) → IsCalled site command w1 w2 reply before after →
+        HasNote site p before after (ToRun command w1 w2) (Replied reply)
+        ⊎ HeldNone site command w1 w2 reply before after }
+    ensures takes { (site : Site) (p : ℕ) (before after : Pass) (op : Placed)
+        (result : Results Taken TakeFault) → IsOfSite site op →
+        IsCall (IsTaken after.stamp op result) before after (op.operation.heap ∷ []) →
+        HasNote site p before after (ToTake op) (Handed result) }
+    ensures merges { (site : Site) (p : ℕ) (before after : Pass) (other : HeapImage)
+        (result : Results (Unit {0}) MergeFault) → IsLikeSite site other →
+        IsCall (IsMerged after.stamp other result) before after (other.heap ∷ []) →
+        HasNote site p before after (ToMerge other) (Joined result) }
+    ensures tells { (site : Site) (p : ℕ) (before after : Pass) (heap : ℕ) (vector : List ℕ)
+        (result : Results Since ReadFault) → IsCall (IsAsked result) before after (heap ∷ []) →
+        IfOk result (λ since. HasSeenBook after heap (IsSince vector since)) →
+        HasNote site p before after (ToTell heap vector) (Told result) }
+    ensures copies { (site : Site) (p : ℕ) (before after : Pass) (heap : ℕ)
+        (result : Results HeapImage ReadFault) → IsCall (IsCopied result) before after (heap ∷ []) →
         HasNote site p before after (ToCopy heap) (Copied result) }
-    ensures shows { (site : Site) (p : ℕ) (before after : Pass) (heap : ℕ) (vector : List ℕ) → IsCall (IsShown vector) before after (heap ∷ []) →
+    ensures shows { (site : Site) (p : ℕ) (before after : Pass) (heap : ℕ) (vector : List ℕ) →
+        IsCall (IsShown vector) before after (heap ∷ []) →
         HasNote site p before after (ToShow heap) (Shown vector) }
 {}

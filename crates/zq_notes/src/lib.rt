@@ -1,6 +1,8 @@
-//! The history of a site's calls: notes of them, in an order in which each found what those before it left, are one thread's; what they come to at several sites.
+//! The history of a site's calls: notes of them, in an order in which each found what those before
+//! it left, are one thread's; what they come to at several sites.
 //!
-//! The definitions are in `specs/`. Each law of them is the contract of a public function with an empty body.
+//! The definitions are in `specs/`. Each law of them is the contract of a public function with an
+//! empty body.
 #![tactic(auto)]
 
 mod calls;

@@ -24,34 +24,58 @@ ghost use Rattle.zq_words.specs.Words.{Word};
 
 use zq_model::naming;
 
-/// Where what the calls make, take and merge is of one world, each heap is the image of the operations gathered, which are a closed
-/// set of that world. A new site's heaps are the images of none.
+/// Where what the calls make, take and merge is of one world, each heap is the image of the
+/// operations gathered, which are a closed set of that world. A new site's heaps are the images of
+/// none.
 pub fn gathering_notes()
-    ensures opens { (rule : Rules) (K : ℕ) (W : List Operation) → AreImagesOf rule K W [] (λ h. opened (record { heap = h; heaps = K; rule = rule; image = empty_image }) 0 0) }
-    ensures gathers { (rule : Rules) (K site : ℕ) (W : List Operation) → 2 ≤ K → IsWorld K W → (S : List Operation) (opening : Books) (notes : List Note) →
-        AreImagesOf rule K W S opening → IsOneThread rule K site opening notes → AreOfWorld W notes → AreImagesOf rule K W (gathered W notes S) (left_by_all notes opening) }
+    ensures opens { (rule : Rules) (K : ℕ) (W : List Operation) →
+        AreImagesOf rule K W []
+        (λ h. opened (record { heap = h; heaps = K; rule = rule; image = empty_image }) 0 0) }
+    ensures gathers { (rule : Rules) (K site : ℕ) (W : List Operation) → 2 ≤ K → IsWorld K W →
+        (S : List Operation) (opening : Books) (notes : List Note) →
+        AreImagesOf rule K W S opening → IsOneThread rule K site opening notes →
+        AreOfWorld W notes → AreImagesOf rule K W (gathered W notes S)
+        (left_by_all notes opening) }
 {}
 
-/// Then each call's answer and steps are read off the operations that were gathered before it: a command's by the queues that they mean.
-/// A command that only reads is answered what the set answers, or, where that is a list with something in it, that there is no memory; and equal sets answer alike.
-/// So it is for the calls of a site's threads, each of which found in its heaps what those before it left there.
+/// Then each call's answer and steps are read off the operations that were gathered before it: a
+/// command's by the queues that they mean. A command that only reads is answered what the set
+/// answers, or, where that is a list with something in it, that there is no memory; and equal sets
+/// answer alike. So it is for the calls of a site's threads, each of which found in its heaps what
+/// those before it left there.
 pub fn reading_notes()
-    ensures reads { (rule : Rules) (K site : ℕ) (W : List Operation) → 2 ≤ K → IsWorld K W → (S : List Operation) (opening : Books) (before : List Note) (n : Note) (after : List Note) →
-        AreImagesOf rule K W S opening → IsOneThread rule K site opening (before ++ n ∷ after) → AreOfWorld W (before ++ n ∷ after) → IsReadOff rule K site (gathered W before S) n }
-    ensures serves { (site : Sites) (W : List Operation) (opening : Books) (before : List Call) (c : Call) (after : List Call) → IsWorld (heaps_of site) W →
-        AreImagesOf (rule_of site.rule) (heaps_of site) W [] opening → AreCallsFrom site opening (before ++ c ∷ after) → AreOfWorld W (notes_of (before ++ c ∷ after)) →
-        IsReadOff (rule_of site.rule) (heaps_of site) site.number (gathered W (notes_of before) []) c.note }
-    ensures stays { (site : Sites) (W : List Operation) (opening : Books) (before : List Call) (c : Call) (after : List Call) → IsWorld (heaps_of site) W →
-        AreImagesOf (rule_of site.rule) (heaps_of site) W [] opening → AreCallsFrom site opening (before ++ c ∷ after) → AreOfWorld W (notes_of (before ++ c ∷ after)) →
+    ensures reads { (rule : Rules) (K site : ℕ) (W : List Operation) → 2 ≤ K → IsWorld K W →
+        (S : List Operation) (opening : Books) (before : List Note) (n : Note) (after : List Note) →
+        AreImagesOf rule K W S opening → IsOneThread rule K site opening (before ++ n ∷ after) →
+        AreOfWorld W (before ++ n ∷ after) → IsReadOff rule K site (gathered W before S) n }
+    ensures serves { (site : Sites) (W : List Operation) (opening : Books) (before : List Call)
+        (c : Call) (after : List Call) → IsWorld (heaps_of site) W →
+        AreImagesOf (rule_of site.rule) (heaps_of site) W [] opening →
+        AreCallsFrom site opening (before ++ c ∷ after) →
+        AreOfWorld W (notes_of (before ++ c ∷ after)) →
+        IsReadOff (rule_of site.rule) (heaps_of site) site.number
+        (gathered W (notes_of before) []) c.note }
+    ensures stays { (site : Sites) (W : List Operation) (opening : Books) (before : List Call)
+        (c : Call) (after : List Call) → IsWorld (heaps_of site) W →
+        AreImagesOf (rule_of site.rule) (heaps_of site) W [] opening →
+        AreCallsFrom site opening (before ++ c ∷ after) →
+        AreOfWorld W (notes_of (before ++ c ∷ after)) →
         IsWorld (heaps_of site) (gathered W (notes_of before) []) }
-    ensures asks { (rule : Rules) (K : ℕ) (S : List Operation) (w1 w2 : ℕ) (command : Command) (moves : List Move) (reply : Word) → 2 ≤ K → IsWorld K S → is_reading command ≡ true →
-        IsRunOf rule K S w1 w2 command moves reply → IsOrShort (is_list (queues_over rule S (heaps_in K)) (Ok command)) (bytes_of (plan_of command (queues_over rule S (heaps_in K))).reply) reply }
-    ensures alike { (rule : Rules) (K : ℕ) (W S T : List Operation) → IsWorld K W → ((o : Operation) → IsIn o S → IsIn o W) → AreSame S T →
+    ensures asks { (rule : Rules) (K : ℕ) (S : List Operation) (w1 w2 : ℕ) (command : Command)
+        (moves : List Move) (reply : Word) → 2 ≤ K → IsWorld K S → is_reading command ≡ true →
+        IsRunOf rule K S w1 w2 command moves reply →
+        IsOrShort (is_list (queues_over rule S (heaps_in K)) (Ok command))
+        (bytes_of (plan_of command (queues_over rule S (heaps_in K))).reply) reply }
+    ensures alike { (rule : Rules) (K : ℕ) (W S T : List Operation) → IsWorld K W →
+        ((o : Operation) → IsIn o S → IsIn o W) → AreSame S T →
         queues_over rule S (heaps_in K) ≡ queues_over rule T (heaps_in K) }
-    ensures agree { (rule : Rules) (K : ℕ) (W S T : List Operation) → IsWorld K W → ((o : Operation) → IsIn o S → IsIn o W) → AreSame S T → (words : List Word) →
+    ensures agree { (rule : Rules) (K : ℕ) (W S T : List Operation) → IsWorld K W →
+        ((o : Operation) → IsIn o S → IsIn o W) → AreSame S T → (words : List Word) →
         answer_of rule K S words ≡ answer_of rule K T words }
-    ensures queues { (rule : Rules) (K : ℕ) (S : List Operation) → 2 ≤ K → IsWorld K S → (key : List ℕ) → IsWholeQueue rule S key (queues_over rule S (heaps_in K) key) }
-    ensures drawn { (rule : Rules) (K : ℕ) (S : List Operation) (heaps : List ℕ) → IsWorld K S → (key : List ℕ) → IsQueue rule K S key heaps (queues_over rule S heaps key) }
+    ensures queues { (rule : Rules) (K : ℕ) (S : List Operation) → 2 ≤ K → IsWorld K S →
+        (key : List ℕ) → IsWholeQueue rule S key (queues_over rule S (heaps_in K) key) }
+    ensures drawn { (rule : Rules) (K : ℕ) (S : List Operation) (heaps : List ℕ) → IsWorld K S →
+        (key : List ℕ) → IsQueue rule K S key heaps (queues_over rule S heaps key) }
 {
     // A member's score over books is the one that their set means.
     naming();

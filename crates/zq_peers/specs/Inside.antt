@@ -11,4 +11,5 @@ waiting_in tray = record { messages = tray.waiting.items; over = tray.over; room
 -- the flag says whether a Tick waits, and where none does there is room for it
 pub record IsTray (tray : Inside) : Type 0 where
   pub flag : ticks_in tray.waiting.items ≡ (if tray.ticks then 1 else 0)
-  pub room : length tray.waiting.items + 1 ≤ deque_capacity tray.waiting + ticks_in tray.waiting.items
+  pub room : length tray.waiting.items + 1 ≤ deque_capacity tray.waiting
+      + ticks_in tray.waiting.items

@@ -8,7 +8,8 @@ use Rattle.zq_peers.specs.declared.tray.Taken.{Taken}
 
 -- the frame was given where so many messages may wait
 abbrev pub IsSlip : ℕ → Slip → Type 0
-IsSlip most slip = IsGiven most slip.from slip.frame.value slip.before.value slip.fate slip.after.value
+IsSlip most slip = IsGiven most slip.from slip.frame.value slip.before.value slip.fate
+    slip.after.value
 
 -- the message was the one that is taken next, and then it waits no more
 pub record IsTaken (message : Message) (taken : Taken) : Type 0 where

@@ -7,7 +7,8 @@ use Rattle.zq_links.specs.declared.message.Message.TheVariants.{Frame, Stop, Tic
 use Rattle.zq_peers.specs.declared.tray.Fate.{Fate}
 use Rattle.zq_peers.specs.declared.tray.Fate.TheVariants.{Lost, NoMemory, Waits}
 
--- messages, the oldest first, whether nothing more comes in, and how many have room before more memory is asked for
+-- messages, the oldest first, whether nothing more comes in, and how many have room before more
+-- memory is asked for
 pub record Waiting : Type 0 where
   pub messages : List Message
   pub over : Bool
@@ -29,7 +30,8 @@ has_tick messages = nat_lt 0 (ticks_in messages)
 
 -- the message, behind all that wait
 abbrev pub with_message : Message → Waiting → Waiting
-with_message message w = record { messages = w.messages ++ message ∷ []; over = w.over; room = w.room }
+with_message message w =
+    record { messages = w.messages ++ message ∷ []; over = w.over; room = w.room }
 
 -- a Tick waits, and no more than one
 abbrev pub ticked : Waiting → Waiting
@@ -48,12 +50,14 @@ pub record IsRoomier (w new : Waiting) : Type 0 where
   pub over : new.over ≡ w.over
   pub room : w.room ≤ new.room
 
--- What became of a frame: where as many messages wait as may it is lost and a Tick waits, else it waits. There was no memory for it only where there was no room for a frame
--- and a Tick.
+-- What became of a frame: where as many messages wait as may it is lost and a Tick waits, else it
+-- waits. There was no memory for it only where there was no room for a frame and a Tick.
 abbrev pub IsGiven : ℕ → ℕ → Vec ℕ Global → Waiting → Fate → Waiting → Type 0
-IsGiven most from bytes old Waits new = (is_full most old ≡ false) × IsRoomier (with_message (Frame from bytes) old) new
+IsGiven most from bytes old Waits new = (is_full most old ≡ false)
+    × IsRoomier (with_message (Frame from bytes) old) new
 IsGiven most from bytes old Lost new = (is_full most old ≡ true) × (new ≡ ticked old)
-IsGiven most from bytes old NoMemory new = (is_full most old ≡ false) × IsRoomier old new × (old.room < length old.messages + 2)
+IsGiven most from bytes old NoMemory new = (is_full most old ≡ false) × IsRoomier old new
+    × (old.room < length old.messages + 2)
 
 -- the message that is taken next, if there is one: the first, and in the end a Stop
 abbrev pub next_of : List Message → Bool → Option Message

@@ -3,7 +3,8 @@
 use Rattle.std.specs.Prelude.{Bool, Err, Ok, Result, ℕ, ◌≡◌}
 use Rattle.zq_peers.specs.declared.unheard.Unheard.{Unheard}
 
--- how a witness is told: the state before, the site, why its frame was not heard, and the state after
+-- how a witness is told: the state before, the site, why its frame was not heard, and the state
+-- after
 abbrev pub Telling : Type 0 → Type 1
 Telling T = T → ℕ → Unheard → T → Type 0
 

@@ -28,9 +28,10 @@ pub struct Link {
 }
 
 impl Link {
-    /// Takes messages from the inbox, one after the other, up to the first Stop, and does what each asks for. At a Tick it
-    /// tells the other sites what this one has; a frame it hears, and sends what comes of it. What fails is dropped as if it
-    /// had been lost; of each frame that was not heard the witness is told.
+    /// Takes messages from the inbox, one after the other, up to the first Stop, and does what each
+    /// asks for. At a Tick it tells the other sites what this one has; a frame it hears, and sends
+    /// what comes of it. What fails is dropped as if it had been lost; of each frame that was not
+    /// heard the witness is told.
     pub fn attend<R: Wait, I: Inbox, C: Carry, T: Witness>(
         &self,
         rt: &R,
@@ -45,7 +46,8 @@ impl Link {
         ensures home { IsSameHome node.old node.new }
         ensures moves { (messages : List Messages)
             × AreTaken I.gives inbox.old inbox.new (Stop ∷ messages)
-            × AreMoves (IsSent C.carries) T.tells self.now.others.items (end_of node.old carrier.old witness.old)
+            × AreMoves (IsSent C.carries) T.tells self.now.others.items
+            (end_of node.old carrier.old witness.old)
             (end_of node.new carrier.new witness.new) messages }
     {
         self.work(rt, alloc, inbox, node, carrier, witness);
@@ -66,7 +68,8 @@ impl Link {
         ensures home { IsSameHome node.old node.new }
         ensures moves { (messages : List Messages)
             × AreTaken I.gives inbox.old inbox.new (Stop ∷ messages)
-            × AreMoves S.sends T.tells self.now.others.items (end_of node.old sender.old witness.old)
+            × AreMoves S.sends T.tells self.now.others.items
+            (end_of node.old sender.old witness.old)
             (end_of node.new sender.new witness.new) messages }
     {
         for _ in rt.forever() {
@@ -91,7 +94,8 @@ impl Link {
         ensures node { IsNode node.new }
         ensures home { IsSameHome node.old node.new }
         ensures goes_on { IsTrue result ↔ GoesOn message }
-        ensures moved { IsMove S.sends T.tells self.now.others.items (end_of node.old sender.old witness.old)
+        ensures moved { IsMove S.sends T.tells self.now.others.items
+            (end_of node.old sender.old witness.old)
             (end_of node.new sender.new witness.new) message }
     {
         match message {

@@ -1,5 +1,5 @@
-//! The link threads of sites: each takes what comes to its site, has the site's node hear it, and carries what comes of
-//! it to the other sites.
+//! The link threads of sites: each takes what comes to its site, has the site's node hear it, and
+//! carries what comes of it to the other sites.
 #![tactic(auto)]
 
 mod attending;

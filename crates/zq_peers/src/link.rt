@@ -19,7 +19,8 @@ use zq_posheap::Seeded;
 /// Sends each of the frames to a site, in this order, and says whether there was memory for all.
 fn send_all<S: Sends>(alloc: Global, sender: &mut S, to: SiteNo, frames: &[Frame]) -> bool
     requires { All IsWritable frames.now }
-    ensures { AreCarried S.sends sender.old sender.new (sent_to to (map frame_of frames.now)) result }
+    ensures { AreCarried S.sends sender.old sender.new
+        (sent_to to (map frame_of frames.now)) result }
 {
     let mut whole = true;
     for frame in frames {
@@ -42,8 +43,8 @@ fn send_each<S: Sends>(alloc: Global, sender: &mut S, parcels: &[(SiteNo, Frame)
     whole
 }
 
-/// Sends a Have of each heap, in rising order, to each of these sites in turn, and says whether there was memory for
-/// all: a frame for which there was none is lost.
+/// Sends a Have of each heap, in rising order, to each of these sites in turn, and says whether
+/// there was memory for all: a frame for which there was none is lost.
 ///
 /// `Worn` and `NoMemory` as [`Node::haves`] says. Then nothing is sent.
 pub(crate) fn tell<R: Wait, S: Sends>(
@@ -67,12 +68,13 @@ pub(crate) fn tell<R: Wait, S: Sends>(
     Ok(whole)
 }
 
-/// Has the node hear the frame that the bytes are, and sends what comes of it, to the sites that the node names. It says
-/// whether there was memory for all of that: a frame for which there was none is lost. A state that is heard uses this
-/// hasher.
+/// Has the node hear the frame that the bytes are, and sends what comes of it, to the sites that
+/// the node names. It says whether there was memory for all of that: a frame for which there was
+/// none is lost. A state that is heard uses this hasher.
 ///
-/// `Unread` where the bytes are no frame, or there was no memory to read them, as [`read_frame`] says: then nothing
-/// happens. `Refused` where the node refuses the frame, as [`Node::hear`] says: then nothing is sent.
+/// `Unread` where the bytes are no frame, or there was no memory to read them, as [`read_frame`]
+/// says: then nothing happens. `Refused` where the node refuses the frame, as [`Node::hear`] says:
+/// then nothing is sent.
 pub(crate) fn hear<R: Wait, S: Sends>(
     rt: &R,
     alloc: Global,

@@ -14,8 +14,9 @@ use std::alloc::{AllocError, Global};
 use zq_dots::SiteNo;
 use zq_links::Faulty;
 
-/// Carries frames over links that lose frames, double them and change their order: one [`Faulty`] for each site, which is
-/// given the next word of a generator with each frame. What the link passes on goes to the carrier inside.
+/// Carries frames over links that lose frames, double them and change their order: one [`Faulty`]
+/// for each site, which is given the next word of a generator with each frame. What the link passes
+/// on goes to the carrier inside.
 #[derive(Drop)]
 pub struct Lossy<C: Carry> {
     links: Vec<Faulty>,
@@ -24,8 +25,8 @@ pub struct Lossy<C: Carry> {
 }
 
 impl<C: Carry + Drop> Lossy<C> {
-    /// Links to the sites below this number, which hold nothing back, with words of a `Pcg32` of this seed. For no site it
-    /// takes no memory.
+    /// Links to the sites below this number, which hold nothing back, with words of a `Pcg32` of
+    /// this seed. For no site it takes no memory.
     pub fn new(alloc: Global, sites: u8, seed: u64, carrier: C) -> Result<Lossy<C>, AllocError>
         ensures links { IfOk result (λ lossy. lossy.links.items ≡ replicate sites []) }
         ensures words { IfOk result (λ lossy. lossy.words ≡ pcg32_of_seed (pcg32_seed 16 seed)) }
@@ -65,7 +66,8 @@ fn pass_over<C: Carry>(
     word: u32,
     frame: Vec<u8>,
 ) -> bool
-    ensures { IsPassed C.carries link.old link.new carrier.old carrier.new to word frame.items result }
+    ensures { IsPassed C.carries link.old link.new carrier.old carrier.new to word frame.items
+        result }
 {
     match link.pass(alloc, word, frame) {
         Ok(frames) => carry_all(alloc, carrier, to, frames),
@@ -76,7 +78,9 @@ fn pass_over<C: Carry>(
 impl<C: Carry> Carry for Lossy<C> {
     ghost use Rattle.zq_peers.specs.Lossy.{IsLossy};
 
-    ghost carries = { λ old to frame whole new. IsLossy C.carries old.links.items new.links.items old.words new.words old.carrier new.carrier to frame whole };
+    ghost carries = { λ old to frame whole new.
+        IsLossy C.carries old.links.items new.links.items old.words new.words old.carrier
+        new.carrier to frame whole };
 
     fn carry(&mut self, alloc: Global, to: SiteNo, frame: Vec<u8>) -> bool {
         let Some(link) = self.links.get_mut(usize::from(to.value())) else {

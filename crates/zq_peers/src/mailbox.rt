@@ -11,13 +11,16 @@ use std::sync::{Condvar, Mutex, Wait};
 use zq_dots::SiteNo;
 use zq_links::Message;
 
-/// Where messages wait for a site's link thread. Any thread may send to it; the link thread alone takes from it.
+/// Where messages wait for a site's link thread. Any thread may send to it; the link thread alone
+/// takes from it.
 ///
-/// Of Ticks one waits at most: the site's threads send one after each call, and the link thread, which then says what
-/// the site has by now, owes them one answer for all. A frame comes in where fewer messages wait than may: else it is
-/// lost, and a Tick comes in its place, by which the site will say what it has, and be told what it lacks.
+/// Of Ticks one waits at most: the site's threads send one after each call, and the link thread,
+/// which then says what the site has by now, owes them one answer for all. A frame comes in where
+/// fewer messages wait than may: else it is lost, and a Tick comes in its place, by which the site
+/// will say what it has, and be told what it lacks.
 ///
-/// A tray keeps what waits, under a lock. A call here takes the lock, calls the tray, and wakes the link thread.
+/// A tray keeps what waits, under a lock. A call here takes the lock, calls the tray, and wakes the
+/// link thread.
 #[derive(Drop)]
 pub struct Mailbox {
     tray: Mutex<Tray>,
@@ -74,8 +77,8 @@ impl Mailbox {
         self.changed.notify_one();
     }
 
-    /// Sends a frame that came from this site, for a receipt. Where as many messages wait as may it is lost, and a Tick is
-    /// sent. Where there is no memory for it it is lost.
+    /// Sends a frame that came from this site, for a receipt. Where as many messages wait as may it
+    /// is lost, and a Tick is sent. Where there is no memory for it it is lost.
     pub fn give<R: Wait>(&self, rt: &R, from: SiteNo, bytes: Vec<u8>) -> Handed
         ensures mailbox { result.mailbox.value ≡ self.now }
         ensures from { result.slip.from ≡ from }

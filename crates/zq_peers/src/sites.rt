@@ -6,7 +6,8 @@ ghost use Rattle.zq_peers.specs.Sites.{others_below};
 use std::alloc::{AllocError, Global};
 use zq_dots::SiteNo;
 
-/// The sites below this number, at most 64, but for this one, in rising order. Where there are none it takes no memory.
+/// The sites below this number, at most 64, but for this one, in rising order. Where there are none
+/// it takes no memory.
 #[tactic(auto, unfolding(zq_model::specs::Sets::SITES))]
 pub fn others(alloc: Global, number: SiteNo, sites: u8) -> Result<Vec<SiteNo>, AllocError>
     requires { sites ≤ sets.SITES }

@@ -7,8 +7,8 @@ use std::alloc::Global;
 use std::sync::Wait;
 use zq_dots::SiteNo;
 
-/// Carries each frame of a site straight into the mailbox of the site that it goes to. Site N's is at place N; a frame
-/// for a site that has none is dropped.
+/// Carries each frame of a site straight into the mailbox of the site that it goes to. Site N's is
+/// at place N; a frame for a site that has none is dropped.
 #[derive(Drop)]
 pub struct Straight<'a, R: Wait> {
     rt: &'a R,
@@ -37,7 +37,8 @@ impl<'a, R: Wait> Straight<'a, R> {
 impl<'a, R: Wait> Carry for Straight<'a, R> {
     ghost use Rattle.zq_peers.specs.Handings.{IsHandedOn};
 
-    ghost carries = { λ old to frame whole new. IsHandedOn old.mailboxes.now new.mailboxes.now old.from new.from to frame whole new.last };
+    ghost carries = { λ old to frame whole new.
+        IsHandedOn old.mailboxes.now new.mailboxes.now old.from new.from to frame whole new.last };
 
     fn carry(&mut self, _alloc: Global, to: SiteNo, frame: Vec<u8>) -> bool {
         match self.mailboxes.get(usize::from(to.value())) {

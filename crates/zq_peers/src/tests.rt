@@ -31,7 +31,8 @@ fn site(number: u8) -> Result<SiteNo, Fail> {
     Ok(SiteNo::new(number).ok_or("a site")?)
 }
 
-/// Gives a mailbox in which so many messages may wait two frames more, and looks at what is taken then.
+/// Gives a mailbox in which so many messages may wait two frames more, and looks at what is taken
+/// then.
 fn check_full<R: Wait + Abort>(rt: &R, alloc: Global, most: u8) -> Result<(), Fail> {
     let mailbox = Mailbox::new(alloc, usize::from(most))?;
     let from = site(1)?;

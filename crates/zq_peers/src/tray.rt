@@ -21,8 +21,8 @@ pub enum Fate {
     NoMemory,
 }
 
-/// A receipt: the frame of this site was given, and this became of it. Only a tray makes one. It takes the room of a site
-/// and a fate.
+/// A receipt: the frame of this site was given, and this became of it. Only a tray makes one. It
+/// takes the room of a site and a fate.
 #[derive(Drop)]
 pub struct Slip {
     from: SiteNo,
@@ -53,8 +53,8 @@ impl Slip {
     }
 }
 
-/// What waits for a link thread, the oldest first: frames, and a Tick at most. There is always room for the Tick. Where it
-/// was stopped nothing more comes in, and a Stop follows what waits.
+/// What waits for a link thread, the oldest first: frames, and a Tick at most. There is always room
+/// for the Tick. Where it was stopped nothing more comes in, and a Stop follows what waits.
 #[derive(Drop)]
 pub(crate) struct Tray {
     waiting: VecDeque<Message>,
@@ -117,8 +117,8 @@ impl Tray {
         self.over = true;
     }
 
-    /// The frame of this site waits, behind all that wait. Where so many messages wait it is lost, and a Tick waits in its
-    /// place. Where there is no memory it is lost.
+    /// The frame of this site waits, behind all that wait. Where so many messages wait it is lost,
+    /// and a Tick waits in its place. Where there is no memory it is lost.
     pub(crate) fn give(&mut self, most: usize, from: SiteNo, bytes: Vec<u8>) -> Slip
         ensures from { result.from ≡ from }
         ensures frame { result.frame.value ≡ bytes }
@@ -156,7 +156,8 @@ impl Tray {
         Fate::Waits
     }
 
-    /// What waits first, which then waits no more, with a receipt. Where it was stopped, and nothing else waits, it is a Stop.
+    /// What waits first, which then waits no more, with a receipt. Where it was stopped, and
+    /// nothing else waits, it is a Stop.
     pub(crate) fn take(&mut self) -> Option<(Message, Taken)>
         ensures next { option_map (λ t. t.0) result ≡ next_in self.old }
         ensures left { self.new ≡ left_in self.old }

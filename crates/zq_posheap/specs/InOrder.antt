@@ -17,11 +17,13 @@ pub record Splits (all firsts : List (ℤ × Bor (List ℕ))) (count : ℕ) : Ty
   pub others : List (ℤ × Bor (List ℕ))
   pub permutation : IsPermutation all (firsts ++ others)
   pub len : length firsts ≡ count
-  pub split : (x y : ℤ × Bor (List ℕ)) → Contains firsts x → Contains others y → is_lt (scored_cmp (lent_pair y) (lent_pair x)) ≡ false
+  pub split : (x y : ℤ × Bor (List ℕ)) → Contains firsts x → Contains others y →
+      is_lt (scored_cmp (lent_pair y) (lent_pair x)) ≡ false
 
 -- lasts has all but so many of all, and none of these goes after one of it
 pub record Leaves (all lasts : List (ℤ × Bor (List ℕ))) (count : ℕ) : Type 0 where
   pub firsts : List (ℤ × Bor (List ℕ))
   pub permutation : IsPermutation all (firsts ++ lasts)
   pub len : length firsts ≡ count
-  pub split : (x y : ℤ × Bor (List ℕ)) → Contains firsts x → Contains lasts y → is_lt (scored_cmp (lent_pair y) (lent_pair x)) ≡ false
+  pub split : (x y : ℤ × Bor (List ℕ)) → Contains firsts x → Contains lasts y →
+      is_lt (scored_cmp (lent_pair y) (lent_pair x)) ≡ false

@@ -29,7 +29,8 @@ abbrev pub AllInRange : {V : Type 0} → List (Row V) → Type 0
 AllInRange {V} rows = (i : ℕ) (row : Row V) → slice_get rows i ≡ Some row → FitsSigned w128 row.0.0
 
 -- the list has just what the map has, and no two of one member
-pub record IsListing {X : Type 0} (m : FinMap (slice_cmp nat_cmp) X) (pairs : List (X × List ℕ)) : Type 0 where
+pub record IsListing {X : Type 0} (m : FinMap (slice_cmp nat_cmp) X)
+    (pairs : List (X × List ℕ)) : Type 0 where
   pub has : (pair : X × List ℕ) → (Contains pairs pair ↔ (get m pair.1 ≡ Some pair.0))
   pub once : AllPairs (λ x y. x.1 ≢ y.1) pairs
 

@@ -24,8 +24,11 @@ pub record Members (V : Type 0) : Type 0 where
   pub room : ℕ
 
 abbrev pub members_code : {V : Type 0} → Coded V → Coded (Members V)
-members_code {V} v = code_by (Entries V × (List (List ℕ) × ℕ)) (coded× (code (coded_list coded_ℕ) (coded× coded_ℤ v)) (coded× (coded_list (coded_list coded_ℕ)) coded_ℕ))
-    (λ m. (m.held, (m.places, m.room))) (λ p. record { held = p.0; places = p.1.0; room = p.1.1 }) (λ _. refl)
+members_code {V} v = code_by (Entries V × (List (List ℕ) × ℕ))
+    (coded× (code (coded_list coded_ℕ) (coded× coded_ℤ v))
+    (coded× (coded_list (coded_list coded_ℕ)) coded_ℕ))
+    (λ m. (m.held, (m.places, m.room))) (λ p. record { held = p.0; places = p.1.0; room = p.1.1 })
+    (λ _. refl)
 
 -- the scores alone
 abbrev pub scores_of : {V : Type 0} → Entries V → Scores

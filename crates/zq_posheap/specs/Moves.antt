@@ -53,7 +53,9 @@ AreKnown heap = (p : ℕ) (s : Slot) → slice_get heap.slots.items p ≡ Some s
 
 -- how many members more find room in all three
 abbrev pub room_of : {V : Type 0} → Heap V → ℕ
-room_of heap = min (spare heap.members) (min (vec_capacity heap.slots - length heap.slots.items) (vec_capacity heap.positions - length heap.positions.items))
+room_of heap = min (spare heap.members)
+    (min (vec_capacity heap.slots - length heap.slots.items)
+    (vec_capacity heap.positions - length heap.positions.items))
 
 -- new has the members and the room of old, and as many places
 pub record KeepsMembers {V : Type 0} (old new : Heap V) : Type 0 where
@@ -74,4 +76,5 @@ queue_with heap place slot = scored_slots (pairs_in heap) (slice_set heap.slots.
 pub record HasHole {V : Type 0} (heap : Heap V) (place : ℕ) (slot : Slot) : Type 0 where
   pub within : place < length heap.slots.items
   pub known : AreKnown heap
-  pub linked : IsLinked (slice_set heap.slots.items place slot) (slice_set heap.positions.items slot.index place) (nears_in heap)
+  pub linked : IsLinked (slice_set heap.slots.items place slot)
+      (slice_set heap.positions.items slot.index place) (nears_in heap)

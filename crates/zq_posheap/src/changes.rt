@@ -23,7 +23,8 @@ fn exchange<V>(
     value: V,
 ) -> V
     requires { index < index_map_len members.old }
-    ensures given { (w : Held V) → slice_get (values members.old) index ≡ Some w → result ≡ w.value }
+    ensures given { (w : Held V) → slice_get (values members.old) index ≡ Some w →
+        result ≡ w.value }
     ensures noted { (w : Held V) → slice_get (values members.old) index ≡ Some w →
         members.new ≡ with_value_at members.old index (record { score = score; value = value }) }
     ensures unique { IsUnique same_key members.old }
@@ -38,7 +39,8 @@ impl<V: Drop> Heap<V> {
     pub(crate) fn at(&self, index: usize) -> &Held<V>
         requires { index < index_map_len self.now.members }
         ensures there { slice_get (values self.now.members) index ≡ Some result.now }
-        ensures held { get (entries_map self.now) (member_of self.now index) ≡ Some (shown result.now) }
+        ensures held { get (entries_map self.now) (member_of self.now index)
+            ≡ Some (shown result.now) }
     {
         let (_, held) = self.members.get_index(index).unwrap();
         held
@@ -48,8 +50,10 @@ impl<V: Drop> Heap<V> {
     pub(crate) fn replace(&mut self, index: usize, score: i128, value: V) -> V
         requires whole { IsWhole self.old }
         requires within { index < index_map_len self.old.members }
-        ensures given { option_map (λ e. e.1) (get (entries_map self.old) (member_of self.old index)) ≡ Some result }
-        ensures held { entries_map self.new ≡ insert (entries_map self.old) (member_of self.old index) (score, value) }
+        ensures given { option_map (λ e. e.1)
+            (get (entries_map self.old) (member_of self.old index)) ≡ Some result }
+        ensures held { entries_map self.new
+            ≡ insert (entries_map self.old) (member_of self.old index) (score, value) }
         ensures members { keys self.new.members ≡ keys self.old.members }
         ensures room { room_of self.new ≡ room_of self.old }
         ensures still_whole { IsWhole self.new }
@@ -100,8 +104,10 @@ impl<V: Drop> Heap<V> {
     pub(crate) fn take_out(&mut self, index: usize) -> Held<V>
         requires whole { IsWhole self.old }
         requires within { index < index_map_len self.old.members }
-        ensures given { get (entries_map self.old) (member_of self.old index) ≡ Some (shown result) }
-        ensures held { entries_map self.new ≡ remove (entries_map self.old) (member_of self.old index) }
+        ensures given { get (entries_map self.old) (member_of self.old index)
+            ≡ Some (shown result) }
+        ensures held { entries_map self.new
+            ≡ remove (entries_map self.old) (member_of self.old index) }
         ensures more { room_of self.old ≤ room_of self.new }
         ensures still_whole { IsWhole self.new }
     {
@@ -117,7 +123,8 @@ impl<V: Drop> Heap<V> {
         requires linked { IsLinkedHeap self.old }
         requires within { place < length self.old.slots.items }
         ensures moves { OnlyMoves self.old self.new }
-        ensures last { slice_get self.new.slots.items (length self.old.slots.items - 1) ≡ slice_get self.old.slots.items place }
+        ensures last { slice_get self.new.slots.items (length self.old.slots.items - 1)
+            ≡ slice_get self.old.slots.items place }
         ensures others { (m : ℕ) → (d : Scored) → m ≢ place → m < length self.old.slots.items - 1 →
             slice_index_or (queue_of self.new) m d ≡ slice_index_or (queue_of self.old) m d }
     {
@@ -127,7 +134,8 @@ impl<V: Drop> Heap<V> {
         }
     }
 
-    /// Takes the last place out of the heap, and its member out of the map; answers what was held of it.
+    /// Takes the last place out of the heap, and its member out of the map; answers what was held
+    /// of it.
     fn drop_last(&mut self) -> Option<Held<V>>
         requires linked { IsLinkedHeap self.old }
         requires occupied { 0 < length self.old.slots.items }
@@ -136,9 +144,11 @@ impl<V: Drop> Heap<V> {
         ensures others { (m : ℕ) → (d : Scored) → m < length self.new.slots.items →
             slice_index_or (queue_of self.new) m d ≡ slice_index_or (queue_of self.old) m d }
         ensures there { IsSome result }
-        ensures given { (s : Slot) → slice_get self.old.slots.items (length self.old.slots.items - 1) ≡ Some s →
+        ensures given { (s : Slot) →
+            slice_get self.old.slots.items (length self.old.slots.items - 1) ≡ Some s →
             option_map shown result ≡ get (entries_map self.old) (member_of self.old s.index) }
-        ensures held { (s : Slot) → slice_get self.old.slots.items (length self.old.slots.items - 1) ≡ Some s →
+        ensures held { (s : Slot) → slice_get self.old.slots.items (length self.old.slots.items - 1)
+            ≡ Some s →
             entries_map self.new ≡ remove (entries_map self.old) (member_of self.old s.index) }
         ensures more { room_of self.old ≤ room_of self.new }
     {

@@ -10,8 +10,8 @@ use crate::seeded::Seeded;
 use indexmap::IndexMap;
 use std::cell::Cell;
 
-/// Where the last look-up in a map ended, and the next one begins: a call often looks for the name that the one before
-/// it found, and then hashes nothing. What is found does not depend on it.
+/// Where the last look-up in a map ended, and the next one begins: a call often looks for the name
+/// that the one before it found, and then hashes nothing. What is found does not depend on it.
 #[derive(Drop)]
 pub struct Guess {
     index: Cell<usize>,
@@ -31,7 +31,8 @@ impl Guess {
         ensures within { IfSome result (λ index. index < index_map_len names.now) }
         ensures found { is_some result ≡ is_some (get_by (same_key name.now) names.now) }
         ensures there { IfSome result (λ index. slice_get (keys names.now) index ≡ Some name.now) }
-        ensures value { IfSome result (λ index. slice_get (values names.now) index ≡ get_by (same_key name.now) names.now) }
+        ensures value { IfSome result
+            (λ index. slice_get (values names.now) index ≡ get_by (same_key name.now) names.now) }
     {
         let guess = self.index.get();
         if is_at(names, guess, name) {
@@ -61,7 +62,8 @@ impl Guess {
 #[inline(always)]
 fn is_at<V>(names: &IndexMap<Name, V, Seeded>, index: usize, name: &[u8]) -> bool
     ensures there { IsTrue result → slice_get (keys names.now) index ≡ Some name.now }
-    ensures value { IsTrue result → slice_get (values names.now) index ≡ get_by (same_key name.now) names.now }
+    ensures value { IsTrue result → slice_get (values names.now) index
+        ≡ get_by (same_key name.now) names.now }
     ensures within { IsTrue result → index < index_map_len names.now }
     ensures found { IsTrue result → is_some (get_by (same_key name.now) names.now) ≡ true }
 {

@@ -18,8 +18,9 @@ use crate::seeded::Seeded;
 use indexmap::IndexMap;
 use std::cmp::Ordering;
 
-/// A position of the heap: the index in the map of a member, and the number of 64 bits that is nearest to its score. Where
-/// two of these numbers differ, the scores do so in the same way, and the map is not read to compare them.
+/// A position of the heap: the index in the map of a member, and the number of 64 bits that is
+/// nearest to its score. Where two of these numbers differ, the scores do so in the same way, and
+/// the map is not read to compare them.
 #[derive(Clone, Copy, Drop)]
 pub(crate) struct Slot {
     pub(crate) near: i64,
@@ -36,8 +37,8 @@ pub(crate) struct Held<V> {
     pub(crate) value: V,
 }
 
-/// The heap beside the map, and the position in the heap of each member, by its index in the map. The positions lie
-/// apart from the map, which a move in the heap does not touch.
+/// The heap beside the map, and the position in the heap of each member, by its index in the map.
+/// The positions lie apart from the map, which a move in the heap does not touch.
 #[derive(Drop)]
 pub(crate) struct Heap<V> {
     pub(crate) slots: Vec<Slot>,
@@ -51,7 +52,8 @@ impl<V> Heap<V> {
         requires within { place < length self.old.slots.items }
         requires known { slot.index < length self.old.positions.items }
         ensures slots { self.new.slots.items ≡ slice_set self.old.slots.items place slot }
-        ensures positions { self.new.positions.items ≡ slice_set self.old.positions.items slot.index place }
+        ensures positions { self.new.positions.items
+            ≡ slice_set self.old.positions.items slot.index place }
         ensures kept { KeepsMembers self.old self.new }
     {
         self.positions[slot.index] = place;
@@ -92,7 +94,8 @@ impl<V> Heap<V> {
         requires whole { IsWhole self.now }
         requires in_range { AreInRange (entries_map self.now) }
         ensures none { IfNone result (entries_map self.now ≡ empty) }
-        ensures first { IfSome result (λ pair. IsFirst (scores_of (entries_map self.now)) (lent_pair pair)) }
+        ensures first { IfSome result
+            (λ pair. IsFirst (scores_of (entries_map self.now)) (lent_pair pair)) }
     {
         let slot = self.slots.first()?;
         let (member, held) = self.members.get_index(slot.index)?;
@@ -103,7 +106,8 @@ impl<V> Heap<V> {
     fn is_before(&self, x: Slot, y: Slot) -> bool
         requires x_known { IsKnown self.now x }
         requires y_known { IsKnown self.now y }
-        ensures { result ≡ is_lt (scored_cmp (scored_at (pairs_in self.now) x) (scored_at (pairs_in self.now) y)) }
+        ensures { result ≡ is_lt
+            (scored_cmp (scored_at (pairs_in self.now) x) (scored_at (pairs_in self.now) y)) }
     {
         if x.near != y.near {
             return x.near < y.near;
@@ -118,7 +122,8 @@ impl<V> Heap<V> {
         ensures from { place * 2 + 1 ≤ result }
         ensures to { result ≤ place * 2 + 2 }
         ensures within { result < length self.now.slots.items }
-        ensures first { IsGreaterChild turned_cmp (queue_of self.now) place result (length self.now.slots.items) }
+        ensures first { IsGreaterChild turned_cmp (queue_of self.now) place result
+            (length self.now.slots.items) }
     {
         let left = place * 2 + 1;
         if left + 1 < self.slots.len() && !self.is_before(self.slots[left], self.slots[left + 1]) {
@@ -128,14 +133,18 @@ impl<V> Heap<V> {
         }
     }
 
-    /// Moves the hole that a slot left down while a child goes before the slot, and answers where it comes to.
+    /// Moves the hole that a slot left down while a child goes before the slot, and answers where
+    /// it comes to.
     fn sink(&mut self, mut place: usize, slot: Slot) -> usize
         requires out { HasHole self.old place slot }
-        requires hole { IsHeapWithHole (lt_by_cmp turned_cmp) (queue_with self.old place slot) place (length self.old.slots.items) }
+        requires hole { IsHeapWithHole (lt_by_cmp turned_cmp) (queue_with self.old place slot) place
+            (length self.old.slots.items) }
         ensures out { HasHole self.new result slot }
         ensures kept { KeepsMembers self.old self.new }
-        ensures hole_moved { IsHeapWithHole (lt_by_cmp turned_cmp) (queue_with self.new result slot) result (length self.new.slots.items) }
-        ensures over_children { IsNotBelowChildren (lt_by_cmp turned_cmp) (queue_with self.new result slot) result result (length self.new.slots.items) }
+        ensures hole_moved { IsHeapWithHole (lt_by_cmp turned_cmp)
+            (queue_with self.new result slot) result (length self.new.slots.items) }
+        ensures over_children { IsNotBelowChildren (lt_by_cmp turned_cmp)
+            (queue_with self.new result slot) result result (length self.new.slots.items) }
     {
         while place < self.slots.len() / 2 {
             let child = self.first_child(place);
@@ -149,11 +158,14 @@ impl<V> Heap<V> {
         place
     }
 
-    /// Moves the hole that a slot left up while the slot goes before its parent, and answers where it comes to.
+    /// Moves the hole that a slot left up while the slot goes before its parent, and answers where
+    /// it comes to.
     fn rise(&mut self, mut place: usize, slot: Slot) -> usize
         requires out { HasHole self.old place slot }
-        requires hole { IsHeapWithHole (lt_by_cmp turned_cmp) (queue_with self.old place slot) place (length self.old.slots.items) }
-        requires over_children { IsNotBelowChildren (lt_by_cmp turned_cmp) (queue_with self.old place slot) place place (length self.old.slots.items) }
+        requires hole { IsHeapWithHole (lt_by_cmp turned_cmp) (queue_with self.old place slot) place
+            (length self.old.slots.items) }
+        requires over_children { IsNotBelowChildren (lt_by_cmp turned_cmp)
+            (queue_with self.old place slot) place place (length self.old.slots.items) }
         ensures out { HasHole self.new result slot }
         ensures kept { KeepsMembers self.old self.new }
         ensures heap { IsHeap turned_cmp (queue_with self.new result slot) }
@@ -170,11 +182,12 @@ impl<V> Heap<V> {
         place
     }
 
-    /// Moves what is at a place, where all else is in order, to where it belongs. Past the last place there is nothing
-    /// to move.
+    /// Moves what is at a place, where all else is in order, to where it belongs. Past the last
+    /// place there is nothing to move.
     pub(crate) fn settle(&mut self, place: usize)
         requires linked { IsLinkedHeap self.old }
-        requires hole { IsHeapWithHole (lt_by_cmp turned_cmp) (queue_of self.old) place (length self.old.slots.items) }
+        requires hole { IsHeapWithHole (lt_by_cmp turned_cmp) (queue_of self.old) place
+            (length self.old.slots.items) }
         ensures moves { OnlyMoves self.old self.new }
         ensures heap { IsHeap turned_cmp (queue_of self.new) }
     {

@@ -22,8 +22,8 @@ enum Kept {
     Long(Vec<u8>),
 }
 
-/// The bytes of a key or of a member, to be a map's key. At most 30 lie in the name itself: a look-up that comes to
-/// the name has come to its bytes, and they take no memory of their own.
+/// The bytes of a key or of a member, to be a map's key. At most 30 lie in the name itself: a
+/// look-up that comes to the name has come to its bytes, and they take no memory of their own.
 #[derive(Drop)]
 pub struct Name {
     kept: Kept,
@@ -150,7 +150,8 @@ impl<'a> Hash for NameRef<'a> {
 impl<'a> Equivalent<Name> for NameRef<'a> {
     ghost equivalent = { λ sought name. pointwise nat_eq sought.0.now name };
 
-    ghost respects_hash = { λ sought name same. ap words_of ((bytes_decides sought.0.now name).0 same) };
+    ghost respects_hash = { λ sought name same.
+        ap words_of ((bytes_decides sought.0.now name).0 same) };
 
     ghost respects_eq = { λ sought x y. nat_list_eq_equiv.congr sought.0.now x y };
 

@@ -16,8 +16,8 @@ use indexmap::IndexMap;
 use std::alloc::{AllocError, AllocFailed, Global};
 use std::marker::Model;
 
-/// Members with scores and values, of which the first is at hand: the one of the least score, and among equal scores
-/// the one whose bytes come first.
+/// Members with scores and values, of which the first is at hand: the one of the least score, and
+/// among equal scores the one whose bytes come first.
 #[derive(Drop)]
 pub struct PosHeap<V> {
     pub(crate) heap: Heap<V>,
@@ -42,8 +42,8 @@ impl<V> Model for PosHeap<V> {
 }
 
 impl<V: Drop> PosHeap<V> {
-    /// No members, hashed from a fixed seed. Where strangers choose the members, take `with_hasher` and a seed that
-    /// they do not know.
+    /// No members, hashed from a fixed seed. Where strangers choose the members, take `with_hasher`
+    /// and a seed that they do not know.
     pub fn new(alloc: Global) -> Self
         ensures { result.held ≡ empty }
     {
@@ -99,7 +99,8 @@ impl<V: Drop> PosHeap<V> {
     pub fn top(&self) -> Option<(i128, &[u8])>
         ensures none { IsNone result ↔ (self.now.held ≡ empty) }
         ensures first { IfSome result (λ pair. IsFirst (scores_of self.now.held) (lent_pair pair)) }
-        ensures head { (pairs : List Scored) → ListsInOrder (scores_of self.now.held) pairs → slice_get pairs 0 ≡ option_map lent_pair result }
+        ensures head { (pairs : List Scored) → ListsInOrder (scores_of self.now.held) pairs →
+            slice_get pairs 0 ≡ option_map lent_pair result }
     {
         self.foresee();
         self.heap.first()
@@ -112,7 +113,8 @@ impl<V: Drop> PosHeap<V> {
         }
     }
 
-    /// Where a member is, for the calls that follow: the one look-up of a call that reads what is there and changes it.
+    /// Where a member is, for the calls that follow: the one look-up of a call that reads what is
+    /// there and changes it.
     #[inline(always)]
     pub fn find(&self, member: &[u8]) -> Option<Place>
         ensures there { is_some result ≡ contains_key self.now.held member.now }
@@ -126,17 +128,21 @@ impl<V: Drop> PosHeap<V> {
     /// The score and the value of the member at a place.
     pub fn at(&self, place: Place) -> (i128, &V)
         requires { HasPlace self.now place }
-        ensures { (member : List ℕ) → IsPlaceOf self.now member place → get self.now.held member ≡ Some (result.0, result.1.now) }
+        ensures { (member : List ℕ) → IsPlaceOf self.now member place →
+            get self.now.held member ≡ Some (result.0, result.1.now) }
     {
         let held = self.heap.at(place.index);
         (held.score, &held.value)
     }
 
-    /// Gives the member at a place another score and value, and answers the value that it had. Places stay good.
+    /// Gives the member at a place another score and value, and answers the value that it had.
+    /// Places stay good.
     pub fn replace_at(&mut self, place: Place, score: i128, value: V) -> V
         requires { HasPlace self.old place }
-        ensures given { (member : List ℕ) → IsPlaceOf self.old member place → option_map (λ e. e.1) (get self.old.held member) ≡ Some result }
-        ensures held { (member : List ℕ) → IsPlaceOf self.old member place → self.new.held ≡ insert self.old.held member (score, value) }
+        ensures given { (member : List ℕ) → IsPlaceOf self.old member place →
+            option_map (λ e. e.1) (get self.old.held member) ≡ Some result }
+        ensures held { (member : List ℕ) → IsPlaceOf self.old member place →
+            self.new.held ≡ insert self.old.held member (score, value) }
         ensures places { self.new.places ≡ self.old.places }
         ensures room { self.new.room ≡ self.old.room }
     {
@@ -146,15 +152,18 @@ impl<V: Drop> PosHeap<V> {
     /// Takes the member at a place out, and answers its score and value. No place is good any more.
     pub fn remove_at(&mut self, place: Place) -> (i128, V)
         requires { HasPlace self.old place }
-        ensures given { (member : List ℕ) → IsPlaceOf self.old member place → get self.old.held member ≡ Some result }
-        ensures held { (member : List ℕ) → IsPlaceOf self.old member place → self.new.held ≡ remove self.old.held member }
+        ensures given { (member : List ℕ) → IsPlaceOf self.old member place →
+            get self.old.held member ≡ Some result }
+        ensures held { (member : List ℕ) → IsPlaceOf self.old member place →
+            self.new.held ≡ remove self.old.held member }
         ensures room { self.old.room ≤ self.new.room }
     {
         let held = self.heap.take_out(place.index);
         (held.score, held.value)
     }
 
-    /// Makes room for so many members more, so that as many can be added with no memory but their own bytes.
+    /// Makes room for so many members more, so that as many can be added with no memory but their
+    /// own bytes.
     pub fn reserve(&mut self, additional: usize) -> Result<(), AllocError>
         ensures held { self.new.held ≡ self.old.held }
         ensures places { self.new.places ≡ self.old.places }
@@ -174,11 +183,12 @@ impl<V: Drop> PosHeap<V> {
         self.heap.add(Name::of(member), score, value);
     }
 
-    /// Adds a member that is not there, with a copy of its bytes. Where memory is refused nothing changes, and the
-    /// value comes back.
+    /// Adds a member that is not there, with a copy of its bytes. Where memory is refused nothing
+    /// changes, and the value comes back.
     pub fn insert(&mut self, member: &[u8], score: i128, value: V) -> Result<(), AllocFailed<V>>
         requires { get self.old.held member.now ≡ None }
-        ensures done { OnOk result (self.new.held ≡ insert self.old.held member.now (score, value)) }
+        ensures done { OnOk result
+            (self.new.held ≡ insert self.old.held member.now (score, value)) }
         ensures unchanged { OnErr result (self.new.held ≡ self.old.held) }
         ensures places { OnErr result (self.new.places ≡ self.old.places) }
         ensures value { IfErr result (λ refused. refused.value ≡ value) }
@@ -203,11 +213,14 @@ impl<V: Drop> PosHeap<V> {
         Name::copied(*self.heap.slots.allocator(), member)
     }
 
-    /// Gives a member a score and a value, whether it was there or not, and answers the value that it had. Where memory
-    /// is refused, which is only for a member that was not there, nothing changes, and the value comes back.
+    /// Gives a member a score and a value, whether it was there or not, and answers the value that
+    /// it had. Where memory is refused, which is only for a member that was not there, nothing
+    /// changes, and the value comes back.
     pub fn set(&mut self, member: &[u8], score: i128, value: V) -> Result<Option<V>, AllocFailed<V>>
-        ensures done { OnOk result (self.new.held ≡ insert self.old.held member.now (score, value)) }
-        ensures given { IfOk result (λ given. given ≡ option_map (λ e. e.1) (get self.old.held member.now)) }
+        ensures done { OnOk result
+            (self.new.held ≡ insert self.old.held member.now (score, value)) }
+        ensures given { IfOk result
+            (λ given. given ≡ option_map (λ e. e.1) (get self.old.held member.now)) }
         ensures unchanged { OnErr result (self.new.held ≡ self.old.held) }
         ensures absent { OnErr result (get self.old.held member.now ≡ None) }
         ensures value { IfErr result (λ refused. refused.value ≡ value) }

@@ -16,7 +16,8 @@ fn firsts_of<'a>(
     mut pairs: Vec<(i128, &'a [u8])>,
     count: usize,
 ) -> Result<Vec<(i128, &'a [u8])>, AllocError>
-    ensures { IfOk result (λ firsts. Splits pairs.entry.items firsts.items (min count (length pairs.entry.items))) }
+    ensures { IfOk result
+        (λ firsts. Splits pairs.entry.items firsts.items (min count (length pairs.entry.items))) }
 {
     if count >= pairs.len() {
         return Ok(pairs);
@@ -55,17 +56,19 @@ impl<V: Drop> PosHeap<V> {
 
     /// All scores with their members, by score and then by bytes, in memory from `alloc`.
     pub fn in_order(&self, alloc: Global) -> Result<Vec<(i128, &[u8])>, AllocError>
-        ensures { IfOk result (λ pairs. ListsInOrder (scores_of self.now.held) (map lent_pair pairs.items)) }
+        ensures { IfOk result
+            (λ pairs. ListsInOrder (scores_of self.now.held) (map lent_pair pairs.items)) }
     {
         let mut pairs = self.pairs(alloc)?;
         pairs.sort_unstable();
         Ok(pairs)
     }
 
-    /// The first so many of the scores with their members, by score and then by bytes, or all where there are fewer. It
-    /// sorts no more than these.
+    /// The first so many of the scores with their members, by score and then by bytes, or all where
+    /// there are fewer. It sorts no more than these.
     pub fn first(&self, alloc: Global, count: usize) -> Result<Vec<(i128, &[u8])>, AllocError>
-        ensures { IfOk result (λ firsts. (pairs : List Scored) → ListsInOrder (scores_of self.now.held) pairs →
+        ensures { IfOk result (λ firsts. (pairs : List Scored) →
+            ListsInOrder (scores_of self.now.held) pairs →
             map lent_pair firsts.items ≡ take count pairs) }
     {
         let pairs = self.pairs(alloc)?;
@@ -74,15 +77,16 @@ impl<V: Drop> PosHeap<V> {
         Ok(firsts)
     }
 
-    /// What stands in `in_order` from the place `from` up to the place `to`, itself left out; places count from 0. It
-    /// sorts no more than these.
+    /// What stands in `in_order` from the place `from` up to the place `to`, itself left out;
+    /// places count from 0. It sorts no more than these.
     pub fn slice(
         &self,
         alloc: Global,
         from: usize,
         to: usize,
     ) -> Result<Vec<(i128, &[u8])>, AllocError>
-        ensures { IfOk result (λ slice. (pairs : List Scored) → ListsInOrder (scores_of self.now.held) pairs →
+        ensures { IfOk result (λ slice. (pairs : List Scored) →
+            ListsInOrder (scores_of self.now.held) pairs →
             map lent_pair slice.items ≡ take (to - from) (drop from pairs)) }
     {
         if from >= to {
@@ -98,7 +102,8 @@ impl<V: Drop> PosHeap<V> {
         Ok(slice)
     }
 
-    /// How many pairs go before this score with these bytes: at a member's own score and bytes, its rank from 0.
+    /// How many pairs go before this score with these bytes: at a member's own score and bytes, its
+    /// rank from 0.
     pub fn count_before(&self, score: i128, member: &[u8]) -> usize
         ensures { (pairs : List Scored) → ListsInOrder (scores_of self.now.held) pairs →
             result ≡ count_by (λ pair. is_lt (scored_cmp pair (score, member.now))) pairs }
@@ -115,7 +120,9 @@ impl<V: Drop> PosHeap<V> {
     /// How many scores are below this one, or at it where `or_equal`.
     pub fn count_below(&self, score: i128, or_equal: bool) -> usize
         ensures { (pairs : List Scored) → ListsInOrder (scores_of self.now.held) pairs →
-            result ≡ count_by (λ pair. if or_equal then is_le (int_cmp pair.0 score) else is_lt (int_cmp pair.0 score)) pairs }
+            result ≡ count_by (λ pair.
+            if or_equal then is_le (int_cmp pair.0 score) else is_lt (int_cmp pair.0 score))
+            pairs }
     {
         let mut count = 0;
         for (pair, _) in self.iter() {
@@ -133,7 +140,8 @@ impl<V: Drop> PosHeap<V> {
 
     /// All scores with their members, in no order.
     fn pairs(&self, alloc: Global) -> Result<Vec<(i128, &[u8])>, AllocError>
-        ensures { IfOk result (λ pairs. IsListing (scores_of self.now.held) (map lent_pair pairs.items)) }
+        ensures { IfOk result
+            (λ pairs. IsListing (scores_of self.now.held) (map lent_pair pairs.items)) }
     {
         let mut pairs = Vec::with_capacity(alloc, self.len())?;
         for (pair, _) in self.iter() {

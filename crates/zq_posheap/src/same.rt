@@ -1,8 +1,8 @@
 //! Whether names are the same bytes.
 ghost use Rattle.std.specs.Prelude.{IsTrue, length, ◌+◌, ◌↔◌, ◌≡◌, ◌≤◌};
 
-/// Whether these are the same bytes. Most names are short: two comparisons of words of a known length, which may share
-/// bytes, read them whole.
+/// Whether these are the same bytes. Most names are short: two comparisons of words of a known
+/// length, which may share bytes, read them whole.
 #[inline(always)]
 pub(crate) fn is_same(a: &[u8], b: &[u8]) -> bool
     ensures { IsTrue result ↔ (a.now ≡ b.now) }
@@ -34,8 +34,8 @@ fn has_same_ends<const N: usize>(a: &[u8], b: &[u8]) -> bool
     a_first == b_first && a_last == b_last
 }
 
-/// Copies bytes over as many. Most names are short: two copies of a known length, which may share bytes, write them
-/// whole.
+/// Copies bytes over as many. Most names are short: two copies of a known length, which may share
+/// bytes, write them whole.
 #[inline(always)]
 pub fn overwrite(bytes: &mut [u8], name: &[u8])
     requires { length bytes.old ≡ length name.now }

@@ -1,8 +1,8 @@
 //! How members and keys are hashed.
 use std::hash::{BuildHasher, FoldHasher, Hasher};
 
-/// Hashes from a seed. Members and keys are chosen by strangers: a seed that they do not know keeps them from choosing
-/// many of one hash.
+/// Hashes from a seed. Members and keys are chosen by strangers: a seed that they do not know keeps
+/// them from choosing many of one hash.
 #[derive(Clone, Copy)]
 pub struct Seeded {
     start: FoldHasher,

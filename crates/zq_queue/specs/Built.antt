@@ -23,15 +23,18 @@ abbrev pub AreApart : List (Row Entry) → Type 0
 AreApart [] = Unit {0}
 AreApart (row ∷ rows) = ((later : Row Entry) → IsIn later rows → later.1 ≢ row.1) × AreApart rows
 
--- of the wanted members, built has what f gives at those that are not left, and nothing at those that are; of the others it has what f gives
-pub record IsBuilt (held : Held) (wanted : List ℕ → Bool) (f : List ℕ → Option Entry) (left : List (Row Entry)) (built : Entries) : Type 0 where
+-- of the wanted members, built has what f gives at those that are not left, and nothing at those
+-- that are; of the others it has what f gives
+pub record IsBuilt (held : Held) (wanted : List ℕ → Bool) (f : List ℕ →
+    Option Entry) (left : List (Row Entry)) (built : Entries) : Type 0 where
   pub there : (row : Row Entry) → IsIn row left → get held row.1 ≡ Some row.0
   pub apart : AreApart left
   pub has : (q : List ℕ) → get built q ≡ cond (wanted q && among q left) None (f q)
 
 -- the joins at each member of the first side
 abbrev pub of_first : Held → List ℕ → List ℕ → Entries → List ℕ → Option Entry
-of_first held u v other q = cond (is_some (get (entries_of held) q)) (entry_joined u v (entries_of held) other q) None
+of_first held u v other q = cond (is_some (get (entries_of held) q))
+    (entry_joined u v (entries_of held) other q) None
 
 -- the members that the first side has not
 abbrev pub only_second : Entries → List ℕ → Bool
@@ -40,4 +43,5 @@ only_second first q = not (is_some (get first q))
 -- the entries have what is held of each member that is not left
 pub record AreCompared (held : Held) (left : List (Row Entry)) (entries : Entries) : Type 0 where
   pub there : (row : Row Entry) → IsIn row left → get held row.1 ≡ Some row.0
-  pub same : (q : List ℕ) (p : ℤ × Entry) → get held q ≡ Some p → among q left ≡ false → get entries q ≡ Some p.1
+  pub same : (q : List ℕ) (p : ℤ × Entry) → get held q ≡ Some p → among q left ≡ false →
+      get entries q ≡ Some p.1

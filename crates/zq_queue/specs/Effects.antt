@@ -19,7 +19,8 @@ entries_after e member entries = set_entry entries member (affected e (entry_in 
 
 -- where the effect is a Bump's, the sums of its site are no more than its earlier Bumps can come to
 abbrev pub HasRoom : Effect → Entry → Type 0
-HasRoom e entry = is_bump (act_of e.act) ≡ true → AreSumsWithin e.dot.site (MOST * (e.dot.n - 1)) entry
+HasRoom e entry = is_bump (act_of e.act) ≡ true →
+    AreSumsWithin e.dot.site (MOST * (e.dot.n - 1)) entry
 
 -- whether the vector has seen the addition
 abbrev pub is_seen : List ℕ → OfSite → Bool

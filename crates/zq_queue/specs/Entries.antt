@@ -20,7 +20,8 @@ entry_in entries member = unwrap_or (get entries member) no_additions
 
 -- the entries with this one at the member. A bare entry does not stand
 abbrev pub set_entry : Entries → List ℕ → Entry → Entries
-set_entry entries member entry = if is_bare entry then remove entries member else insert entries member entry
+set_entry entries member entry =
+    if is_bare entry then remove entries member else insert entries member entry
 
 -- the join of what two sides of the vectors u and v have of a member
 abbrev pub entry_joined : List ℕ → List ℕ → Entries → Entries → List ℕ → Option Entry
@@ -32,4 +33,5 @@ joined_entries u v a b = map_on bytes_cmp (entry_joined u v a b) (keys a ++ keys
 
 -- no member stands without additions
 abbrev pub NoneIsBare : Entries → Type 0
-NoneIsBare entries = (member : List ℕ) (entry : Entry) → get entries member ≡ Some entry → is_bare entry ≡ false
+NoneIsBare entries = (member : List ℕ) (entry : Entry) → get entries member ≡ Some entry →
+    is_bare entry ≡ false

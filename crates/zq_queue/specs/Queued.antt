@@ -14,7 +14,8 @@ pub record Queued : Type 0 where
   pub entries : Entries
 
 abbrev pub queued_code : Coded Queued
-queued_code = code_by (Rule × Entries) (coded× rule_code entries_code) (λ q. (q.rule, q.entries)) (λ p. record { rule = p.0; entries = p.1 }) (λ _. refl)
+queued_code = code_by (Rule × Entries) (coded× rule_code entries_code) (λ q. (q.rule, q.entries))
+    (λ p. record { rule = p.0; entries = p.1 }) (λ _. refl)
 
 -- a score and an entry for each member
 abbrev pub Held : Type 0
@@ -26,8 +27,10 @@ entries_of held = from_entries (map (λ e. (e.0, e.1.1)) (entries held))
 
 -- each score is that of the entry beside it
 abbrev pub AreScored : Rule → Held → Type 0
-AreScored rule held = (member : List ℕ) (e : ℤ × Entry) → get held member ≡ Some e → score_of rule e.1 ≡ Some e.0
+AreScored rule held = (member : List ℕ) (e : ℤ × Entry) → get held member ≡ Some e →
+    score_of rule e.1 ≡ Some e.0
 
 -- no entry is bare
 abbrev pub NoneIsBareIn : Held → Type 0
-NoneIsBareIn held = (member : List ℕ) (e : ℤ × Entry) → get held member ≡ Some e → is_bare e.1 ≡ false
+NoneIsBareIn held = (member : List ℕ) (e : ℤ × Entry) → get held member ≡ Some e →
+    is_bare e.1 ≡ false

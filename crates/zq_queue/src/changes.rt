@@ -46,7 +46,8 @@ fn changed(alloc: Global, entry: &Entry, effect: &Effect<'_>) -> Result<Entry, A
 /// A copy of the additions that a vector has not seen.
 #[inline(always)]
 fn unseen(alloc: Global, entry: &Entry, seen: &Vector) -> Result<Entry, AllocError>
-    ensures { (site n : ℕ) → IfOk result (λ new. new ≡ entry_after ActDrop site n seen.now entry.now) }
+    ensures { (site n : ℕ) →
+        IfOk result (λ new. new ≡ entry_after ActDrop site n seen.now entry.now) }
 {
     // A site has seen all that stands where its own operation comes.
     if has_all(seen, entry) {
@@ -67,14 +68,16 @@ fn has_all(seen: &Vector, entry: &Entry) -> bool
     true
 }
 
-/// Gives the member at a place another entry, or takes it out where that is bare, and answers the entry that it had.
+/// Gives the member at a place another entry, or takes it out where that is bare, and answers the
+/// entry that it had.
 fn exchange(members: &mut Indexed, rule: Rule, member: &[u8], place: Place, entry: Entry) -> Entry
     requires scored { AreScored (rule_of rule) members.old.held }
     requires has { HasPlace members.old place }
     requires place { IsPlaceOf members.old member.now place }
     ensures scored { AreScored (rule_of rule) members.new.held }
     ensures before { get (entries_of members.old.held) member.now ≡ Some result }
-    ensures set { entries_of members.new.held ≡ set_entry (entries_of members.old.held) member.now entry }
+    ensures set { entries_of members.new.held
+        ≡ set_entry (entries_of members.old.held) member.now entry }
 {
     match entry.score(rule) {
         Some(score) => members.replace_at(member, place, score, entry),
@@ -86,9 +89,9 @@ fn exchange(members: &mut Indexed, rule: Rule, member: &[u8], place: Place, entr
 }
 
 impl Queue {
-    /// Takes the effect of a new operation on a member, and answers the entry that the member had: it is moved out, and
-    /// only what stays of it is copied. A member whose last addition goes does not stand any more. Where memory is refused
-    /// nothing changes.
+    /// Takes the effect of a new operation on a member, and answers the entry that the member had:
+    /// it is moved out, and only what stays of it is copied. A member whose last addition goes does
+    /// not stand any more. Where memory is refused nothing changes.
     pub fn take(
         &mut self,
         alloc: Global,
@@ -98,7 +101,8 @@ impl Queue {
         requires counter { (1 ≤ effect.now.dot.n) × (effect.now.dot.n ≤ LAST) }
         requires room { HasRoom effect.now (entry_in self.old.entries member.now) }
         ensures rule { self.new.rule ≡ self.old.rule }
-        ensures taken { OnOk result (self.new.entries ≡ entries_after effect.now member.now self.old.entries) }
+        ensures taken { OnOk result
+            (self.new.entries ≡ entries_after effect.now member.now self.old.entries) }
         ensures before { IfOk result (λ before. before ≡ get self.old.entries member.now) }
         ensures refused { OnErr result (self.new ≡ self.old) }
     {
@@ -120,7 +124,8 @@ impl Queue {
     pub(crate) fn add(&mut self, member: &[u8], entry: Entry) -> Result<(), AllocError>
         requires { get self.old.entries member.now ≡ None }
         ensures rule { self.new.rule ≡ self.old.rule }
-        ensures added { OnOk result (self.new.entries ≡ set_entry self.old.entries member.now entry) }
+        ensures added { OnOk result
+            (self.new.entries ≡ set_entry self.old.entries member.now entry) }
         ensures refused { OnErr result (self.new ≡ self.old) }
     {
         if let Some(score) = entry.score(self.rule) {
@@ -129,11 +134,14 @@ impl Queue {
         Ok(())
     }
 
-    /// Gives a member back the entry that it had, or takes it out where it had none, so that a change is undone. A bare
-    /// entry counts as none. Where memory is refused, which is only for a member that does not stand, nothing changes.
+    /// Gives a member back the entry that it had, or takes it out where it had none, so that a
+    /// change is undone. A bare entry counts as none. Where memory is refused, which is only for a
+    /// member that does not stand, nothing changes.
     pub fn put_back(&mut self, member: &[u8], before: Option<Entry>) -> Result<(), AllocError>
         ensures rule { self.new.rule ≡ self.old.rule }
-        ensures back { OnOk result (self.new.entries ≡ set_entry self.old.entries member.now (unwrap_or before no_additions)) }
+        ensures back { OnOk result
+            (self.new.entries ≡ set_entry self.old.entries member.now
+            (unwrap_or before no_additions)) }
         ensures refused { OnErr result (self.new ≡ self.old) }
         ensures absent { OnErr result (get self.old.entries member.now ≡ None) }
     {
@@ -184,9 +192,10 @@ impl Queue {
         self.members.reserve(additional)
     }
 
-    /// Makes an ordered index of its members, unless it has one or has no more members than so many. Changes keep it, and
-    /// by it `in_order` and what is read of it cost a logarithm of the members and what they answer. Where memory is
-    /// refused there is no index, now or from a later change on, and such readings look at all members.
+    /// Makes an ordered index of its members, unless it has one or has no more members than so
+    /// many. Changes keep it, and by it `in_order` and what is read of it cost a logarithm of the
+    /// members and what they answer. Where memory is refused there is no index, now or from a later
+    /// change on, and such readings look at all members.
     pub fn index(&mut self, alloc: Global, most: usize)
         ensures { self.new ≡ self.old }
     {

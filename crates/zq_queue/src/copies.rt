@@ -35,7 +35,9 @@ fn stands(queue: &Queue, member: &[u8], entry: &Entry) -> bool
 
 /// Whether each of these members stands in a queue with the same entry.
 fn is_within(members: &Indexed, queue: &Queue) -> bool
-    ensures { IsTrue result ↔ ((member : List ℕ) (e : ℤ × ModelEntry) → get members.now.held member ≡ Some e → get queue.now.entries member ≡ Some e.1) }
+    ensures { IsTrue result
+        ↔ ((member : List ℕ) (e : ℤ × ModelEntry) → get members.now.held member ≡ Some e →
+        get queue.now.entries member ≡ Some e.1) }
 {
     for ((_, member), entry) in members.iter() {
         if !stands(queue, member, entry) {

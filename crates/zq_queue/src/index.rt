@@ -29,7 +29,8 @@ pub(crate) fn with_pair(
     score: i128,
     member: &[u8],
 ) -> Option<Box<Ranked>>
-    ensures { (scores : Scores) → get scores member.now ≡ None → IsIndexOf scores index → IsIndexOf (insert scores member.now score) result }
+    ensures { (scores : Scores) → get scores member.now ≡ None → IsIndexOf scores index →
+        IsIndexOf (insert scores member.now score) result }
 {
     let mut pairs = index?;
     match pairs.insert(score, member) {
@@ -40,7 +41,8 @@ pub(crate) fn with_pair(
 
 /// The index without a pair that it had.
 fn without_pair(index: Option<Box<Ranked>>, score: i128, member: &[u8]) -> Option<Box<Ranked>>
-    ensures { (scores : Scores) → get scores member.now ≡ Some score → IsIndexOf scores index → IsIndexOf (remove scores member.now) result }
+    ensures { (scores : Scores) → get scores member.now ≡ Some score → IsIndexOf scores index →
+        IsIndexOf (remove scores member.now) result }
 {
     let mut pairs = index?;
     let _taken = pairs.remove(score, member);
@@ -54,7 +56,8 @@ fn with_moved(
     score: i128,
     member: &[u8],
 ) -> Option<Box<Ranked>>
-    ensures { (scores : Scores) → get scores member.now ≡ Some before → IsIndexOf scores index → IsIndexOf (insert scores member.now score) result }
+    ensures { (scores : Scores) → get scores member.now ≡ Some before → IsIndexOf scores index →
+        IsIndexOf (insert scores member.now score) result }
 {
     if before == score {
         return index;
@@ -71,7 +74,8 @@ pub(crate) fn without_place(
 ) -> Option<Box<Ranked>>
     requires has { HasPlace members.now place }
     requires place { IsPlaceOf members.now member.now place }
-    ensures { IsIndexOf (scores_of members.now.held) index → IsIndexOf (remove (scores_of members.now.held) member.now) result }
+    ensures { IsIndexOf (scores_of members.now.held) index →
+        IsIndexOf (remove (scores_of members.now.held) member.now) result }
 {
     let index = index?;
     in_range(members);
@@ -89,7 +93,8 @@ pub(crate) fn with_score(
 ) -> Option<Box<Ranked>>
     requires has { HasPlace members.now place }
     requires place { IsPlaceOf members.now member.now place }
-    ensures { IsIndexOf (scores_of members.now.held) index → IsIndexOf (insert (scores_of members.now.held) member.now score) result }
+    ensures { IsIndexOf (scores_of members.now.held) index →
+        IsIndexOf (insert (scores_of members.now.held) member.now score) result }
 {
     let index = index?;
     in_range(members);

@@ -12,8 +12,9 @@ use zq_entry::Entry;
 use zq_posheap::{Pairs, Place, PosHeap, Seeded};
 use zq_ranked::Ranked;
 
-/// Members with scores and entries, and an ordered index of them from the call on that makes it. Changes keep the index.
-/// Where its growth is refused it goes, and readings in order look at all members again.
+/// Members with scores and entries, and an ordered index of them from the call on that makes it.
+/// Changes keep the index. Where its growth is refused it goes, and readings in order look at all
+/// members again.
 #[derive(Drop)]
 pub struct Indexed {
     pub(crate) members: PosHeap<Entry>,
@@ -47,7 +48,8 @@ impl Indexed {
         }
     }
 
-    /// Makes an index where there is none, unless memory is refused, and unless there are no more members than so many.
+    /// Makes an index where there is none, unless memory is refused, and unless there are no more
+    /// members than so many.
     pub fn index(&mut self, alloc: Global, most: usize)
         ensures { self.new ≡ self.old }
     {
@@ -103,7 +105,8 @@ impl Indexed {
     /// The score and the entry of the member at a place.
     pub fn at(&self, place: Place) -> (i128, &Entry)
         requires { HasPlace self.now place }
-        ensures { (member : List ℕ) → IsPlaceOf self.now member place → get self.now.held member ≡ Some (result.0, result.1.now) }
+        ensures { (member : List ℕ) → IsPlaceOf self.now member place →
+            get self.now.held member ≡ Some (result.0, result.1.now) }
     {
         self.members.at(place)
     }
@@ -142,7 +145,8 @@ impl Indexed {
     /// Adds a member that is not there. Where memory is refused nothing changes.
     pub fn insert(&mut self, member: &[u8], score: i128, entry: Entry) -> Result<(), AllocError>
         requires { get self.old.held member.now ≡ None }
-        ensures done { OnOk result (self.new.held ≡ insert self.old.held member.now (score, entry)) }
+        ensures done { OnOk result
+            (self.new.held ≡ insert self.old.held member.now (score, entry)) }
         ensures unchanged { OnErr result (self.new.held ≡ self.old.held) }
     {
         self.members.insert(member, score, entry)?;
@@ -150,16 +154,19 @@ impl Indexed {
         Ok(())
     }
 
-    /// Gives a member a score and an entry, whether it was there or not, and answers the entry that it had. Where memory
-    /// is refused, which is only for a member that was not there, nothing changes.
+    /// Gives a member a score and an entry, whether it was there or not, and answers the entry that
+    /// it had. Where memory is refused, which is only for a member that was not there, nothing
+    /// changes.
     pub fn set(
         &mut self,
         member: &[u8],
         score: i128,
         entry: Entry,
     ) -> Result<Option<Entry>, AllocError>
-        ensures done { OnOk result (self.new.held ≡ insert self.old.held member.now (score, entry)) }
-        ensures given { IfOk result (λ given. given ≡ option_map (λ e. e.1) (get self.old.held member.now)) }
+        ensures done { OnOk result
+            (self.new.held ≡ insert self.old.held member.now (score, entry)) }
+        ensures given { IfOk result
+            (λ given. given ≡ option_map (λ e. e.1) (get self.old.held member.now)) }
         ensures unchanged { OnErr result (self.new.held ≡ self.old.held) }
         ensures absent { OnErr result (get self.old.held member.now ≡ None) }
     {

@@ -1,8 +1,9 @@
-//! The members of one key with their entries, by which the key's queue is read: its members with their scores, by score
-//! and then by the members' bytes.
+//! The members of one key with their entries, by which the key's queue is read: its members with
+//! their scores, by score and then by the members' bytes.
 //!
-//! A member's score and its entry lie in one slot of a positioned heap, so that a call looks its member up once. An
-//! ordered index beside the heap, once a call made it, answers readings in order in logarithmic time.
+//! A member's score and its entry lie in one slot of a positioned heap, so that a call looks its
+//! member up once. An ordered index beside the heap, once a call made it, answers readings in order
+//! in logarithmic time.
 #![tactic(auto)]
 
 mod changes;

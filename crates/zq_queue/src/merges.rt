@@ -21,7 +21,9 @@ fn with_second(
     other: &Queue,
     member: &[u8],
 ) -> Result<Entry, AllocError>
-    ensures { IfOk result (λ joined. joined ≡ join_entry mine.now theirs.now entry.now (entry_in other.now.entries member.now)) }
+    ensures { IfOk result
+        (λ joined. joined ≡ join_entry mine.now theirs.now entry.now
+        (entry_in other.now.entries member.now)) }
 {
     match other.entry(member) {
         Some(their_entry) => entry.merge(alloc, mine, their_entry, theirs),
@@ -36,7 +38,8 @@ fn of_second(
     theirs: &Vector,
     entry: &Entry,
 ) -> Result<Entry, AllocError>
-    ensures { IfOk result (λ joined. joined ≡ join_entry mine.now theirs.now no_additions entry.now) }
+    ensures { IfOk result
+        (λ joined. joined ≡ join_entry mine.now theirs.now no_additions entry.now) }
 {
     Entry::new().merge(alloc, mine, entry, theirs)
 }
@@ -53,7 +56,8 @@ fn join_first(
     requires empty { merged.old.entries ≡ empty }
     ensures rule { merged.new.rule ≡ merged.old.rule }
     ensures joined { OnOk result ((member : List ℕ) → get merged.new.entries member
-        ≡ if contains_key (entries_of members.now.held) member then entry_joined mine.now theirs.now (entries_of members.now.held) other.now.entries member else None) }
+        ≡ if contains_key (entries_of members.now.held) member then entry_joined mine.now theirs.now
+        (entries_of members.now.held) other.now.entries member else None) }
 {
     for ((_, member), entry) in members.iter() {
         let joined = with_second(alloc, mine, entry, theirs, other, member)?;
@@ -62,7 +66,8 @@ fn join_first(
     Ok(())
 }
 
-/// Adds to a queue with the joins at each member of the first side those at the members that the second side has alone.
+/// Adds to a queue with the joins at each member of the first side those at the members that the
+/// second side has alone.
 fn join_second(
     alloc: Global,
     mine: &Vector,
@@ -72,9 +77,12 @@ fn join_second(
     merged: &mut Queue,
 ) -> Result<(), AllocError>
     requires joined { (member : List ℕ) → get merged.old.entries member
-        ≡ if contains_key first.now.entries member then entry_joined mine.now theirs.now first.now.entries (entries_of members.now.held) member else None }
+        ≡ if contains_key first.now.entries member then entry_joined mine.now theirs.now
+        first.now.entries (entries_of members.now.held) member else None }
     ensures rule { merged.new.rule ≡ merged.old.rule }
-    ensures joined { OnOk result ((member : List ℕ) → get merged.new.entries member ≡ entry_joined mine.now theirs.now first.now.entries (entries_of members.now.held) member) }
+    ensures joined { OnOk result ((member : List ℕ) →
+        get merged.new.entries member ≡ entry_joined mine.now theirs.now first.now.entries
+        (entries_of members.now.held) member) }
 {
     for ((_, member), entry) in members.iter() {
         if first.entry(member).is_none() {
@@ -86,8 +94,9 @@ fn join_second(
 }
 
 impl Queue {
-    /// The queue of what two sides have together, each with the vector of what it has seen: each member's entries are
-    /// joined, and a member that has no addition left does not stand. Both sides stay as they are.
+    /// The queue of what two sides have together, each with the vector of what it has seen: each
+    /// member's entries are joined, and a member that has no addition left does not stand. Both
+    /// sides stay as they are.
     pub fn merge(
         &self,
         alloc: Global,
@@ -97,7 +106,9 @@ impl Queue {
     ) -> Result<Queue, AllocError>
         requires { other.now.rule ≡ self.now.rule }
         ensures rule { IfOk result (λ merged. merged.rule ≡ self.now.rule) }
-        ensures joined { IfOk result (λ merged. merged.entries ≡ joined_entries mine.now theirs.now self.now.entries other.now.entries) }
+        ensures joined { IfOk result
+            (λ merged. merged.entries
+            ≡ joined_entries mine.now theirs.now self.now.entries other.now.entries) }
     {
         let mut merged = Queue::new(alloc, self.rule, self.hasher);
         merged.reserve(self.members.len().max(other.members.len()))?;

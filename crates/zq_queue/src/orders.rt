@@ -14,14 +14,16 @@ use zq_ranked::{Forward, Ranked};
 impl Indexed {
     /// The first score and its member: the head of `in_order`.
     pub fn top(&self) -> Option<(i128, &[u8])>
-        ensures { (pairs : List Scored) → ListsInOrder (scores_of self.now.held) pairs → slice_get pairs 0 ≡ option_map lent_pair result }
+        ensures { (pairs : List Scored) → ListsInOrder (scores_of self.now.held) pairs →
+            slice_get pairs 0 ≡ option_map lent_pair result }
     {
         self.members.top()
     }
 
     /// All scores with their members, by score and then by bytes.
     pub fn in_order(&self, alloc: Global) -> Result<Vec<(i128, &[u8])>, AllocError>
-        ensures { IfOk result (λ pairs. ListsInOrder (scores_of self.now.held) (map lent_pair pairs.items)) }
+        ensures { IfOk result
+            (λ pairs. ListsInOrder (scores_of self.now.held) (map lent_pair pairs.items)) }
     {
         match &self.index {
             Some(index) => section(alloc, index, 0, index.len()),
@@ -29,10 +31,11 @@ impl Indexed {
         }
     }
 
-    /// The first so many of `in_order`, or all where there are fewer. It looks at no more than these where there is an
-    /// index, and else at all members.
+    /// The first so many of `in_order`, or all where there are fewer. It looks at no more than
+    /// these where there is an index, and else at all members.
     pub fn first(&self, alloc: Global, count: usize) -> Result<Vec<(i128, &[u8])>, AllocError>
-        ensures { IfOk result (λ firsts. (pairs : List Scored) → ListsInOrder (scores_of self.now.held) pairs →
+        ensures { IfOk result (λ firsts. (pairs : List Scored) →
+            ListsInOrder (scores_of self.now.held) pairs →
             map lent_pair firsts.items ≡ take count pairs) }
     {
         match &self.index {
@@ -48,7 +51,8 @@ impl Indexed {
         from: usize,
         to: usize,
     ) -> Result<Vec<(i128, &[u8])>, AllocError>
-        ensures { IfOk result (λ slice. (pairs : List Scored) → ListsInOrder (scores_of self.now.held) pairs →
+        ensures { IfOk result (λ slice. (pairs : List Scored) →
+            ListsInOrder (scores_of self.now.held) pairs →
             map lent_pair slice.items ≡ take (to - from) (drop from pairs)) }
     {
         match &self.index {
@@ -71,7 +75,9 @@ impl Indexed {
     /// How many scores are below this one, or at it where `or_equal`.
     pub fn count_below(&self, score: i128, or_equal: bool) -> usize
         ensures { (pairs : List Scored) → ListsInOrder (scores_of self.now.held) pairs →
-            result ≡ count_by (λ pair. if or_equal then is_le (int_cmp pair.0 score) else is_lt (int_cmp pair.0 score)) pairs }
+            result ≡ count_by (λ pair.
+            if or_equal then is_le (int_cmp pair.0 score) else is_lt (int_cmp pair.0 score))
+            pairs }
     {
         match &self.index {
             Some(index) => index.count_below(score, or_equal),
@@ -87,7 +93,8 @@ fn section(
     from: usize,
     to: usize,
 ) -> Result<Vec<(i128, &[u8])>, AllocError>
-    ensures { IfOk result (λ pairs. map lent_pair pairs.items ≡ take (to - from) (drop from index.now)) }
+    ensures { IfOk result (λ pairs. map lent_pair pairs.items
+        ≡ take (to - from) (drop from index.now)) }
 {
     let count = to.min(index.len()).saturating_sub(from);
     firsts(alloc, index.iter_from(from), count)

@@ -17,7 +17,8 @@ use zq_dots::Rule;
 use zq_entry::Entry;
 use zq_posheap::Seeded;
 
-/// The members of one key with their entries, and their scores by one rule. A member without additions does not stand.
+/// The members of one key with their entries, and their scores by one rule. A member without
+/// additions does not stand.
 #[derive(Drop)]
 pub struct Queue {
     pub(crate) rule: Rule,

@@ -13,7 +13,8 @@ use zq_entry::Entry;
 
 /// The members with their entries, in no order.
 fn in_any_order(alloc: Global, members: &Indexed) -> Result<Vec<(&[u8], &Entry)>, AllocError>
-    ensures { IfOk result (λ rows. IsListing (entries_of members.now.held) (map lent_turned rows.items)) }
+    ensures { IfOk result
+        (λ rows. IsListing (entries_of members.now.held) (map lent_turned rows.items)) }
 {
     let mut rows = Vec::with_capacity(alloc, members.len())?;
     for ((_, member), entry) in members.iter() {
@@ -25,7 +26,8 @@ fn in_any_order(alloc: Global, members: &Indexed) -> Result<Vec<(&[u8], &Entry)>
 impl Queue {
     /// The members with their entries, by the members' bytes.
     pub fn rows(&self, alloc: Global) -> Result<Vec<(&[u8], &Entry)>, AllocError>
-        ensures { IfOk result (λ rows. map lent_entry rows.items ≡ finite.entries self.now.entries) }
+        ensures { IfOk result (λ rows. map lent_entry rows.items
+            ≡ finite.entries self.now.entries) }
     {
         let mut rows = in_any_order(alloc, &self.members)?;
         rows.sort_unstable_by_key(|row| row.0);

@@ -10,7 +10,8 @@ use Rattle.zq_ranked.specs.declared.node.Node.TheDeep.{deep-Child, deep-Node}
 use Rattle.zq_ranked.specs.Shape.{IsChild, IsForm, view_of}
 
 -- no child is deeper than their height says
-most_le-height : (height : ℕ) (children : List Child) → AllByRecursion (IsChild height) children → most deep-Child children ≤ height + 1
+most_le-height : (height : ℕ) (children : List Child) → AllByRecursion (IsChild height) children →
+    most deep-Child children ≤ height + 1
 most_le-height height [] h = omega arith
 most_le-height height (c ∷ cs) h = omega (arith, h.0.level, most_le-height height cs h.1)
 
@@ -21,4 +22,6 @@ alone n k h = omega (arith, h)
 -- no child is deeper than the node is high
 pub depth_le-height : (f : Form) → IsForm f → deep-Node (record { form = f }) ≤ (view_of f).1
 depth_le-height (Leaf block) h = omega arith
-depth_le-height (Branch fork) h = alone (most deep-Child fork.children.items) (fork.level + 1) (most_le-height fork.level fork.children.items h.each)
+depth_le-height (Branch fork) h =
+    alone (most deep-Child fork.children.items) (fork.level + 1)
+    (most_le-height fork.level fork.children.items h.each)

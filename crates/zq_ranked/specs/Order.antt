@@ -26,15 +26,18 @@ rank_of target pairs = count_by (goes_before target) pairs
 
 -- each of these pairs goes before another
 pub record AreBefore (target : Scored) (pairs : List Scored) : Type 0 where
-  pub each : (place : ℕ) (d : Scored) → place < length pairs → scored_cmp (get_or pairs place d) target ≡ Less
+  pub each : (place : ℕ) (d : Scored) → place < length pairs →
+      scored_cmp (get_or pairs place d) target ≡ Less
 
 -- each of these pairs goes after another
 pub record AreAfter (target : Scored) (pairs : List Scored) : Type 0 where
-  pub each : (place : ℕ) (d : Scored) → place < length pairs → scored_cmp target (get_or pairs place d) ≡ Less
+  pub each : (place : ℕ) (d : Scored) → place < length pairs →
+      scored_cmp target (get_or pairs place d) ≡ Less
 
 -- whether a pair's score is below another, or perhaps that very one
 abbrev pub is_below : ℤ → Bool → Scored → Bool
-is_below score or_equal pair = cond or_equal (is_le (int_cmp pair.0 score)) (is_lt (int_cmp pair.0 score))
+is_below score or_equal pair =
+    cond or_equal (is_le (int_cmp pair.0 score)) (is_lt (int_cmp pair.0 score))
 
 -- each pair goes before those after it, and each score is a number of 128 bits
 pub record IsRanking (pairs : List Scored) : Type 0 where

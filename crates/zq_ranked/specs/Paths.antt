@@ -19,7 +19,8 @@ backward (children ∷ higher) = backward higher ++ joined children.now
 -- the nodes are of heights from this one upward
 abbrev pub AreOfHeights : ℕ → List (Bor (List Child)) → Type 0
 AreOfHeights height [] = Unit {0}
-AreOfHeights height (children ∷ higher) = AllByRecursion (IsChild height) children.now × AreOfHeights (height + 1) higher
+AreOfHeights height (children ∷ higher) = AllByRecursion (IsChild height) children.now
+    × AreOfHeights (height + 1) higher
 
 -- the nodes at each place are of that height
 pub record IsPath (levels : List (Bor (List Child))) : Type 0 where

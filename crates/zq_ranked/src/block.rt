@@ -8,8 +8,8 @@ ghost use Rattle.zq_ranked.specs.Order.{rank_of, scored_cmp};
 use crate::pair::{Key, Pair};
 use std::alloc::{AllocError, Global};
 
-/// How many pairs a block has when it is split: enough that blocks are few, and few enough that moving half of them is
-/// cheap.
+/// How many pairs a block has when it is split: enough that blocks are few, and few enough that
+/// moving half of them is cheap.
 pub(crate) const FULL: usize = 16;
 
 /// How many pairs of a block go before another.
@@ -36,15 +36,16 @@ pub(crate) fn find(block: &[Pair], key: &Key<'_>) -> Result<usize, usize>
     Err(place)
 }
 
-/// Puts a pair into a block at its place, and answers whether it was not there before. Where memory is refused the
-/// pairs stay.
+/// Puts a pair into a block at its place, and answers whether it was not there before. Where memory
+/// is refused the pairs stay.
 pub(crate) fn put_into(
     alloc: Global,
     block: &mut Vec<Pair>,
     key: &Key<'_>,
 ) -> Result<bool, AllocError>
     requires { IsStrictlySortedBy scored_cmp block.old.items }
-    ensures put { IfOk result (λ added. IsPut (pair_of_key key.now) block.old.items block.new.items added) }
+    ensures put { IfOk result
+        (λ added. IsPut (pair_of_key key.now) block.old.items block.new.items added) }
     ensures refused { OnErr result (block.new.items ≡ block.old.items) }
     ensures refused_absent { OnErr result (Contains block.old.items (pair_of_key key.now) → ⊥) }
 {

@@ -41,8 +41,10 @@ impl Child {
     /// Whether the first pair does not come after another.
     pub(crate) fn is_from(&self, key: &Key<'_>) -> bool
         requires { IsChild self.now.node.1 self.now }
-        ensures from { IsTrue result → (d : Scored) → is_gt (scored_cmp (get_or self.now.node.0 0 d) (pair_of_key key.now)) ≡ false }
-        ensures after { result ≡ false → (d : Scored) → is_gt (scored_cmp (get_or self.now.node.0 0 d) (pair_of_key key.now)) ≡ true }
+        ensures from { IsTrue result → (d : Scored) →
+            is_gt (scored_cmp (get_or self.now.node.0 0 d) (pair_of_key key.now)) ≡ false }
+        ensures after { result ≡ false → (d : Scored) →
+            is_gt (scored_cmp (get_or self.now.node.0 0 d) (pair_of_key key.now)) ≡ true }
     {
         match self.first.cmp(&key.score) {
             Ordering::Less => true,
@@ -51,13 +53,15 @@ impl Child {
         }
     }
 
-    /// Puts a pair at its place, and answers whether it was not there before. Where memory is refused the pairs stay.
+    /// Puts a pair at its place, and answers whether it was not there before. Where memory is
+    /// refused the pairs stay.
     #[cycle(insert)]
     pub(crate) fn insert(&mut self, alloc: Global, key: &Key<'_>) -> Result<bool, AllocError>
         requires child { IsChild self.old.node.1 self.old }
         requires sorted { IsStrictlySortedBy scored_cmp self.old.node.0 }
         requires fits { length self.old.node.0 + 1 < 2 ^ 64 }
-        ensures put { IfOk result (λ added. IsPut (pair_of_key key.now) self.old.node.0 self.new.node.0 added) }
+        ensures put { IfOk result
+            (λ added. IsPut (pair_of_key key.now) self.old.node.0 self.new.node.0 added) }
         ensures refused { OnErr result (self.new.node.0 ≡ self.old.node.0) }
         ensures refused_absent { OnErr result (Contains self.old.node.0 (pair_of_key key.now) → ⊥) }
         ensures child { IsChild self.old.node.1 self.new }
@@ -91,8 +95,8 @@ impl Child {
         taken
     }
 
-    /// Moves the upper half of a full node into a child of its own. Where the node is not full, or memory is refused,
-    /// it stays.
+    /// Moves the upper half of a full node into a child of its own. Where the node is not full, or
+    /// memory is refused, it stays.
     pub(crate) fn split(&mut self, alloc: Global) -> Option<Child>
         requires child { IsChild self.old.node.1 self.old }
         requires fits { length self.old.node.0 < 2 ^ 64 }

@@ -63,8 +63,10 @@ impl Fork {
         requires filled { 0 < length (joined self.now.children.items) }
         requires sorted { IsStrictlySortedBy scored_cmp (joined self.now.children.items) }
         ensures within { result < length self.now.children.items }
-        ensures before { AreBefore (pair_of_key key.now) (joined (take result self.now.children.items)) }
-        ensures after { AreAfter (pair_of_key key.now) (joined (drop (result + 1) self.now.children.items)) }
+        ensures before { AreBefore (pair_of_key key.now)
+            (joined (take result self.now.children.items)) }
+        ensures after { AreAfter (pair_of_key key.now)
+            (joined (drop (result + 1) self.now.children.items)) }
     {
         let (mut low, mut high) = (0, self.children.len());
         while low + 1 < high {
@@ -91,16 +93,21 @@ impl Fork {
         self.before(place) + self.children[place].node.rank(key)
     }
 
-    /// Puts a pair at its place, and answers whether it was not there before. Where memory is refused the pairs stay.
+    /// Puts a pair at its place, and answers whether it was not there before. Where memory is
+    /// refused the pairs stay.
     #[cycle(insert)]
     pub(crate) fn insert(&mut self, alloc: Global, key: &Key<'_>) -> Result<bool, AllocError>
         requires fork { IsFork self.old }
         requires filled { 0 < length (joined self.old.children.items) }
         requires sorted { IsStrictlySortedBy scored_cmp (joined self.old.children.items) }
         requires fits { length (joined self.old.children.items) + 1 < 2 ^ 64 }
-        ensures put { IfOk result (λ added. IsPut (pair_of_key key.now) (joined self.old.children.items) (joined self.new.children.items) added) }
-        ensures refused { OnErr result (joined self.new.children.items ≡ joined self.old.children.items) }
-        ensures refused_absent { OnErr result (Contains (joined self.old.children.items) (pair_of_key key.now) → ⊥) }
+        ensures put { IfOk result
+            (λ added. IsPut (pair_of_key key.now) (joined self.old.children.items)
+            (joined self.new.children.items) added) }
+        ensures refused { OnErr result
+            (joined self.new.children.items ≡ joined self.old.children.items) }
+        ensures refused_absent { OnErr result
+            (Contains (joined self.old.children.items) (pair_of_key key.now) → ⊥) }
         ensures fork { IsFork self.new }
         ensures level { self.new.level ≡ self.old.level }
     {
@@ -112,7 +119,8 @@ impl Fork {
         Ok(added)
     }
 
-    /// Splits a child that is full in two. Where memory is refused it stays, and is split once a pair is put in later.
+    /// Splits a child that is full in two. Where memory is refused it stays, and is split once a
+    /// pair is put in later.
     fn divide(&mut self, alloc: Global, place: usize)
         requires fork { IsFork self.old }
         requires within { place < length self.old.children.items }
@@ -132,11 +140,13 @@ impl Fork {
         };
     }
 
-    /// Moves the upper half of the children into a fork of its own, where there are many. Where there are not, or memory
-    /// is refused, they stay.
+    /// Moves the upper half of the children into a fork of its own, where there are many. Where
+    /// there are not, or memory is refused, they stay.
     pub(crate) fn split(&mut self, alloc: Global) -> Option<Fork>
         requires { IsFork self.old }
-        ensures pairs { IfSome result (λ upper. joined self.old.children.items ≡ joined self.new.children.items ++ joined upper.children.items) }
+        ensures pairs { IfSome result
+            (λ upper. joined self.old.children.items ≡ joined self.new.children.items
+            ++ joined upper.children.items) }
         ensures lower { IfSome result (λ upper. 0 < length (joined self.new.children.items)) }
         ensures upper { IfSome result (λ upper. 0 < length (joined upper.children.items)) }
         ensures upper_fork { IfSome result (λ upper. IsFork upper) }
@@ -159,7 +169,8 @@ impl Fork {
         requires filled { 0 < length (joined self.old.children.items) }
         requires sorted { IsStrictlySortedBy scored_cmp (joined self.old.children.items) }
         requires fits { length (joined self.old.children.items) < 2 ^ 64 }
-        ensures taken { IsTaken (pair_of_key key.now) (joined self.old.children.items) (joined self.new.children.items) result }
+        ensures taken { IsTaken (pair_of_key key.now) (joined self.old.children.items)
+            (joined self.new.children.items) result }
         ensures fork { IsFork self.new }
         ensures level { self.new.level ≡ self.old.level }
     {

@@ -3,7 +3,8 @@ ghost use Rattle.std.specs.Prelude.{IfNone, IfSome, [], length, vec_capacity, �
 
 use std::alloc::Global;
 
-/// Moves the upper half of a vector that is full into one of its own. Where it is not, or memory is refused, it stays.
+/// Moves the upper half of a vector that is full into one of its own. Where it is not, or memory is
+/// refused, it stays.
 pub(crate) fn upper_half<T>(alloc: Global, items: &mut Vec<T>, full: usize) -> Option<Vec<T>>
     requires { 2 ≤ full }
     ensures items { IfSome result (λ upper. items.old.items ≡ items.new.items ++ upper.items) }

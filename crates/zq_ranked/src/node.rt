@@ -15,8 +15,8 @@ use std::alloc::{AllocError, Global};
 use std::marker::Model;
 use std::mem;
 
-/// How many levels of forks there are at most. A list gets one more only where its root is full, so it takes more than
-/// 10 ^ 17 insertions to come to so many.
+/// How many levels of forks there are at most. A list gets one more only where its root is full, so
+/// it takes more than 10 ^ 17 insertions to come to so many.
 pub(crate) const LEVELS: usize = 12;
 
 /// A list of pairs as a tree whose leaves are all equally deep, seen as the pairs and the height.
@@ -120,7 +120,8 @@ impl Node {
 
     /// The pairs from a place to the end of its block.
     pub(crate) fn block_from(&self, place: usize) -> &[Pair]
-        ensures part { drop place self.now.0 ≡ result.now ++ drop (place + length result.now) self.now.0 }
+        ensures part { drop place self.now.0 ≡ result.now
+            ++ drop (place + length result.now) self.now.0 }
         ensures some { place < length self.now.0 → 0 < length result.now }
     {
         match &self.form {
@@ -149,13 +150,15 @@ impl Node {
         }
     }
 
-    /// Puts a pair at its place, and answers whether it was not there before. Where memory is refused the pairs stay.
+    /// Puts a pair at its place, and answers whether it was not there before. Where memory is
+    /// refused the pairs stay.
     #[cycle(insert)]
     pub(crate) fn insert(&mut self, alloc: Global, key: &Key<'_>) -> Result<bool, AllocError>
         requires sorted { IsStrictlySortedBy scored_cmp self.old.0 }
         requires fits { length self.old.0 + 1 < 2 ^ 64 }
         requires filled { 0 < self.old.1 → 0 < length self.old.0 }
-        ensures put { IfOk result (λ added. IsPut (pair_of_key key.now) self.old.0 self.new.0 added) }
+        ensures put { IfOk result
+            (λ added. IsPut (pair_of_key key.now) self.old.0 self.new.0 added) }
         ensures refused { OnErr result (self.new.0 ≡ self.old.0) }
         ensures refused_absent { OnErr result (Contains self.old.0 (pair_of_key key.now) → ⊥) }
         ensures height { self.new.1 ≡ self.old.1 }
@@ -181,8 +184,8 @@ impl Node {
         }
     }
 
-    /// Moves the upper half of a full node into a node of its own. Where the node is not full, or memory is refused,
-    /// it stays.
+    /// Moves the upper half of a full node into a node of its own. Where the node is not full, or
+    /// memory is refused, it stays.
     pub(crate) fn split(&mut self, alloc: Global) -> Option<Node>
         ensures pairs { IfSome result (λ upper. self.old.0 ≡ self.new.0 ++ upper.0) }
         ensures lower { IfSome result (λ upper. 0 < length self.new.0) }
@@ -226,8 +229,8 @@ impl Node {
         }
     }
 
-    /// Gives way to a fork of its halves where it is full. Where it is not, or memory is refused, or there are as many
-    /// levels as there may be, it stays.
+    /// Gives way to a fork of its halves where it is full. Where it is not, or memory is refused,
+    /// or there are as many levels as there may be, it stays.
     pub(crate) fn raise(&mut self, alloc: Global)
         requires root { IsRoot self.old }
         requires fits { length self.old.0 < 2 ^ 64 }

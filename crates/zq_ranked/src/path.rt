@@ -27,13 +27,15 @@ impl<'a> Path<'a> {
         }
     }
 
-    /// Comes to a place of a node, with what comes after it. The levels below the node have nothing left.
+    /// Comes to a place of a node, with what comes after it. The levels below the node have nothing
+    /// left.
     pub(crate) fn enter(&mut self, node: &'a Node, place: usize)
         requires low { node.now.1 ≤ LEVELS }
         requires path { IsPath self.old.levels }
         requires spent { onward (take node.now.1 self.old.levels) ≡ [] }
         ensures path { IsPath self.new.levels }
-        ensures pairs { self.new.block.now ++ onward self.new.levels ≡ drop place node.now.0 ++ onward self.old.levels }
+        ensures pairs { self.new.block.now ++ onward self.new.levels
+            ≡ drop place node.now.0 ++ onward self.old.levels }
         ensures some { place < length node.now.0 → 0 < length self.new.block.now }
     {
         match &node.form {
@@ -51,8 +53,8 @@ impl<'a> Path<'a> {
         }
     }
 
-    /// Comes to the end of a node's first so many pairs, with what comes before it. The levels below the node have nothing
-    /// left.
+    /// Comes to the end of a node's first so many pairs, with what comes before it. The levels
+    /// below the node have nothing left.
     pub(crate) fn enter_back(&mut self, node: &'a Node, place: usize)
         requires low { node.now.1 ≤ LEVELS }
         requires path { IsPath self.old.levels }
@@ -60,7 +62,8 @@ impl<'a> Path<'a> {
         requires some { 0 < place }
         requires within { place ≤ length node.now.0 }
         ensures path { IsPath self.new.levels }
-        ensures pairs { backward self.new.levels ++ self.new.block.now ≡ backward self.old.levels ++ take place node.now.0 }
+        ensures pairs { backward self.new.levels ++ self.new.block.now
+            ≡ backward self.old.levels ++ take place node.now.0 }
         ensures some { 0 < length self.new.block.now }
     {
         match &node.form {

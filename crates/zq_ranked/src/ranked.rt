@@ -9,8 +9,8 @@ use crate::pairs::{Backward, Forward};
 use std::alloc::{AllocError, Global};
 use std::marker::Model;
 
-/// Distinct pairs of a score and a member, by score and then by the member's bytes: a list whose calls take time in the
-/// logarithm of the pairs that were ever put in.
+/// Distinct pairs of a score and a member, by score and then by the member's bytes: a list whose
+/// calls take time in the logarithm of the pairs that were ever put in.
 #[derive(Drop)]
 pub struct Ranked {
     root: Node,
@@ -94,14 +94,17 @@ impl Ranked {
         }
     }
 
-    /// Puts a pair in at its place, and answers whether it was not there before. It takes memory where a block of pairs
-    /// grows or is split, and for a member of more than 16 bytes. Where memory is refused, which is only for a pair that
-    /// was not there, nothing changes; a split that is refused waits for a later pair, and this one is put in.
+    /// Puts a pair in at its place, and answers whether it was not there before. It takes memory
+    /// where a block of pairs grows or is split, and for a member of more than 16 bytes. Where
+    /// memory is refused, which is only for a pair that was not there, nothing changes; a split
+    /// that is refused waits for a later pair, and this one is put in.
     #[tactic(auto, using(crate::proofs::Puts::ranking_put, crate::proofs::Puts::length_put))]
     pub fn insert(&mut self, score: i128, member: &[u8]) -> Result<bool, AllocError>
         ensures put { IfOk result (λ added. self.new ≡
-            (if added then insert self.old (rank_of (score, member.now) self.old) (score, member.now) else self.old)) }
-        ensures absent { IfOk result (λ added. IsTrue added ↔ (Contains self.old (score, member.now) → ⊥)) }
+            (if added then insert self.old (rank_of (score, member.now) self.old)
+            (score, member.now) else self.old)) }
+        ensures absent { IfOk result (λ added. IsTrue added
+            ↔ (Contains self.old (score, member.now) → ⊥)) }
         ensures refused { OnErr result (self.new ≡ self.old) }
         ensures refused_absent { OnErr result (Contains self.old (score, member.now) → ⊥) }
     {
@@ -132,16 +135,17 @@ impl Ranked {
         taken
     }
 
-    /// The pairs from a place onward. A step inside a block of pairs takes constant time, and one to the next block walks
-    /// at most 12 levels up and down, whatever the length. It takes no memory.
+    /// The pairs from a place onward. A step inside a block of pairs takes constant time, and one
+    /// to the next block walks at most 12 levels up and down, whatever the length. It takes no
+    /// memory.
     pub fn iter_from(&self, place: usize) -> Forward<'_>
         ensures { result ≡ drop place self.now }
     {
         Forward::new(&self.root, place.min(self.len))
     }
 
-    /// The pairs before a place, the last of them first, by steps as those of `iter_from`. A step to the block before
-    /// also counts through each fork that it enters, of up to 64 nodes.
+    /// The pairs before a place, the last of them first, by steps as those of `iter_from`. A step
+    /// to the block before also counts through each fork that it enters, of up to 64 nodes.
     pub fn iter_back_from(&self, place: usize) -> Backward<'_>
         ensures { result ≡ reverse (take place self.now) }
     {
@@ -150,7 +154,8 @@ impl Ranked {
 
     /// Answers for a list that has no number for one more pair.
     fn refuse(&self, key: &Key<'_>) -> Result<bool, AllocError>
-        ensures known { IfOk result (λ added. (added ≡ false) × Contains self.now (pair_of_key key.now)) }
+        ensures known { IfOk result (λ added. (added ≡ false)
+            × Contains self.now (pair_of_key key.now)) }
         ensures absent { OnErr result (Contains self.now (pair_of_key key.now) → ⊥) }
     {
         if self.is_at(self.place_of(key), key) {

@@ -1,4 +1,5 @@
--- The grammar of requests, by cases on the bytes of a whole text. What is found comes with the bytes after it.
+-- The grammar of requests, by cases on the bytes of a whole text. What is found comes with the
+-- bytes after it.
 use Rattle.std.specs.Prelude.{ℕ, zero, suc, ◌+◌, ◌-◌, ◌*◌, ◌==◌, nat_le, nat_lt, Bool, ◌&&◌, if◌then◌else◌, List, [], ◌∷◌, ◌++◌, length, take, drop}
 use Rattle.zq_resp.specs.declared.fault.FeedFault.TheVariants.{Protocol, TooLong}
 use Rattle.zq_resp.specs.Front.{Front, Got, Part, Wrong, ◌>>=◌}
@@ -23,14 +24,16 @@ zero_at bytes = mark_at 13 bytes >>= λ rest. end_at 0 rest
 abbrev pub digits_at : ℕ → ℕ → List ℕ → Front (ℕ × List ℕ)
 digits_at limit n [] = Part
 digits_at limit n (b ∷ bytes) =
-    if is_digit b then (if nat_lt limit (n * 10 + (b - 48)) then Wrong TooLong else digits_at limit (n * 10 + (b - 48)) bytes)
+    if is_digit b then (if nat_lt limit (n * 10 + (b - 48)) then Wrong TooLong else digits_at limit
+    (n * 10 + (b - 48)) bytes)
     else (if b == 13 then end_at n bytes else Wrong Protocol)
 
 -- a number on a line: 0, or digits of which the first is not 0
 abbrev pub line_at : ℕ → List ℕ → Front (ℕ × List ℕ)
 line_at limit [] = Part
 line_at limit (b ∷ bytes) =
-    if b == 48 then zero_at bytes else (if is_digit b then digits_at limit (b - 48) bytes else Wrong Protocol)
+    if b == 48 then zero_at bytes else
+    (if is_digit b then digits_at limit (b - 48) bytes else Wrong Protocol)
 
 -- n bytes
 abbrev pub body_at : ℕ → List ℕ → Front (List ℕ × List ℕ)
@@ -58,7 +61,8 @@ words_at (suc k) bytes = do
 
 -- after the minus: a request of no words
 abbrev pub null_at : List ℕ → Front (List (List ℕ) × List ℕ)
-null_at bytes = mark_at 49 bytes >>= λ rest. mark_at 13 rest >>= λ rest. mark_at 10 rest >>= λ rest. Got ([], rest)
+null_at bytes = mark_at 49 bytes >>= λ rest. mark_at 13 rest >>= λ rest. mark_at 10 rest >>= λ rest.
+    Got ([], rest)
 
 -- the count of the words, and the words
 abbrev pub counted_at : List ℕ → Front (List (List ℕ) × List ℕ)
@@ -72,7 +76,8 @@ count_at (b ∷ bytes) = if b == 45 then null_at bytes else counted_at (b ∷ by
 abbrev pub asked_at : List ℕ → Front (List (List ℕ) × List ℕ)
 asked_at bytes = mark_at 42 bytes >>= λ rest. count_at rest
 
--- What was left out of the reading stands behind what is left of it; where a request needs it, it is too long.
+-- What was left out of the reading stands behind what is left of it; where a request needs it, it
+-- is too long.
 abbrev pub with_more : List ℕ → Front (List (List ℕ) × List ℕ) → Front (List (List ℕ) × List ℕ)
 with_more more (Got x) = Got (x.0, x.1 ++ more)
 with_more [] Part = Part

@@ -22,28 +22,34 @@ FoundIsSpelled =
 
 -- A spelling is read again, whatever follows it.
 abbrev pub SpellingIsFound : Type 0
-SpellingIsFound = (text rest : List ℕ) (words : List (List ℕ)) → IsSpelling text words → request_at (text ++ rest) ≡ Got (words, rest)
+SpellingIsFound = (text rest : List ℕ) (words : List (List ℕ)) → IsSpelling text words →
+    request_at (text ++ rest) ≡ Got (words, rest)
 
 -- A request that is found stays found with more bytes.
 abbrev pub FoundStays : Type 0
-FoundStays = (bytes more rest : List ℕ) (words : List (List ℕ)) → request_at bytes ≡ Got (words, rest) → request_at (bytes ++ more) ≡ Got (words, rest ++ more)
+FoundStays = (bytes more rest : List ℕ) (words : List (List ℕ)) →
+    request_at bytes ≡ Got (words, rest) → request_at (bytes ++ more) ≡ Got (words, rest ++ more)
 
 -- What begins no request begins none with more bytes, for the same reason.
 abbrev pub WrongStays : Type 0
-WrongStays = (bytes more : List ℕ) (why : FeedFault) → request_at bytes ≡ Wrong why → request_at (bytes ++ more) ≡ Wrong why
+WrongStays = (bytes more : List ℕ) (why : FeedFault) → request_at bytes ≡ Wrong why →
+    request_at (bytes ++ more) ≡ Wrong why
 
 -- A wrong text begins no request, whatever follows it.
 abbrev pub WrongBeginsNone : Type 0
 WrongBeginsNone =
-    (bytes more text rest : List ℕ) (words : List (List ℕ)) (why : FeedFault) → request_at bytes ≡ Wrong why
+    (bytes more text rest : List ℕ) (words : List (List ℕ)) (why : FeedFault) →
+    request_at bytes ≡ Wrong why
     → IsSpelling text words → bytes ++ more ≡ text ++ rest → ⊥
 
--- Less than a whole request is the beginning of one: some bytes behind it make it a request of the grammar, and it is
--- within the limit. (Its counts and lengths may ask for more than the limit: the fault comes when the limit is passed.)
+-- Less than a whole request is the beginning of one: some bytes behind it make it a request of the
+-- grammar, and it is within the limit. (Its counts and lengths may ask for more than the limit: the
+-- fault comes when the limit is passed.)
 abbrev pub PartBeginsOne : Type 0
 PartBeginsOne =
     (bytes : List ℕ) → request_at bytes ≡ Part
-    → (length bytes ≤ 16777216) × ((more : List ℕ) × (words : List (List ℕ)) × (asked_at (bytes ++ more) ≡ Got (words, [])))
+    → (length bytes ≤ 16777216)
+    × ((more : List ℕ) × (words : List (List ℕ)) × (asked_at (bytes ++ more) ≡ Got (words, [])))
 
 -- The beginning of a request, within the limit, is less than a whole one.
 abbrev pub BeginningIsPart : Type 0
@@ -54,17 +60,20 @@ BeginningIsPart =
 -- A text is requests and less than a whole one in one way.
 abbrev pub SplitsOnce : Type 0
 SplitsOnce =
-    (bytes rest left : List ℕ) (all others : Requests) → Splits bytes all rest → Splits bytes others left
+    (bytes rest left : List ℕ) (all others : Requests) → Splits bytes all rest →
+    Splits bytes others left
     → (all ≡ others) × (rest ≡ left)
 
 -- A text that breaks off does not split, and breaks off after the same requests for one reason.
 abbrev pub BreaksOnce : Type 0
 BreaksOnce =
-    (bytes : List ℕ) (all others : Requests) (why reason : FeedFault) → Breaks bytes all why → Breaks bytes others reason
+    (bytes : List ℕ) (all others : Requests) (why reason : FeedFault) → Breaks bytes all why →
+    Breaks bytes others reason
     → (all ≡ others) × (why ≡ reason)
 
 abbrev pub BreaksAlone : Type 0
-BreaksAlone = (bytes rest : List ℕ) (all others : Requests) (why : FeedFault) → Breaks bytes all why → Splits bytes others rest → ⊥
+BreaksAlone = (bytes rest : List ℕ) (all others : Requests) (why : FeedFault) →
+    Breaks bytes all why → Splits bytes others rest → ⊥
 
 -- a piece and the answer to it
 abbrev pub Turn : Type 0
@@ -73,7 +82,8 @@ Turn = List ℕ × Result Requests (FeedFault × Requests)
 -- Pieces that are fed one after the other, from what a reader has to what it has in the end.
 abbrev pub Run : Option (List ℕ) → List Turn → Option (List ℕ) → Type 0
 Run had [] last = had ≡ last
-Run had (turn ∷ turns) last = (has : Option (List ℕ)) × Feeds had turn.0 turn.1 has × Run has turns last
+Run had (turn ∷ turns) last = (has : Option (List ℕ)) × Feeds had turn.0 turn.1 has
+    × Run has turns last
 
 -- the whole text
 abbrev pub stream : List Turn → List ℕ
@@ -97,7 +107,8 @@ first_fault (turn ∷ turns) = or_else (first_fault turns) turn.1
 
 -- what the whole text gives, with its first fault and what is kept in the end
 abbrev pub Gives : List ℕ → Requests → Option FeedFault → Option (List ℕ) → Type 0
-Gives bytes requests None (Some rest) = (all : Requests) × Splits bytes all rest × (requests ≡ handed all)
+Gives bytes requests None (Some rest) = (all : Requests) × Splits bytes all rest
+    × (requests ≡ handed all)
 Gives bytes requests (Some why) None = Stops bytes why requests
 Gives bytes requests None None = ⊥
 Gives bytes requests (Some why) (Some rest) = ⊥
@@ -105,4 +116,5 @@ Gives bytes requests (Some why) (Some rest) = ⊥
 -- It does not matter how a text is cut into pieces: what they give together is what the text gives.
 abbrev pub PiecesGiveTheWhole : Type 0
 PiecesGiveTheWhole =
-    (turns : List Turn) (last : Option (List ℕ)) → Run (Some []) turns last → Gives (stream turns) (given turns) (first_fault turns) last
+    (turns : List Turn) (last : Option (List ℕ)) → Run (Some []) turns last →
+    Gives (stream turns) (given turns) (first_fault turns) last

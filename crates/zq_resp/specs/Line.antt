@@ -26,6 +26,8 @@ line_resume limit (line.Digits n) more = if n == 0 then zero_at more else digits
 line_resume limit (line.Ended n) more = end_at n more
 
 abbrev pub LineStep : ℕ → Line → ℕ → Result (Progress Line ℕ) FeedFault → Type 0
-LineStep limit old b (Ok (More new)) = IsLine limit new × Goes line_text (line_resume limit) old new (b ∷ [])
-LineStep limit old b (Ok (Whole n)) = (n ≤ limit) × Ends line_text (line_resume limit) old (b ∷ []) n (number_line n)
+LineStep limit old b (Ok (More new)) = IsLine limit new
+    × Goes line_text (line_resume limit) old new (b ∷ [])
+LineStep limit old b (Ok (Whole n)) = (n ≤ limit)
+    × Ends line_text (line_resume limit) old (b ∷ []) n (number_line n)
 LineStep limit old b (Err e) = (more : List ℕ) → IsWrong e (line_resume limit old (b ∷ more))

@@ -33,15 +33,20 @@ text_so_far (partial.Words words) = words_text words
 abbrev pub resume : Partial → List ℕ → Front (List (List ℕ) × List ℕ)
 resume partial.Start more = asked_at more
 resume (partial.Count line.Start) more = count_at more
-resume (partial.Count (line.Digits n)) more = line_resume 65536 (line.Digits n) more >>= λ n. words_at n.0 n.1
-resume (partial.Count (line.Ended n)) more = line_resume 65536 (line.Ended n) more >>= λ n. words_at n.0 n.1
+resume (partial.Count (line.Digits n)) more = line_resume 65536 (line.Digits n) more >>= λ n.
+    words_at n.0 n.1
+resume (partial.Count (line.Ended n)) more = line_resume 65536 (line.Ended n) more >>= λ n.
+    words_at n.0 n.1
 resume (partial.Null null) more = null_resume null more
 resume (partial.Words words) more = words_resume words more
 
-abbrev pub PartialStep : Partial → List ℕ → Result (Progress Partial (Vec (Vec ℕ Global) Global) × ℕ) FeedFault → Type 0
-PartialStep old bytes (Ok (More new, taken)) = IsPartial new × Goes text_so_far resume old new (take taken bytes)
+abbrev pub PartialStep : Partial → List ℕ →
+    Result (Progress Partial (Vec (Vec ℕ Global) Global) × ℕ) FeedFault → Type 0
+PartialStep old bytes (Ok (More new, taken)) = IsPartial new
+    × Goes text_so_far resume old new (take taken bytes)
 PartialStep old bytes (Ok (Whole words, taken)) =
-    AreWords (views words) × ((more : List ℕ) → resume old (take taken bytes ++ more) ≡ Got (views words, more))
+    AreWords (views words)
+    × ((more : List ℕ) → resume old (take taken bytes ++ more) ≡ Got (views words, more))
 PartialStep old bytes (Err e) = (more : List ℕ) → Fails e (resume old (bytes ++ more))
 
 -- no minus where the count may begin with one
@@ -49,14 +54,16 @@ abbrev pub IsPlain : Line → ℕ → Type 0
 IsPlain old b = old ≡ line.Start → b ≡ 45 → ⊥
 
 -- one byte
-abbrev pub ByteStep : Partial → ℕ → Result (Progress Partial (Vec (Vec ℕ Global) Global)) FeedFault → Type 0
+abbrev pub ByteStep : Partial → ℕ →
+    Result (Progress Partial (Vec (Vec ℕ Global) Global)) FeedFault → Type 0
 ByteStep old b (Ok (More new)) = IsPartial new × Goes text_so_far resume old new (b ∷ [])
 ByteStep old b (Ok (Whole words)) =
     AreWords (views words) × ((more : List ℕ) → resume old (b ∷ more) ≡ Got (views words, more))
 ByteStep old b (Err e) = (more : List ℕ) → IsWrong e (resume old (b ∷ more))
 
 -- a step within the words is a step of the request
-abbrev pub in_words : Progress Words (Vec (Vec ℕ Global) Global) → Progress Partial (Vec (Vec ℕ Global) Global)
+abbrev pub in_words : Progress Words (Vec (Vec ℕ Global) Global) →
+    Progress Partial (Vec (Vec ℕ Global) Global)
 in_words (More words) = More (partial.Words words)
 in_words (Whole words) = Whole words
 

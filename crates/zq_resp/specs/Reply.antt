@@ -26,7 +26,8 @@ joined (part ∷ parts) = part ++ joined parts
 abbrev pub pair : List ℕ → ℤ → List ℕ
 pair text number = 42 ∷ line (decimal 2) ++ joined (bulk text ∷ bulk (signed_decimal number) ∷ [])
 
--- the bytes of a reply, from those of its parts: `+`, `-`, `:`, `$` or `*` first, and `$-1` for the null bulk
+-- the bytes of a reply, from those of its parts: `+`, `-`, `:`, `$` or `*` first, and `$-1` for the
+-- null bulk
 abbrev pub bytes_from_parts : Reply-F (List ℕ) → List ℕ
 bytes_from_parts (Simple text) = 43 ∷ line text.now
 bytes_from_parts (Error text after) = 45 ∷ line (text.now ++ after_text after)

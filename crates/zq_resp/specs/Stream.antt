@@ -16,7 +16,8 @@ Requests = List (List (List ℕ))
 -- The bytes begin with these requests, one after the other, and the rest follows them.
 abbrev pub Reaches : List ℕ → Requests → List ℕ → Type 0
 Reaches bytes [] rest = bytes ≡ rest
-Reaches bytes (request ∷ requests) rest = (after : List ℕ) × (request_at bytes ≡ Got (request, after)) × Reaches after requests rest
+Reaches bytes (request ∷ requests) rest = (after : List ℕ)
+    × (request_at bytes ≡ Got (request, after)) × Reaches after requests rest
 
 -- The bytes are these requests and then less than a whole one.
 pub record Splits (bytes : List ℕ) (requests : Requests) (rest : List ℕ) : Type 0 where
@@ -37,7 +38,8 @@ has_words (word ∷ words) = true
 abbrev pub handed : Requests → Requests
 handed requests = filter has_words requests
 
--- The line with the count of a request of some words stands at the front. Before its end no memory is asked for.
+-- The line with the count of a request of some words stands at the front. Before its end no memory
+-- is asked for.
 pub record HasCount (bytes : List ℕ) : Type 0 where
   pub count : ℕ
   pub some : 1 ≤ count
@@ -45,17 +47,23 @@ pub record HasCount (bytes : List ℕ) : Type 0 where
   pub more : List ℕ
   pub is : bytes ≡ 42 ∷ number_line count ++ more
 
--- The requests before a fault: all up to what begins no request. Where memory was refused, all up to the request that
--- needed it, of which the count stands there.
+-- The requests before a fault: all up to what begins no request. Where memory was refused, all up
+-- to the request that needed it, of which the count stands there.
 abbrev pub Stops : List ℕ → FeedFault → Requests → Type 0
-Stops bytes fault.Protocol before = (all : Requests) × Breaks bytes all fault.Protocol × (before ≡ handed all)
-Stops bytes fault.TooLong before = (all : Requests) × Breaks bytes all fault.TooLong × (before ≡ handed all)
-Stops bytes fault.NoMemory before = (all : Requests) × (rest : List ℕ) × Reaches bytes all rest × (before ≡ handed all) × HasCount rest
+Stops bytes fault.Protocol before = (all : Requests) × Breaks bytes all fault.Protocol
+    × (before ≡ handed all)
+Stops bytes fault.TooLong before = (all : Requests) × Breaks bytes all fault.TooLong
+    × (before ≡ handed all)
+Stops bytes fault.NoMemory before = (all : Requests) × (rest : List ℕ) × Reaches bytes all rest
+    × (before ≡ handed all) × HasCount rest
 Stops bytes fault.Over before = ⊥
 
--- What a reader that has some bytes of an unfinished request answers to a piece, and what it has then: None after a fault.
-abbrev pub Feeds : Option (List ℕ) → List ℕ → Result Requests (FeedFault × Requests) → Option (List ℕ) → Type 0
-Feeds (Some had) piece (Ok requests) (Some has) = (all : Requests) × Splits (had ++ piece) all has × (requests ≡ handed all)
+-- What a reader that has some bytes of an unfinished request answers to a piece, and what it has
+-- then: None after a fault.
+abbrev pub Feeds : Option (List ℕ) → List ℕ → Result Requests (FeedFault × Requests) →
+    Option (List ℕ) → Type 0
+Feeds (Some had) piece (Ok requests) (Some has) = (all : Requests) × Splits (had ++ piece) all has
+    × (requests ≡ handed all)
 Feeds (Some had) piece (Err (why, before)) None = Stops (had ++ piece) why before
 Feeds None piece (Err (fault.Over, before)) None = before ≡ []
 Feeds (Some had) piece (Ok requests) None = ⊥
@@ -89,6 +97,7 @@ listed None = []
 listed (Some request) = request ∷ []
 
 -- an answer as lists
-abbrev pub answered : Result (Vec (List (List ℕ)) Global) FeedError → Result Requests (FeedFault × Requests)
+abbrev pub answered : Result (Vec (List (List ℕ)) Global) FeedError →
+    Result Requests (FeedFault × Requests)
 answered (Ok requests) = Ok requests.items
 answered (Err error) = Err (error.fault, error.before.items)

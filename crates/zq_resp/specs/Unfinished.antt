@@ -20,18 +20,23 @@ pub record Stands (u : Unfinished) : Type 0 where
   pub size_is : length (text_so_far u.partial) ≡ u.size
   pub resumes : (more : List ℕ) → asked_at (text_so_far u.partial ++ more) ≡ resume u.partial more
 
-abbrev pub UnfinishedStep : Unfinished → List ℕ → Result (Progress Unfinished (Vec (Vec ℕ Global) Global) × ℕ) FeedFault → Type 0
+abbrev pub UnfinishedStep : Unfinished → List ℕ →
+    Result (Progress Unfinished (Vec (Vec ℕ Global) Global) × ℕ) FeedFault → Type 0
 UnfinishedStep old bytes (Ok (More new, taken)) =
-    Stands new × (taken ≡ length bytes) × (text_so_far new.partial ≡ text_so_far old.partial ++ bytes)
+    Stands new × (taken ≡ length bytes)
+    × (text_so_far new.partial ≡ text_so_far old.partial ++ bytes)
 UnfinishedStep old bytes (Ok (Whole words, taken)) =
-    AreWords (views words) × (request_at (text_so_far old.partial ++ bytes) ≡ Got (views words, drop taken bytes))
+    AreWords (views words)
+    × (request_at (text_so_far old.partial ++ bytes) ≡ Got (views words, drop taken bytes))
 UnfinishedStep old bytes (Err e) = Fails e (request_at (text_so_far old.partial ++ bytes))
 
 -- What a piece gives: the requests grow by those of the bytes up to what is kept, or up to a fault.
 abbrev pub PieceGives : Result Unfinished FeedFault → List ℕ → Requests → Requests → Type 0
 PieceGives (Ok new) bytes before after =
-    (all : Requests) × Stands new × Reaches bytes all (text_so_far new.partial) × (after ≡ before ++ handed all)
-PieceGives (Err e) bytes before after = (new : Requests) × Stops bytes e new × (after ≡ before ++ new)
+    (all : Requests) × Stands new × Reaches bytes all (text_so_far new.partial)
+    × (after ≡ before ++ handed all)
+PieceGives (Err e) bytes before after = (new : Requests) × Stops bytes e new
+    × (after ≡ before ++ new)
 
 -- what contracts see of a reader: the bytes of the unfinished request, None after a fault
 abbrev pub kept : Option Unfinished → Option (List ℕ)

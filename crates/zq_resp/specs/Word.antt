@@ -34,11 +34,14 @@ part_resume (word.Length line) more =
     line_resume 1048576 line more >>= λ n. body_at n.0 n.1 >>= λ word. ended_at word.0 word.1
 part_resume (word.Sized n) more = body_at n more >>= λ word. ended_at word.0 word.1
 part_resume (word.Cut begun n) more =
-    body_at (n - length begun.value.items) more >>= λ word. ended_at (begun.value.items ++ word.0) word.1
+    body_at (n - length begun.value.items) more >>= λ word.
+    ended_at (begun.value.items ++ word.0) word.1
 part_resume (word.Ended bytes) more = mark_at 10 more >>= λ rest. Got (bytes.items, rest)
 
 abbrev pub WordStep : Word → List ℕ → Result (Progress Word (Vec ℕ Global) × ℕ) FeedFault → Type 0
-WordStep old bytes (Ok (More new, taken)) = IsPart new × Goes part_text part_resume old new (take taken bytes)
+WordStep old bytes (Ok (More new, taken)) = IsPart new
+    × Goes part_text part_resume old new (take taken bytes)
 WordStep old bytes (Ok (Whole word, taken)) =
-    IsWord word.items × Ends part_text part_resume old (take taken bytes) word.items (word_text word.items)
+    IsWord word.items × Ends part_text part_resume old (take taken bytes) word.items
+    (word_text word.items)
 WordStep old bytes (Err e) = (more : List ℕ) → Fails e (part_resume old (bytes ++ more))

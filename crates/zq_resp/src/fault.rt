@@ -10,11 +10,13 @@ use std::alloc::{AllocError, AllocFailed};
 pub enum FeedFault {
     /// The bytes up to here begin no request.
     Protocol,
-    /// A count above 65,536, a word's length above 1,048,576, or a request of more than 16,777,216 bytes.
+    /// A count above 65,536, a word's length above 1,048,576, or a request of more than 16,777,216
+    /// bytes.
     TooLong,
     /// An earlier call failed.
     Over,
-    /// Memory for a word or a request was refused. It comes behind the line of a count of one word or more.
+    /// Memory for a word or a request was refused. It comes behind the line of a count of one word
+    /// or more.
     NoMemory,
 }
 

@@ -1,4 +1,5 @@
-//! Laws of the grammar of requests and of streams of them. The functions do nothing: each stands for its contract.
+//! Laws of the grammar of requests and of streams of them. The functions do nothing: each stands
+//! for its contract.
 
 ghost use Rattle.zq_resp.specs.Laws.{BeginningIsPart, BreaksAlone, BreaksOnce, FoundIsSpelled, FoundStays, PartBeginsOne, PiecesGiveTheWhole, SpellingIsFound, SplitsOnce, WrongBeginsNone, WrongStays};
 
@@ -30,8 +31,8 @@ pub fn one_reading()
     ensures apart { BreaksAlone }
 {}
 
-/// A text that is fed in pieces gives the requests, the rest and the fault of the whole text, however it is
-/// cut. Where there was no memory it gives the first of the requests.
+/// A text that is fed in pieces gives the requests, the rest and the fault of the whole text,
+/// however it is cut. Where there was no memory it gives the first of the requests.
 pub fn pieces_give_the_whole()
     ensures { PiecesGiveTheWhole }
 {}

@@ -24,9 +24,10 @@ use std::alloc::Global;
 use std::marker::Model;
 use unfinished::{Unfinished, read_on, request_of};
 
-/// Reads requests from a stream of bytes, in whatever pieces it comes. Between two pieces it keeps the
-/// request that is not yet whole: its words that are whole, and of the word that the piece's end cut the
-/// bytes so far. Beside it there is the memory of requests that were given back, and nothing else.
+/// Reads requests from a stream of bytes, in whatever pieces it comes. Between two pieces it keeps
+/// the request that is not yet whole: its words that are whole, and of the word that the piece's
+/// end cut the bytes so far. Beside it there is the memory of requests that were given back, and
+/// nothing else.
 #[derive(Drop)]
 pub struct Reader {
     unfinished: Option<Unfinished>,
@@ -67,17 +68,18 @@ impl Reader {
         }
     }
 
-    /// Takes the next piece of the stream, and hands out the requests that end in it, in order. Requests of
-    /// no words are left out.
+    /// Takes the next piece of the stream, and hands out the requests that end in it, in order.
+    /// Requests of no words are left out.
     ///
-    /// A fault comes at a byte that depends on the stream alone, and not on where the pieces are cut. The
-    /// error has the requests that ended in this piece before the fault. Each later call answers `Over`.
+    /// A fault comes at a byte that depends on the stream alone, and not on where the pieces are
+    /// cut. The error has the requests that ended in this piece before the fault. Each later call
+    /// answers `Over`.
     ///
     /// - `Protocol`: at the first byte with which the text so far begins no request.
-    /// - `TooLong`: at the digit that makes a count above 65,536 or a length above 1,048,576, and at byte
-    ///   16,777,217 of a request, also where that byte would be `Protocol`.
-    /// - `NoMemory`: memory was refused. The piece was read up to the request that needed it, at least to the end of the
-    ///   line of its count. All requests before that one are there.
+    /// - `TooLong`: at the digit that makes a count above 65,536 or a length above 1,048,576, and
+    ///   at byte 16,777,217 of a request, also where that byte would be `Protocol`.
+    /// - `NoMemory`: memory was refused. The piece was read up to the request that needed it, at
+    ///   least to the end of the line of its count. All requests before that one are there.
     ///
     /// Memory is taken for bytes that have come, never for a declared count or length.
     pub fn feed(&mut self, alloc: Global, piece: &[u8]) -> Result<Vec<Request>, FeedError>
@@ -96,13 +98,14 @@ impl Reader {
         }
     }
 
-    /// Takes the next piece of the stream up to the end of the first request in it, and answers that request with
-    /// the number of bytes taken. `None` where they end no request, or one of no words, which is left out: then all
-    /// of the piece is taken, or what follows is to be taken next.
+    /// Takes the next piece of the stream up to the end of the first request in it, and answers
+    /// that request with the number of bytes taken. `None` where they end no request, or one of no
+    /// words, which is left out: then all of the piece is taken, or what follows is to be taken
+    /// next.
     ///
-    /// It does what [`Reader::feed`] does with the bytes taken, and at a fault, which is one of those named there, what that
-    /// does with the piece. The fault is one of the first request: those before it were answered by earlier calls. Each
-    /// later call answers `Over`.
+    /// It does what [`Reader::feed`] does with the bytes taken, and at a fault, which is one of
+    /// those named there, what that does with the piece. The fault is one of the first request:
+    /// those before it were answered by earlier calls. Each later call answers `Over`.
     pub fn next_request(
         &mut self,
         alloc: Global,
@@ -110,7 +113,8 @@ impl Reader {
     ) -> Result<(Option<Request>, usize), FeedFault>
         ensures within { IfOk result (λ found. found.1 ≤ length piece.now) }
         ensures some { IfOk result (λ found. 0 < length piece.now → 0 < found.1) }
-        ensures fed { IfOk result (λ found. Feeds self.old (take found.1 piece.now) (Ok (listed found.0)) self.new) }
+        ensures fed { IfOk result
+            (λ found. Feeds self.old (take found.1 piece.now) (Ok (listed found.0)) self.new) }
         ensures ended { IfOk result (λ found. found.1 < length piece.now → self.new ≡ Some []) }
         ensures fault { IfErr result (λ why. Feeds self.old piece.now (Err (why, [])) self.new) }
         ensures first { IfErr result (λ why. FailsFirst self.old piece.now why) }
@@ -139,7 +143,8 @@ impl Reader {
     ) -> Result<(Option<Request>, usize), FeedFault>
         ensures within { IfOk result (λ found. found.1 ≤ length piece.now) }
         ensures some { IfOk result (λ found. 0 < length piece.now → 0 < found.1) }
-        ensures fed { IfOk result (λ found. Feeds self.old (take found.1 piece.now) (Ok (listed found.0)) self.new) }
+        ensures fed { IfOk result
+            (λ found. Feeds self.old (take found.1 piece.now) (Ok (listed found.0)) self.new) }
         ensures ended { IfOk result (λ found. found.1 < length piece.now → self.new ≡ Some []) }
         ensures fault { IfErr result (λ why. Feeds self.old piece.now (Err (why, [])) self.new) }
         ensures first { IfErr result (λ why. FailsFirst self.old piece.now why) }
@@ -164,11 +169,12 @@ impl Reader {
         }
     }
 
-    /// Takes a request back of which nothing is needed any more, for its memory: a later one of as many words is
-    /// put into it.
+    /// Takes a request back of which nothing is needed any more, for its memory: a later one of as
+    /// many words is put into it.
     ///
-    /// One is kept for each number of words up to nine, where its list has at most 16 places and each word at most
-    /// 128 bytes of memory. So a reader keeps at most 9,216 bytes of it. All else is given back.
+    /// One is kept for each number of words up to nine, where its list has at most 16 places and
+    /// each word at most 128 bytes of memory. So a reader keeps at most 9,216 bytes of it. All else
+    /// is given back.
     #[inline(always)]
     pub fn give_back(&mut self, request: Request)
         ensures { self.new ≡ self.old }

@@ -40,7 +40,8 @@ pub enum Reply {
 pub fn write_reply(out: &mut Vec<u8>, reply: &Reply) -> Result<(), AllocError>
     requires { IsTrue (is_writable reply.now) }
     ensures written { OnOk result (out.new.items ≡ out.old.items ++ reply_bytes reply.now) }
-    ensures full { OnErr result (vec_capacity out.old < vec_len out.old + length (reply_bytes reply.now)) }
+    ensures full { OnErr result
+        (vec_capacity out.old < vec_len out.old + length (reply_bytes reply.now)) }
     ensures refused { OnErr result (out.new.items ≡ out.old.items) }
 {
     let start = out.len();
@@ -55,7 +56,8 @@ pub fn write_reply(out: &mut Vec<u8>, reply: &Reply) -> Result<(), AllocError>
 #[cycle(append)]
 fn append_reply(out: &mut Vec<u8>, reply: &Reply) -> Result<(), AllocError>
     ensures written { OnOk result (out.new.items ≡ out.old.items ++ reply_bytes reply.now) }
-    ensures full { OnErr result (vec_capacity out.old < vec_len out.old + length (reply_bytes reply.now)) }
+    ensures full { OnErr result
+        (vec_capacity out.old < vec_len out.old + length (reply_bytes reply.now)) }
     ensures kept { take (length out.old.items) out.new.items ≡ out.old.items }
     ensures capacity { vec_capacity out.old ≤ vec_capacity out.new }
 {
@@ -77,7 +79,8 @@ fn append_reply(out: &mut Vec<u8>, reply: &Reply) -> Result<(), AllocError>
 #[cycle(append)]
 fn append_all(out: &mut Vec<u8>, replies: &[Reply]) -> Result<(), AllocError>
     ensures written { OnOk result (out.new.items ≡ out.old.items ++ all_bytes replies.now) }
-    ensures full { OnErr result (vec_capacity out.old < vec_len out.old + length (all_bytes replies.now)) }
+    ensures full { OnErr result
+        (vec_capacity out.old < vec_len out.old + length (all_bytes replies.now)) }
     ensures kept { take (length out.old.items) out.new.items ≡ out.old.items }
     ensures capacity { vec_capacity out.old ≤ vec_capacity out.new }
 {
@@ -90,7 +93,8 @@ fn append_all(out: &mut Vec<u8>, replies: &[Reply]) -> Result<(), AllocError>
 #[inline(always)]
 fn append_line(out: &mut Vec<u8>, kind: u8, text: &[u8]) -> Result<(), AllocError>
     ensures written { OnOk result (out.new.items ≡ out.old.items ++ kind ∷ line text.now) }
-    ensures full { OnErr result (vec_capacity out.old < vec_len out.old + length (kind ∷ line text.now)) }
+    ensures full { OnErr result
+        (vec_capacity out.old < vec_len out.old + length (kind ∷ line text.now)) }
     ensures kept { take (length out.old.items) out.new.items ≡ out.old.items }
     ensures capacity { vec_capacity out.old ≤ vec_capacity out.new }
 {
@@ -100,8 +104,10 @@ fn append_line(out: &mut Vec<u8>, kind: u8, text: &[u8]) -> Result<(), AllocErro
 
 /// A line with a number that may be below 0. Most are counts.
 fn append_integer(out: &mut Vec<u8>, number: i64) -> Result<(), AllocError>
-    ensures written { OnOk result (out.new.items ≡ out.old.items ++ 58 ∷ line (signed_decimal number)) }
-    ensures full { OnErr result (vec_capacity out.old < vec_len out.old + length (58 ∷ line (signed_decimal number))) }
+    ensures written { OnOk result
+        (out.new.items ≡ out.old.items ++ 58 ∷ line (signed_decimal number)) }
+    ensures full { OnErr result
+        (vec_capacity out.old < vec_len out.old + length (58 ∷ line (signed_decimal number))) }
     ensures kept { take (length out.old.items) out.new.items ≡ out.old.items }
     ensures capacity { vec_capacity out.old ≤ vec_capacity out.new }
 {
@@ -115,7 +121,8 @@ fn append_integer(out: &mut Vec<u8>, number: i64) -> Result<(), AllocError>
 #[inline(always)]
 fn append_number(out: &mut Vec<u8>, kind: u8, number: usize) -> Result<(), AllocError>
     ensures written { OnOk result (out.new.items ≡ out.old.items ++ kind ∷ line (decimal number)) }
-    ensures full { OnErr result (vec_capacity out.old < vec_len out.old + length (kind ∷ line (decimal number))) }
+    ensures full { OnErr result
+        (vec_capacity out.old < vec_len out.old + length (kind ∷ line (decimal number))) }
     ensures kept { take (length out.old.items) out.new.items ≡ out.old.items }
     ensures capacity { vec_capacity out.old ≤ vec_capacity out.new }
 {
@@ -146,8 +153,11 @@ fn append_ended(out: &mut Vec<u8>, text: &[u8]) -> Result<(), AllocError>
 }
 
 fn append_error(out: &mut Vec<u8>, text: &[u8], after: Option<u64>) -> Result<(), AllocError>
-    ensures written { OnOk result (out.new.items ≡ out.old.items ++ 45 ∷ line (text.now ++ after_text after)) }
-    ensures full { OnErr result (vec_capacity out.old < vec_len out.old + length (45 ∷ line (text.now ++ after_text after))) }
+    ensures written { OnOk result
+        (out.new.items ≡ out.old.items ++ 45 ∷ line (text.now ++ after_text after)) }
+    ensures full { OnErr result
+        (vec_capacity out.old < vec_len out.old
+        + length (45 ∷ line (text.now ++ after_text after))) }
     ensures kept { take (length out.old.items) out.new.items ≡ out.old.items }
     ensures capacity { vec_capacity out.old ≤ vec_capacity out.new }
 {
@@ -174,7 +184,8 @@ fn append_bulk(out: &mut Vec<u8>, bytes: &[u8]) -> Result<(), AllocError>
 /// A bulk string of a number's digits. Most numbers take 64 bits, which are written in fewer steps.
 fn append_digits(out: &mut Vec<u8>, number: i128) -> Result<(), AllocError>
     ensures written { OnOk result (out.new.items ≡ out.old.items ++ bulk (signed_decimal number)) }
-    ensures full { OnErr result (vec_capacity out.old < vec_len out.old + length (bulk (signed_decimal number))) }
+    ensures full { OnErr result
+        (vec_capacity out.old < vec_len out.old + length (bulk (signed_decimal number))) }
     ensures kept { take (length out.old.items) out.new.items ≡ out.old.items }
     ensures capacity { vec_capacity out.old ≤ vec_capacity out.new }
 {
@@ -186,7 +197,8 @@ fn append_digits(out: &mut Vec<u8>, number: i128) -> Result<(), AllocError>
 
 fn append_pair(out: &mut Vec<u8>, text: &[u8], number: i128) -> Result<(), AllocError>
     ensures written { OnOk result (out.new.items ≡ out.old.items ++ pair text.now number) }
-    ensures full { OnErr result (vec_capacity out.old < vec_len out.old + length (pair text.now number)) }
+    ensures full { OnErr result
+        (vec_capacity out.old < vec_len out.old + length (pair text.now number)) }
     ensures kept { take (length out.old.items) out.new.items ≡ out.old.items }
     ensures capacity { vec_capacity out.old ≤ vec_capacity out.new }
 {

@@ -57,8 +57,8 @@ impl Request {
         self.words
     }
 
-    /// Whether it takes little memory: it has at most nine words, in a list of at most 16 places, and each
-    /// word has at most 128 bytes of memory.
+    /// Whether it takes little memory: it has at most nine words, in a list of at most 16 places,
+    /// and each word has at most 128 bytes of memory.
     pub(crate) fn is_small(&self) -> bool {
         self.words.len() <= FEW_WORDS
             && self.words.capacity() <= FEW_PLACES

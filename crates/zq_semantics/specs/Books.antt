@@ -10,7 +10,8 @@ use Rattle.zq_model.specs.Moves.{Move}
 use Rattle.zq_semantics.specs.Run.{LAST_COUNT}
 use Rattle.zq_semantics.specs.State.{State}
 
--- the book of the site's heap h: it has the image of the site's set there, and the heap's stamp and count
+-- the book of the site's heap h: it has the image of the site's set there, and the heap's stamp and
+-- count
 pub record IsBookOf (rule : Rule) (K : ℕ) (st : State) (site h : ℕ) (b : Book) : Type 0 where
   pub heap : b.heap ≡ h
   pub heaps : b.heaps ≡ K
@@ -20,9 +21,10 @@ pub record IsBookOf (rule : Rule) (K : ℕ) (st : State) (site h : ℕ) (b : Boo
   pub count : b.count ≡ st.counts site h
 
 -- the books of the site's heaps, in order
-pub record AreBooksOf (rule : Rule) (K : ℕ) (st : State) (site : ℕ) (books : List Book) : Type 0 where
-  pub number : length books ≡ K
-  pub each : (h : ℕ) (b : Book) → slice_get books h ≡ Some b → IsBookOf rule K st site h b
+pub record AreBooksOf (rule : Rule) (K : ℕ) (st : State) (site : ℕ) (books : List Book) : Type 0
+  where
+    pub number : length books ≡ K
+    pub each : (h : ℕ) (b : Book) → slice_get books h ≡ Some b → IsBookOf rule K st site h b
 
 -- no number of the books is past its last value
 abbrev pub AreUnworn : List Book → Type 0

@@ -21,13 +21,15 @@ second_drawn K w1 w2 = (first_drawn K w1 + 1 + w2 % (K - 1)) % K
 
 -- the lesser of them first
 abbrev pub drawn : ℕ → ℕ → ℕ → List ℕ
-drawn K w1 w2 = min (first_drawn K w1) (second_drawn K w1 w2) ∷ max (first_drawn K w1) (second_drawn K w1 w2) ∷ []
+drawn K w1 w2 = min (first_drawn K w1) (second_drawn K w1 w2)
+    ∷ max (first_drawn K w1) (second_drawn K w1 w2) ∷ []
 
--- the queues over which a command plans: over the heaps that are drawn for ZPOPNEAR, where one of them has a member of the
--- key, and else over all
+-- the queues over which a command plans: over the heaps that are drawn for ZPOPNEAR, where one of
+-- them has a member of the key, and else over all
 abbrev pub queues_for : Rule → ℕ → List Operation → ℕ → ℕ → Command → Queues
 queues_for rule K S w1 w2 (Zpopnear key) =
-    if is_there (queues_over rule S (drawn K w1 w2) key) then queues_over rule S (drawn K w1 w2) else queues_over rule S (heaps_in K)
+    if is_there (queues_over rule S (drawn K w1 w2) key) then queues_over rule S
+    (drawn K w1 w2) else queues_over rule S (heaps_in K)
 queues_for rule K S w1 w2 command = queues_over rule S (heaps_in K)
 
 pub record Done : Type 0 where
@@ -46,7 +48,8 @@ done_to K site stamp plan cut st k = record {
 
 -- as many of the moves stand as can
 abbrev pub done_by : ℕ → ℕ → ℕ → Plan → (ℕ → Reply) → State → Done
-done_by K site stamp plan cut st = done_to K site stamp plan cut st (standing K site stamp plan.moves st)
+done_by K site stamp plan cut st =
+    done_to K site stamp plan cut st (standing K site stamp plan.moves st)
 
 -- PING asks for no stamp
 abbrev pub is_ping : Command → Bool
@@ -57,9 +60,11 @@ abbrev pub done_command : Rule → ℕ → ℕ → ℕ → ℕ → State → Com
 done_command rule K site w1 w2 st command queues =
     if is_ping command then unchanged st (bytes_of (plan_of command queues).reply) else
     if is_worn K st site then unchanged st (bytes_of (cut_error 0 Number)) else
-    done_by K site (next_stamp K st site) (plan_of command queues) (λ k. cut_reply command queues k Number) st
+    done_by K site (next_stamp K st site) (plan_of command queues)
+    (λ k. cut_reply command queues k Number) st
 
 -- what a request does that a site is asked, with two words drawn for it
 abbrev pub done : Rule → ℕ → ℕ → ℕ → ℕ → State → Reading → Done
 done rule K site w1 w2 st (Err refused) = unchanged st (refused_bytes refused)
-done rule K site w1 w2 st (Ok command) = done_command rule K site w1 w2 st command (queues_for rule K (st.sets site) w1 w2 command)
+done rule K site w1 w2 st (Ok command) =
+    done_command rule K site w1 w2 st command (queues_for rule K (st.sets site) w1 w2 command)

@@ -24,7 +24,8 @@ pub data Answer : Type 0 where
   Handed : (taken : Option Taken) → Answer
   Merged : Answer
 
--- a state, what each site had after each number of events up to it, none first, and what each event was answered
+-- a state, what each site had after each number of events up to it, none first, and what each event
+-- was answered
 pub record Run : Type 0 where
   pub now : State
   pub past : List Sets
@@ -38,7 +39,8 @@ is_blocked K st site heap = is_worn K st site || is_full st site heap
 
 abbrev pub after_taken : ℕ → State → ℕ → Operation → Taken → State
 after_taken K st site o New =
-    if is_blocked K st site o.heap then st else counted st site o.heap (next_stamp K st site) st.made (o ∷ st.sets site)
+    if is_blocked K st site o.heap then st else counted st site o.heap
+    (next_stamp K st site) st.made (o ∷ st.sets site)
 after_taken K st site o Known = st
 after_taken K st site o Early = st
 
@@ -72,7 +74,8 @@ set_at r moment site = set_in (slice_get r.past moment) site
 abbrev pub after_merge : ℕ → Run → ℕ → ℕ → ℕ → ℕ → State
 after_merge K r site from heap moment =
     if is_blocked K r.now site heap then r.now else
-    counted r.now site heap (next_stamp K r.now site) r.now.made (r.now.sets site ++ in_heap heap (set_at r moment from))
+    counted r.now site heap (next_stamp K r.now site) r.now.made
+    (r.now.sets site ++ in_heap heap (set_at r moment from))
 
 -- ---- an event
 
@@ -82,7 +85,8 @@ state_after rule K r (Take site op) = after_take K r.now site (slice_get r.now.m
 state_after rule K r (Merge site from heap moment) = after_merge K r site from heap moment
 
 abbrev pub answer_to : Rule → ℕ → Run → Event → Answer
-answer_to rule K r (Do site words w1 w2) = Replied (done rule K site w1 w2 r.now (command_of words)).reply
+answer_to rule K r (Do site words w1 w2) =
+    Replied (done rule K site w1 w2 r.now (command_of words)).reply
 answer_to rule K r (Take site op) = Handed (answer_to_take K r.now site (slice_get r.now.made op))
 answer_to rule K r (Merge site from heap moment) = Merged
 
@@ -90,4 +94,5 @@ answer_to rule K r (Merge site from heap moment) = Merged
 abbrev pub is_possible : ℕ → ℕ → Run → Event → Bool
 is_possible K sites r (Do site words w1 w2) = nat_lt site sites
 is_possible K sites r (Take site op) = nat_lt site sites && nat_lt op (length r.now.made)
-is_possible K sites r (Merge site from heap moment) = nat_lt site sites && (nat_lt from sites && (nat_lt heap K && nat_lt moment (length r.past)))
+is_possible K sites r (Merge site from heap moment) =
+    nat_lt site sites && (nat_lt from sites && (nat_lt heap K && nat_lt moment (length r.past)))

@@ -25,15 +25,18 @@ pub record Plan : Type 0 where
 -- the moves of the parts from left to right, each on what those before left
 abbrev pub moves_in_turn : {X : Type 0} → (Queues → X → Part) → List X → Queues → List Move
 moves_in_turn f [] queues = []
-moves_in_turn f (x ∷ xs) queues = (f queues x).moves ++ moves_in_turn f xs (after_all (f queues x).moves queues)
+moves_in_turn f (x ∷ xs) queues = (f queues x).moves
+    ++ moves_in_turn f xs (after_all (f queues x).moves queues)
 
 -- the number of the parts that count
 abbrev pub count_in_turn : {X : Type 0} → (Queues → X → Part) → List X → Queues → ℕ
 count_in_turn f [] queues = 0
-count_in_turn f (x ∷ xs) queues = (if (f queues x).is_counted then 1 else 0) + count_in_turn f xs (after_all (f queues x).moves queues)
+count_in_turn f (x ∷ xs) queues = (if (f queues x).is_counted then 1 else 0)
+    + count_in_turn f xs (after_all (f queues x).moves queues)
 
 abbrev pub in_turn : {X : Type 0} → (Queues → X → Part) → List X → Queues → Plan
-in_turn f xs queues = record { moves = moves_in_turn f xs queues; reply = count_reply (count_in_turn f xs queues) }
+in_turn f xs queues =
+    record { moves = moves_in_turn f xs queues; reply = count_reply (count_in_turn f xs queues) }
 
 abbrev pub nothing : Part
 nothing = record { moves = []; is_counted = false }
@@ -44,7 +47,8 @@ one key member act = record { key = key; member = member; act = act } ∷ []
 -- whether the flags let a member that has this score, where it is there, have the new one
 abbrev pub lets : Flags → Option ℤ → ℤ → Bool
 lets flags None new = not flags.xx
-lets flags (Some old) new = not flags.nx && ((not flags.gt || int_lt old new) && (not flags.lt || int_lt new old))
+lets flags (Some old) new =
+    not flags.nx && ((not flags.gt || int_lt old new) && (not flags.lt || int_lt new old))
 
 -- a member that was not there, and with CH also one whose score changes
 abbrev pub counts : Flags → Option ℤ → ℤ → Bool
@@ -59,7 +63,8 @@ zadd_part key flags queues pair =
 
 abbrev pub zrem_part : Word → Queues → Word → Part
 zrem_part key queues member =
-    if is_some (score_in (queues key) member) then record { moves = one key member Drop; is_counted = true } else nothing
+    if is_some (score_in (queues key) member) then
+    record { moves = one key member Drop; is_counted = true } else nothing
 
 abbrev pub drops : Word → Queue → List Move
 drops key pairs = map (λ pair. record { key = key; member = pair.1; act = Drop }) pairs
@@ -96,20 +101,25 @@ raise key member old increment =
 
 abbrev pub raise_if : Flags → Word → Word → Option ℤ → ℤ → Plan
 raise_if flags key member old increment =
-    if lets flags old (sum_of old increment) then raise key member old increment else reading NullBulk
+    if lets flags old (sum_of old increment) then raise key member old increment else reading
+    NullBulk
 
 abbrev pub plan_of : Command → Queues → Plan
 plan_of (Ping message) queues = reading (ping_reply message)
 plan_of (Zadd key flags pairs) queues = in_turn (zadd_part key flags) pairs queues
-plan_of (ZaddIncr key flags increment member) queues = raise_if flags key member (score_in (queues key) member) increment
-plan_of (Zincrby key increment member) queues = raise key member (score_in (queues key) member) increment
+plan_of (ZaddIncr key flags increment member) queues =
+    raise_if flags key member (score_in (queues key) member) increment
+plan_of (Zincrby key increment member) queues =
+    raise key member (score_in (queues key) member) increment
 plan_of (Zrem key members) queues = in_turn (zrem_part key) members queues
 plan_of (Zscore key member) queues = reading (score_reply (score_in (queues key) member))
 plan_of (Zcard key) queues = reading (count_reply (length (queues key)))
-plan_of (Zcount key min max) queues = reading (count_reply (count_by (is_within min max) (queues key)))
+plan_of (Zcount key min max) queues =
+    reading (count_reply (count_by (is_within min max) (queues key)))
 plan_of (Zrank key member) queues = reading (place_reply (rank_in (queues key) member))
 plan_of (Zrevrank key member) queues = reading (place_reply (turned_rank_in (queues key) member))
-plan_of (Zrange key range is_turned with_scores) queues = reading (pairs_reply with_scores (ranged range (turned_if is_turned (queues key))))
+plan_of (Zrange key range is_turned with_scores) queues =
+    reading (pairs_reply with_scores (ranged range (turned_if is_turned (queues key))))
 plan_of (Zpopmin key count) queues = pop key (from_zero count) queues
 plan_of (Zpopnear key) queues = pop key 1 queues
 plan_of (Del keys) queues = in_turn del_part keys queues

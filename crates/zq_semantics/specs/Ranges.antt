@@ -20,7 +20,8 @@ is_above min score = is_above_limit min.is_out min.limit score
 
 abbrev pub is_below_limit : Bool → Limit → ℤ → Bool
 is_below_limit is_out Lowest score = false
-is_below_limit is_out (At greatest) score = if is_out then int_lt score greatest else int_le score greatest
+is_below_limit is_out (At greatest) score =
+    if is_out then int_lt score greatest else int_le score greatest
 is_below_limit is_out Highest score = true
 
 abbrev pub is_below : Bound → ℤ → Bool
@@ -40,7 +41,8 @@ placed size place = if int_lt place (pos 0) then place +ℤ pos size else place
 
 -- the pairs from the place start to the place stop, both included
 abbrev pub places : ℤ → ℤ → Queue → Queue
-places start stop queue = slice_range queue (from_zero (placed (length queue) start)) (from_zero (placed (length queue) stop +ℤ pos 1))
+places start stop queue = slice_range queue (from_zero (placed (length queue) start))
+    (from_zero (placed (length queue) stop +ℤ pos 1))
 
 -- without the first offset, count of them: all where count is negative, none where offset is
 abbrev pub limited : Option Window → Queue → Queue

@@ -44,7 +44,8 @@ place_reply place = or_null (option_map count_reply place)
 
 -- a member, or a member and its score
 abbrev pub parts_of_pair : Bool → Scored → List Word
-parts_of_pair with_scores pair = if with_scores then pair.1 ∷ signed_decimal pair.0 ∷ [] else pair.1 ∷ []
+parts_of_pair with_scores pair = if with_scores then pair.1 ∷ signed_decimal pair.0 ∷ [] else pair.1
+    ∷ []
 
 abbrev pub pairs_reply : Bool → Queue → Reply
 pairs_reply with_scores pairs = Bulks (flat_map (parts_of_pair with_scores) pairs)

@@ -13,7 +13,8 @@ use Rattle.zq_semantics.specs.Replies.{Error, Reply, bytes_of, pairs_reply}
 use Rattle.zq_words.specs.Command.{Command, Del, Ping, Zadd, ZaddIncr, Zcard, Zcount, Zincrby, Zpopmin, Zpopnear, Zrange, Zrank, Zrem, Zrevrank, Zscore}
 use Rattle.zq_words.specs.Words.{Word}
 
--- why a command is cut: for want of memory, or since a number that its book needs is at its last value
+-- why a command is cut: for want of memory, or since a number that its book needs is at its last
+-- value
 pub data Want : Type 0 where
   Memory : Want
   Number : Want
@@ -109,12 +110,17 @@ IsWhyOf takes site next books Memory = MayLack takes site next books
 IsWhyOf takes site next books Number = IsWhy site next books Number
 
 -- how a plan runs: the books before and after, and the bytes of the reply
-pub data Runs (site stamp : ℕ) (takes : Takes) (plan : Plan) (cut : ℕ → Want → Reply) (old new : List Book) (reply : Word) : Type 0 where
-  whole : new ≡ books_after site stamp plan.moves old → reply ≡ bytes_of plan.reply → Runs site stamp takes plan cut old new reply
-  part : (k : ℕ) → (want : Want) → k ≤ length plan.moves → new ≡ books_after site stamp (take k plan.moves) old →
-      IsWhyOf takes site (slice_get plan.moves k) new want → reply ≡ bytes_of (cut k want) → Runs site stamp takes plan cut old new reply
+pub data Runs (site stamp : ℕ) (takes : Takes) (plan : Plan) (cut : ℕ → Want →
+    Reply) (old new : List Book) (reply : Word) : Type 0 where
+  whole : new ≡ books_after site stamp plan.moves old → reply ≡ bytes_of plan.reply →
+      Runs site stamp takes plan cut old new reply
+  part : (k : ℕ) → (want : Want) → k ≤ length plan.moves →
+      new ≡ books_after site stamp (take k plan.moves) old →
+      IsWhyOf takes site (slice_get plan.moves k) new want → reply ≡ bytes_of (cut k want) →
+      Runs site stamp takes plan cut old new reply
 
 -- the books and the reply after a command
 abbrev pub IsRun : Rule → ℕ → ℕ → Command → List Book → List Book → Word → Type 0
 IsRun rule site stamp command old new reply =
-    Runs site stamp (takes_of command (queues_of rule old)) (plan_of command (queues_of rule old)) (cut_reply command (queues_of rule old)) old new reply
+    Runs site stamp (takes_of command (queues_of rule old)) (plan_of command (queues_of rule old))
+    (cut_reply command (queues_of rule old)) old new reply

@@ -35,7 +35,8 @@ run rule K events = run_on rule K events start
 abbrev pub missing_from : Rule → ℕ → ℕ → ℕ → List Event → Run → Option ℕ
 missing_from rule K sites i [] r = None
 missing_from rule K sites i (e ∷ events) r =
-    if is_possible K sites r e then missing_from rule K sites (i + 1) events (after_event rule K r e) else Some i
+    if is_possible K sites r e then missing_from rule K sites (i + 1) events
+    (after_event rule K r e) else Some i
 
 abbrev pub first_missing : Rule → ℕ → ℕ → List Event → Option ℕ
 first_missing rule K sites events = missing_from rule K sites 0 events start

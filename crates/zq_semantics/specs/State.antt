@@ -1,4 +1,5 @@
--- What the sites of a world have: the set of operations that each has taken, and of each of its heaps the stamp and the count.
+-- What the sites of a world have: the set of operations that each has taken, and of each of its
+-- heaps the stamp and the count.
 
 use Rattle.std.specs.Prelude.{Bool, List, [], if◌then◌else◌, max, nat_le, slice_index, suc, zero, ℕ, ◌+◌, ◌++◌, ◌==◌, ◌∷◌, ◌||◌}
 use Rattle.zq_model.specs.Heaps.{heap_of}
@@ -63,11 +64,13 @@ home_of K move = heap_of move.key move.member K
 
 -- a number that the site needs for one more operation in the heap is at its last value
 abbrev pub is_spent : State → ℕ → ℕ → Bool
-is_spent st site heap = nat_le LAST (slice_index (vector_of (st.sets site) heap) site) || is_full st site heap
+is_spent st site heap =
+    nat_le LAST (slice_index (vector_of (st.sets site) heap) site) || is_full st site heap
 
 -- the operation that a site makes of a move in the heap
 abbrev pub operation_by : State → ℕ → ℕ → Move → Operation
-operation_by st site heap move = operation_over heap (vector_of (st.sets site) heap) site move.key move.member move.act
+operation_by st site heap move =
+    operation_over heap (vector_of (st.sets site) heap) site move.key move.member move.act
 
 abbrev pub after_making : State → ℕ → Operation → State
 after_making st stamp o = counted st o.site o.heap stamp (st.made ++ o ∷ []) (o ∷ st.sets o.site)
@@ -78,9 +81,12 @@ after_move K site stamp move st = after_making st stamp (operation_by st site (h
 -- the state after these moves of a site, one after the other
 abbrev pub after_moves : ℕ → ℕ → ℕ → List Move → State → State
 after_moves K site stamp [] st = st
-after_moves K site stamp (move ∷ moves) st = after_moves K site stamp moves (after_move K site stamp move st)
+after_moves K site stamp (move ∷ moves) st =
+    after_moves K site stamp moves (after_move K site stamp move st)
 
 -- how many of the moves stand: those before the first for which a number is at its last value
 abbrev pub standing : ℕ → ℕ → ℕ → List Move → State → ℕ
 standing K site stamp [] st = 0
-standing K site stamp (move ∷ moves) st = if is_spent st site (home_of K move) then 0 else suc (standing K site stamp moves (after_move K site stamp move st))
+standing K site stamp (move ∷ moves) st =
+    if is_spent st site (home_of K move) then 0 else suc
+    (standing K site stamp moves (after_move K site stamp move st))

@@ -1,8 +1,9 @@
-//! What commands and worlds mean. What each command makes of the queues of a site, and what it answers. Runs of a world:
-//! sites that are asked, that are handed each other's operations and that merge each other's images, in any order; what
-//! they gather, and what they answer.
+//! What commands and worlds mean. What each command makes of the queues of a site, and what it
+//! answers. Runs of a world: sites that are asked, that are handed each other's operations and that
+//! merge each other's images, in any order; what they gather, and what they answer.
 //!
-//! The definitions are in `specs/`. Each law of them is the contract of a public function with an empty body.
+//! The definitions are in `specs/`. Each law of them is the contract of a public function with an
+//! empty body.
 #![tactic(auto)]
 
 mod answers;

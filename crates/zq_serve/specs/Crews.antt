@@ -37,9 +37,11 @@ link_to post [] = []
 link_to post (other ∷ others) = (post, other ∷ others) ∷ []
 
 -- So many workers of a site were appended, and a linker where it has others beside it.
-pub record IsHired (post : Post) (workers : ℕ) (others : List ℕ) (old new : SiteThreads) : Type 0 where
-  pub workers_are : posts_of new.workers.items ≡ posts_of old.workers.items ++ replicate workers post
-  pub linkers_are : links_of new.linkers.items ≡ links_of old.linkers.items ++ link_to post others
+pub record IsHired (post : Post) (workers : ℕ) (others : List ℕ) (old new : SiteThreads) : Type 0
+  where
+    pub workers_are : posts_of new.workers.items ≡ posts_of old.workers.items
+        ++ replicate workers post
+    pub linkers_are : links_of new.linkers.items ≡ links_of old.linkers.items ++ link_to post others
 
 -- the site at a place among the ports
 abbrev pub post_at : Settings → ℕ → Post
@@ -48,14 +50,17 @@ post_at settings place = record { number = place; heaps = settings.heaps; rule =
 -- the sites that the workers of the sites before a place work for
 abbrev pub posts_before : Settings → ℕ → List Post
 posts_before settings zero = []
-posts_before settings (suc place) = posts_before settings place ++ replicate settings.workers (post_at settings place)
+posts_before settings (suc place) = posts_before settings place
+    ++ replicate settings.workers (post_at settings place)
 
 -- the links of the sites before a place to the others of so many
 abbrev pub links_before : Settings → ℕ → ℕ → List (Post × List ℕ)
 links_before settings sites zero = []
-links_before settings sites (suc place) = links_before settings sites place ++ link_to (post_at settings place) (others_below place sites)
+links_before settings sites (suc place) =
+    links_before settings sites place ++ link_to (post_at settings place) (others_below place sites)
 
 -- Each site has so many workers, and a linker to all others where there are some.
 pub record AreHired (settings : Settings) (crew : SiteThreads) : Type 0 where
   pub workers_are : posts_of crew.workers.items ≡ posts_before settings (length settings.ports)
-  pub linkers_are : links_of crew.linkers.items ≡ links_before settings (length settings.ports) (length settings.ports)
+  pub linkers_are : links_of crew.linkers.items
+      ≡ links_before settings (length settings.ports) (length settings.ports)

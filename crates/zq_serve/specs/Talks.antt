@@ -18,4 +18,5 @@ IsTalk answers old new talk = Serves answers old new talk.text talk.written talk
 -- each was a session, which began with what the one before it had left; the latest stands first
 abbrev pub AreTalks : {S : Type 0} → Relation S → S → S → List Talk → Type 0
 AreTalks answers old new [] = old ≡ new
-AreTalks {S} answers old new (talk ∷ talks) = (mid : S) × AreTalks answers old mid talks × IsTalk answers mid new talk
+AreTalks {S} answers old new (talk ∷ talks) = (mid : S) × AreTalks answers old mid talks
+    × IsTalk answers mid new talk

@@ -13,8 +13,8 @@ use std::sync::Wait;
 use zq_session::Passing;
 use zq_spread::{Draws, Pass};
 
-/// A server of the site, by this pass and with these draws, each answer of which is told of by a Tick in the
-/// site's mailbox, where it has one.
+/// A server of the site, by this pass and with these draws, each answer of which is told of by a
+/// Tick in the site's mailbox, where it has one.
 pub fn answerer_of<'a, R: Wait>(
     rt: &'a R,
     server: &'a SiteServer,
@@ -25,7 +25,8 @@ pub fn answerer_of<'a, R: Wait>(
     requires { IsPassOf server.now.site pass }
     ensures server { let own = result.answerer in
         passed own.site.now own.pass own.draws ≡ passed server.now.site pass draws }
-    ensures mailbox { option_copied result.teller.mailbox ≡ inbox_of inboxes.entry server.now.number }
+    ensures mailbox { option_copied result.teller.mailbox
+        ≡ inbox_of inboxes.entry server.now.number }
 {
     let mailbox = inboxes.of(server.number);
     Ticking {

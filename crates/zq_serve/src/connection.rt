@@ -13,8 +13,8 @@ use std::io::{Read, Write};
 use zq_dots::SiteNo;
 use zq_session::{Answers, session};
 
-/// Serves one connection to its end. Whatever ends it ends it alone: a fault of the protocol or of the device is warned
-/// of, and want of memory is not.
+/// Serves one connection to its end. Whatever ends it ends it alone: a fault of the protocol or of
+/// the device is warned of, and want of memory is not.
 pub fn serve_connection<A: Answers, R: Read, W: Write, L: Log>(
     log: &L,
     alloc: Global,

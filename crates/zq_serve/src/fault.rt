@@ -5,7 +5,8 @@ use std::alloc::AllocError;
 /// Why the sites were not served, or not announced.
 #[derive(Clone, Copy, Debug, PartialEq, Eq)]
 pub enum ServeFault {
-    /// A port could not be listened on, a thread could not be started, a write failed, or the system gave no seed.
+    /// A port could not be listened on, a thread could not be started, a write failed, or the
+    /// system gave no seed.
     Device,
     /// There was no memory for the sites.
     NoMemory,

@@ -1,6 +1,6 @@
-//! Serves the sites of a settings file over loopback: each site on a port of its own, each connection by a session.
-//! A link thread for each site tells the other sites what it has, and hears what they have. What serves one site is
-//! public, for those who link sites in another way.
+//! Serves the sites of a settings file over loopback: each site on a port of its own, each
+//! connection by a session. A link thread for each site tells the other sites what it has, and
+//! hears what they have. What serves one site is public, for those who link sites in another way.
 #![tactic(auto)]
 
 mod announcing;

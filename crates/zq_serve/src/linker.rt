@@ -23,8 +23,9 @@ pub struct Linker {
 }
 
 impl Linker {
-    /// Hears what comes to its site's mailbox, and tells the other sites what this one has, until Stop comes. What it sends
-    /// goes to the carrier; of frames that it drops the witness is told. A state that is heard uses this hasher.
+    /// Hears what comes to its site's mailbox, and tells the other sites what this one has, until
+    /// Stop comes. What it sends goes to the carrier; of frames that it drops the witness is told.
+    /// A state that is heard uses this hasher.
     pub fn run<R: Wait, C: Carry, T: Witness>(
         self,
         rt: &R,

@@ -90,7 +90,8 @@ impl SiteThreads {
     }
 }
 
-/// Makes a site and its server, which listens on this address, with passes for its workers and one more for its linker.
+/// Makes a site and its server, which listens on this address, with passes for its workers and one
+/// more for its linker.
 fn open_server<R: Net<Listener = TcpListener, Stream = TcpStream>>(
     net: &R,
     alloc: Global,
@@ -125,8 +126,8 @@ fn open_server<R: Net<Listener = TcpListener, Stream = TcpStream>>(
     Ok((server, passes))
 }
 
-/// Appends a linker with the last of the passes where the site has others beside it, and a worker for each of the other
-/// passes.
+/// Appends a linker with the last of the passes where the site has others beside it, and a worker
+/// for each of the other passes.
 fn add_threads(
     server: &Arc<SiteServer>,
     passes: Vec<Pass>,
@@ -135,7 +136,9 @@ fn add_threads(
 ) -> Result<(), ServeFault>
     requires passes { All (IsPassOf (arc_value server.now).site) passes.items }
     requires some { 0 < length passes.items }
-    ensures { OnOk result (IsHired (post_of (arc_value server.now)) (length passes.items - 1) others.items crew.old crew.new) }
+    ensures { OnOk result
+        (IsHired (post_of (arc_value server.now))
+        (length passes.items - 1) others.items crew.old crew.new) }
 {
     let mut passes = passes;
     let Some(pass) = passes.pop() else {
@@ -154,7 +157,8 @@ fn hire_linker(
     linkers: &mut Vec<Linker>,
 ) -> Result<(), AllocError>
     requires { IsPassOf (arc_value server.now).site pass }
-    ensures { OnOk result (links_of linkers.new.items ≡ links_of linkers.old.items ++ link_to (post_of (arc_value server.now)) others.items) }
+    ensures { OnOk result (links_of linkers.new.items ≡ links_of linkers.old.items
+        ++ link_to (post_of (arc_value server.now)) others.items) }
 {
     if others.is_empty() {
         return Ok(());
@@ -175,7 +179,8 @@ fn add_workers(
     workers: &mut Vec<Worker>,
 ) -> Result<(), AllocError>
     requires { All (IsPassOf (arc_value server.now).site) passes.items }
-    ensures { OnOk result (posts_of workers.new.items ≡ posts_of workers.old.items ++ replicate (length passes.items) (post_of (arc_value server.now))) }
+    ensures { OnOk result (posts_of workers.new.items ≡ posts_of workers.old.items
+        ++ replicate (length passes.items) (post_of (arc_value server.now))) }
 {
     for pass in passes {
         let worker = Worker {
@@ -246,7 +251,8 @@ fn plan_of(settings: &Settings, place: u8) -> SiteOptions
     }
 }
 
-/// Listens on a site's port, on loopback alone, and appends what works for it, one of so many sites.
+/// Listens on a site's port, on loopback alone, and appends what works for it, one of so many
+/// sites.
 fn open_one<R: Net<Listener = TcpListener, Stream = TcpStream>>(
     net: &R,
     alloc: Global,
@@ -257,17 +263,21 @@ fn open_one<R: Net<Listener = TcpListener, Stream = TcpStream>>(
     crew: &mut SiteThreads,
 ) -> Result<(), ServeFault>
     requires { sites ≤ 64 }
-    ensures { OnOk result (IsHired (planned plan.now) plan.now.workers (others_below plan.now.number sites) crew.old crew.new) }
+    ensures { OnOk result
+        (IsHired (planned plan.now) plan.now.workers
+        (others_below plan.now.number sites) crew.old crew.new) }
 {
     let address = address_of(IpAddr::V4(Ipv4Addr::LOCALHOST), port);
     let others = others(alloc, plan.number, sites)?;
     open_site(net, alloc, plan, address, others, hasher, crew)
 }
 
-/// Makes a site that has done nothing, whose members use the hasher, listens on the address for its clients, and
-/// appends what works for it: its workers and, where it has others beside it, its linker.
+/// Makes a site that has done nothing, whose members use the hasher, listens on the address for its
+/// clients, and appends what works for it: its workers and, where it has others beside it, its
+/// linker.
 ///
-/// `Device` where the address could not be listened on, and `NoMemory`: then some may have been appended.
+/// `Device` where the address could not be listened on, and `NoMemory`: then some may have been
+/// appended.
 pub fn open_site<R: Net<Listener = TcpListener, Stream = TcpStream>>(
     net: &R,
     alloc: Global,
@@ -277,13 +287,15 @@ pub fn open_site<R: Net<Listener = TcpListener, Stream = TcpStream>>(
     hasher: Seeded,
     crew: &mut SiteThreads,
 ) -> Result<(), ServeFault>
-    ensures { OnOk result (IsHired (planned plan.now) plan.now.workers others.items crew.old crew.new) }
+    ensures { OnOk result
+        (IsHired (planned plan.now) plan.now.workers others.items crew.old crew.new) }
 {
     let (server, passes) = open_server(net, alloc, plan, address, hasher)?;
     add_threads(&server, passes, others, crew)
 }
 
-/// How many messages wait in a site's mailbox at most: four rounds of what so many other sites have, at most 63.
+/// How many messages wait in a site's mailbox at most: four rounds of what so many other sites
+/// have, at most 63.
 pub fn most_waiting(others: usize, heaps: HeapCount) -> usize
     requires { others < 64 }
     ensures { result ≡ 4 * others * heaps }
@@ -293,7 +305,8 @@ pub fn most_waiting(others: usize, heaps: HeapCount) -> usize
 
 /// A mailbox for each of the sites where there are several.
 pub fn open_mailboxes(alloc: Global, settings: &Settings) -> Result<Vec<Mailbox>, ServeFault>
-    ensures { IfOk result (λ mailboxes. map (λ mailbox. mailbox.most) mailboxes.items ≡ mosts_of (length settings.now.ports) settings.now.heaps) }
+    ensures { IfOk result (λ mailboxes. map (λ mailbox. mailbox.most) mailboxes.items
+        ≡ mosts_of (length settings.now.ports) settings.now.heaps) }
 {
     let mut mailboxes = Vec::new(alloc);
     let sites = settings.ports.as_slice().len();

@@ -9,8 +9,8 @@ use std::sync::{Mutex, Wait};
 use std::thread;
 use std::thread::Threads;
 
-/// Runs each worker in a thread of its own, and waits for all. No worker begins before all threads have started: where
-/// one does not start, none serves.
+/// Runs each worker in a thread of its own, and waits for all. No worker begins before all threads
+/// have started: where one does not start, none serves.
 ///
 /// `Device` where a thread did not start.
 pub fn run_workers<L: Log + Threads + Wait + Sync>(

@@ -23,16 +23,19 @@ use zq_peers::{Mailbox, Silent, Straight};
 use zq_posheap::Seeded;
 use zq_settings::Settings;
 
-/// Serves the sites of the settings in this process, each on its port on loopback: `workers` connections of a site at
-/// once, the others as these end. When all ports are listened on it writes `site N port P` for each site to `out`, and
-/// only then accepts. It ends when each port has accepted and served as many connections as `connections` says.
+/// Serves the sites of the settings in this process, each on its port on loopback: `workers`
+/// connections of a site at once, the others as these end. When all ports are listened on it writes
+/// `site N port P` for each site to `out`, and only then accepts. It ends when each port has
+/// accepted and served as many connections as `connections` says.
 ///
-/// Where there are several sites they are linked: after each call of a connection its site's link thread tells the other
-/// sites what it has, and those that lack something are sent it. Calls that were made while it did so are told of
-/// together. When all connections are done the link threads are told to stop, and are waited for.
+/// Where there are several sites they are linked: after each call of a connection its site's link
+/// thread tells the other sites what it has, and those that lack something are sent it. Calls that
+/// were made while it did so are told of together. When all connections are done the link threads
+/// are told to stop, and are waited for.
 ///
-/// A connection that breaks the protocol, or whose device fails, ends alone, and is warned of in the log as
-/// `site N protocol fault` or `site N device fault`. One for which there is no memory ends alone too, with no warning.
+/// A connection that breaks the protocol, or whose device fails, ends alone, and is warned of in
+/// the log as `site N protocol fault` or `site N device fault`. One for which there is no memory
+/// ends alone too, with no warning.
 ///
 /// # Errors
 ///
@@ -54,8 +57,8 @@ where
     run_all(log, alloc, crew, &mailboxes, hasher, settings.seed.value())
 }
 
-/// Runs each linker and each worker in a thread of its own. When all workers are done it sends Stop to each mailbox, and
-/// waits for the linkers.
+/// Runs each linker and each worker in a thread of its own. When all workers are done it sends Stop
+/// to each mailbox, and waits for the linkers.
 fn run_all<L: Log + Threads + Wait + Sync>(
     log: &L,
     alloc: Global,
@@ -89,7 +92,8 @@ fn run_all<L: Log + Threads + Wait + Sync>(
     )
 }
 
-/// Links a site to the others, whose mailboxes these are, until it is to stop. Site N's is at place N.
+/// Links a site to the others, whose mailboxes these are, until it is to stop. Site N's is at place
+/// N.
 fn link_one<R: Wait>(rt: &R, alloc: Global, linker: Linker, mailboxes: &[Mailbox], hasher: Seeded) {
     let number = site_of(&linker);
     let mut carrier = Straight::new(rt, number, mailboxes);

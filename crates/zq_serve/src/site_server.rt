@@ -15,7 +15,8 @@ use zq_dots::{Rule, SiteNo};
 use zq_session::Answers;
 use zq_spread::Site;
 
-/// A site, with its number, the number of its heaps and its rule, and the port on which it is served.
+/// A site, with its number, the number of its heaps and its rule, and the port on which it is
+/// served.
 #[derive(Drop)]
 pub struct SiteServer {
     pub(crate) number: SiteNo,
@@ -30,7 +31,8 @@ pub struct SiteServer {
 }
 
 impl SiteServer {
-    /// Serves the port's connections, one after the other, until none is left. It waits for clients.
+    /// Serves the port's connections, one after the other, until none is left. It waits for
+    /// clients.
     pub(crate) fn attend<A: Answers, L: Log + Wait>(&self, log: &L, alloc: Global, answerer: &mut A)
         ensures { (talks : List Talk) × AreTalks A.answers answerer.old answerer.new talks }
     {

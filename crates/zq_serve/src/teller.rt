@@ -14,7 +14,8 @@ pub trait Teller {
     /// What stands before, the answer, and what stands after.
     ghost tells: { Self → Answer → Self → Type 0 };
 
-    /// An answer was made. Only proofs see it, so that it was made before, and all answers are told of alike.
+    /// An answer was made. Only proofs see it, so that it was made before, and all answers are told
+    /// of alike.
     fn tell(&mut self, answer: Snapshot<Reply>)
         ensures { tells self.old answer.value self.new };
 }

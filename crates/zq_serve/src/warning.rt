@@ -38,7 +38,8 @@ impl fmt::Display for Warning {
     ghost use Rattle.std.specs.Prelude.{Some, codes, decimal, ◌++◌};
     ghost use Rattle.zq_serve.specs.Faults.{words_of};
 
-    ghost output = { λ warning. Some (codes "site " ++ decimal warning.site ++ words_of warning.fault) };
+    ghost output = { λ warning.
+        Some (codes "site " ++ decimal warning.site ++ words_of warning.fault) };
 
     fn fmt<W: fmt::Write>(&self, f: &mut fmt::Formatter<W>) -> fmt::Result {
         let site = self.site.value();

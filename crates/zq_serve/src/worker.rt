@@ -21,8 +21,8 @@ pub struct Worker {
 }
 
 impl Worker {
-    /// Serves connections, once the gate is open, until none is left. A gate that was never opened ends it at once. After
-    /// each call a Tick goes to the site's mailbox, where it has one.
+    /// Serves connections, once the gate is open, until none is left. A gate that was never opened
+    /// ends it at once. After each call a Tick goes to the site's mailbox, where it has one.
     pub(crate) fn run<L: Log + Wait>(
         self,
         log: &L,

@@ -1,8 +1,9 @@
-//! The server: sessions, the settings of sites, serving them, and the drill, each from the library where it stands.
+//! The server: sessions, the settings of sites, serving them, and the drill, each from the library
+//! where it stands.
 //!
-//! A program that serves needs no other library of the queue. What these functions promise, and the definitions that
-//! their contracts cite, are those of the libraries below: `zq_session`, `zq_settings`, `zq_serve`, `zq_site` and
-//! `zq_drill`.
+//! A program that serves needs no other library of the queue. What these functions promise, and the
+//! definitions that their contracts cite, are those of the libraries below: `zq_session`,
+//! `zq_settings`, `zq_serve`, `zq_site` and `zq_drill`.
 #![tactic(auto)]
 
 pub use zq_drill::{DrillFault, drill};

@@ -12,23 +12,29 @@ pub record Held (S : Type 0) : Type 0 where
 abbrev pub held : {S : Type 0} → S → List ℕ → Held S
 held ends gathered = record { ends = ends; gathered = gathered }
 
--- The bytes were put behind what was gathered. The first of all this is written, in full parts, and the rest is gathered.
+-- The bytes were put behind what was gathered. The first of all this is written, in full parts, and
+-- the rest is gathered.
 abbrev pub Gathers : {S : Type 0} → Does S → Held S → Held S → List ℕ → Type 0
-Gathers does old new bytes = (sent : List ℕ) × Fills does old.ends new.ends sent × (old.gathered ++ bytes ≡ sent ++ new.gathered)
+Gathers does old new bytes = (sent : List ℕ) × Fills does old.ends new.ends sent
+    × (old.gathered ++ bytes ≡ sent ++ new.gathered)
 
 -- The same, where the writer failed at the last part: the rest is lost.
 abbrev pub IsCutOff : {S : Type 0} → Does S → Held S → Held S → List ℕ → Type 0
-IsCutOff does old new bytes = (sent lost : List ℕ) × Says does old.ends new.ends sent × (old.gathered ++ bytes ≡ sent ++ lost)
+IsCutOff does old new bytes = (sent lost : List ℕ) × Says does old.ends new.ends sent
+    × (old.gathered ++ bytes ≡ sent ++ lost)
 
--- One reply: less than a full part waits then. Where memory is refused for it, nothing is put behind what was gathered.
-abbrev pub Gives : {S : Type 0} → Does S → Held S → Held S → List ℕ → Result (Unit {0}) SessionFault → Type 0
+-- One reply: less than a full part waits then. Where memory is refused for it, nothing is put
+-- behind what was gathered.
+abbrev pub Gives : {S : Type 0} → Does S → Held S → Held S → List ℕ →
+    Result (Unit {0}) SessionFault → Type 0
 Gives does old new bytes (Ok done) = Gathers does old new bytes × (length new.gathered < FULL)
 Gives does old new bytes (Err Read) = ⊥
 Gives does old new bytes (Err Write) = IsCutOff does old new bytes
 Gives does old new bytes (Err NoMemory) = Gathers does old new []
 
 -- The bytes that were put behind what was gathered, by how it ended.
-abbrev pub Puts : {S T : Type 0} → Does S → Held S → Held S → List ℕ → Result T SessionFault → Type 0
+abbrev pub Puts : {S T : Type 0} → Does S → Held S → Held S → List ℕ → Result T SessionFault →
+    Type 0
 Puts does old new bytes (Ok done) = Gathers does old new bytes
 Puts does old new bytes (Err Read) = ⊥
 Puts does old new bytes (Err Write) = IsCutOff does old new bytes

@@ -21,7 +21,8 @@ pub record HasImageOf (K : ℕ) (S : List Operation) (heap : ℕ) (book : Book) 
   pub ruled : book.rule ≡ Greatest
   pub state : book.state ≡ image_of S heap
 
--- there is such a book for each of K heaps, at the place of its number, and the set is a closed set of one world with short names
+-- there is such a book for each of K heaps, at the place of its number, and the set is a closed set
+-- of one world with short names
 pub record IsOfSet (K : ℕ) (S : List Operation) (books : List Book) : Type 0 where
   pub heaps : IsHeaps K
   pub world : IsWorld K S
@@ -30,10 +31,12 @@ pub record IsOfSet (K : ℕ) (S : List Operation) (books : List Book) : Type 0 w
   pub number : length books ≡ K
   pub each : (heap : ℕ) (book : Book) → slice_get books heap ≡ Some book → HasImageOf K S heap book
 
--- the answer, or, where that is a list with something in it, that there was no memory for it; or that no command is begun, since a book's stamp is the last
+-- the answer, or, where that is a list with something in it, that there was no memory for it; or
+-- that no command is begun, since a book's stamp is the last
 abbrev pub IsAnswer : List Book → Bool → Word → Word → Type 0
 IsAnswer books is_list answer bytes =
-    IsOrShort is_list answer bytes ⊎ ((greatest_stamp books ≡ LAST_STAMP) × (bytes ≡ bytes_of (cut_error 0 Number)))
+    IsOrShort is_list answer bytes
+    ⊎ ((greatest_stamp books ≡ LAST_STAMP) × (bytes ≡ bytes_of (cut_error 0 Number)))
 
 -- the set has all that another has
 abbrev pub HasAll : List Operation → List Operation → Type 0

@@ -24,7 +24,8 @@ rule_fact = Coded-set rule_code
 of_fact : (room : HeapSlot) (kept : LockedHeap) → IsProp (IsOf room kept)
 of_fact room kept = Prim.hlevel (props, table_fact, rule_fact)
 
-seat_fact : (room : HeapSlot) (seat : Option (Option (Seat LockedHeap))) → IsProp (IsSeatOf room seat)
+seat_fact : (room : HeapSlot) (seat : Option (Option (Seat LockedHeap))) →
+    IsProp (IsSeatOf room seat)
 seat_fact room None = Prim.hlevel props
 seat_fact room (Some None) = Prim.hlevel props
 seat_fact room (Some (Some seat)) = Prim.hlevel (props, of_fact, table_fact)

@@ -21,7 +21,8 @@ pub record Passed : Type 0 where
 abbrev pub passed : Site → Pass → Lcg → Passed
 passed site pass draws = record { site = site; pass = pass; draws = draws }
 
--- the words that a command is called with: the generator's next two for ZPOPNEAR, and 0 for the others, which look at none
+-- the words that a command is called with: the generator's next two for ZPOPNEAR, and 0 for the
+-- others, which look at none
 abbrev pub words_for : Command → Lcg → ℕ × ℕ
 words_for (Zpopnear key) draws = ((pcg64 draws).0, (pcg64 (pcg64 draws).1).0)
 words_for command draws = (0, 0)
@@ -32,14 +33,19 @@ draws_after (Zpopnear key) draws = (pcg64 (pcg64 draws).1).1
 draws_after command draws = draws
 
 -- the site answers the command as a call of the pass
-pub record IsPassedOn (old : Passed) (command : Command) (new : Passed) (reply : Word) : Type 0 where
-  pub site : new.site ≡ old.site
-  pub called : let words = words_for command old.draws in IsCalled old.site command words.0 words.1 reply old.pass new.pass
-  pub draws : new.draws ≡ draws_after command old.draws
+pub record IsPassedOn (old : Passed) (command : Command) (new : Passed) (reply : Word) : Type 0
+  where
+    pub site : new.site ≡ old.site
+    pub called : let words =
+        words_for command old.draws in IsCalled old.site command words.0 words.1 reply old.pass
+        new.pass
+    pub draws : new.draws ≡ draws_after command old.draws
 
--- a request is such a call; what is no command, or finds no memory for its pairs, is refused and changes nothing
+-- a request is such a call; what is no command, or finds no memory for its pairs, is refused and
+-- changes nothing
 abbrev pub PassesReading : Passed → Reading → Passed → Word → Type 0
-PassesReading old (Ok command) new reply = IsPassedOn old command new reply ⊎ ((new ≡ old) × IsRefusalOf (Ok command) reply)
+PassesReading old (Ok command) new reply = IsPassedOn old command new reply
+    ⊎ ((new ≡ old) × IsRefusalOf (Ok command) reply)
 PassesReading old (Err refused) new reply = (new ≡ old) × IsRefusalOf (Err refused) reply
 
 -- the site, the pass and the draws before, the request's words, the reply, and the same after

@@ -8,7 +8,8 @@ use Rattle.zq_session.specs.declared.outcome.End.{End}
 use Rattle.zq_session.specs.declared.outcome.SessionFault.TheVariants.{NoMemory}
 use Rattle.zq_session.specs.declared.outcome.SessionFault.{SessionFault}
 
--- a session with a server of the books of two heaps, in which nothing was done, read the text, wrote these bytes and ended with this status
+-- a session with a server of the books of two heaps, in which nothing was done, read the text,
+-- wrote these bytes and ended with this status
 pub record IsServedAnew (text written : List ℕ) (code : ℕ) : Type 0 where
   pub last : List Book
   pub ended : Result End SessionFault

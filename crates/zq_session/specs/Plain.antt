@@ -39,13 +39,22 @@ abbrev pub is_ping : Command → Bool
 is_ping (Ping message) = true
 is_ping command = false
 
--- what a command makes of the books, and the bytes of its reply: PING asks for no stamp; every other command runs at the greatest stamp of the books plus 1, over the books
--- whose tails were cut where they are long, and none runs where that stamp is at its last value; a ZADD of several pairs may find no memory for them
-pub data RunsCommand (old : List Book) (command : Command) (new : List Book) (reply : Word) : Type 0 where
-  pings : (message : Option Word) → command ≡ Ping message → new ≡ old → IsRead (ForReply (is_long message) 0) (ping_reply message) reply → RunsCommand old command new reply
-  runs : is_ping command ≡ false → greatest_stamp old < LAST_STAMP → IsRun Greatest SITE (greatest_stamp old + 1) command (next_begun old) new reply → RunsCommand old command new reply
-  worn : is_ping command ≡ false → greatest_stamp old ≡ LAST_STAMP → new ≡ old → reply ≡ bytes_of (cut_error 0 Number) → RunsCommand old command new reply
-  unread : takes_memory (Ok command) ≡ true → new ≡ old → reply ≡ bytes_of (cut_error 0 Memory) → RunsCommand old command new reply
+-- what a command makes of the books, and the bytes of its reply: PING asks for no stamp; every
+-- other command runs at the greatest stamp of the books plus 1, over the books whose tails were cut
+-- where they are long, and none runs where that stamp is at its last value; a ZADD of several pairs
+-- may find no memory for them
+pub data RunsCommand (old : List Book) (command : Command) (new : List Book) (reply : Word) : Type 0
+  where
+    pings : (message : Option Word) → command ≡ Ping message → new ≡ old →
+        IsRead (ForReply (is_long message) 0) (ping_reply message) reply →
+        RunsCommand old command new reply
+    runs : is_ping command ≡ false → greatest_stamp old < LAST_STAMP →
+        IsRun Greatest SITE (greatest_stamp old + 1) command (next_begun old) new reply →
+        RunsCommand old command new reply
+    worn : is_ping command ≡ false → greatest_stamp old ≡ LAST_STAMP → new ≡ old →
+        reply ≡ bytes_of (cut_error 0 Number) → RunsCommand old command new reply
+    unread : takes_memory (Ok command) ≡ true → new ≡ old → reply ≡ bytes_of (cut_error 0 Memory) →
+        RunsCommand old command new reply
 
 -- the same of a request: what is no command is answered by the first reason, and changes nothing
 abbrev pub RunsReading : List Book → Reading → List Book → Word → Type 0

@@ -3,7 +3,8 @@ use Rattle.std.specs.Prelude.{◌≡◌, ◌≤◌, ℕ, ◌+◌, List, [], ◌�
 use Rattle.std.specs.Io.KnownBytes.{Appends, Consumes, IsAtEnd, Keeps}
 use Rattle.zq_resp.specs.Reply.{joined}
 
--- A read gave these bytes, none where the input is at its end; a read failed; these bytes were written.
+-- A read gave these bytes, none where the input is at its end; a read failed; these bytes were
+-- written.
 pub data Step : Type 0 where
   Heard : (bytes : List ℕ) → Step
   Failed : Step
@@ -48,12 +49,14 @@ AreFull (part ∷ parts) = (FULL ≤ length part) × AreFull parts
 
 -- These bytes were written, in full parts, and nothing else was done.
 abbrev pub Fills : {S : Type 0} → Does S → S → S → List ℕ → Type 0
-Fills does old new bytes = (parts : List (List ℕ)) × Talks does old (map Said parts) new × (joined parts ≡ bytes) × AreFull parts
+Fills does old new bytes = (parts : List (List ℕ)) × Talks does old (map Said parts) new
+    × (joined parts ≡ bytes) × AreFull parts
 
 -- These bytes were written, in full parts and a last one, and nothing else was done.
 abbrev pub Says : {S : Type 0} → Does S → S → S → List ℕ → Type 0
 Says does old new bytes =
-    (parts : List (List ℕ)) × (last : List ℕ) × Talks does old (map Said (parts ++ last ∷ [])) new × (joined (parts ++ last ∷ []) ≡ bytes) × AreFull parts
+    (parts : List (List ℕ)) × (last : List ℕ) × Talks does old (map Said (parts ++ last ∷ [])) new
+    × (joined (parts ++ last ∷ []) ≡ bytes) × AreFull parts
 
 -- What is written before these steps is full, where they begin with another write.
 abbrev pub IsFullBefore : List ℕ → List Step → Type 0
@@ -69,9 +72,14 @@ AreGathered (Heard bytes ∷ steps) = AreGathered steps
 AreGathered (Failed ∷ steps) = AreGathered steps
 AreGathered (Said bytes ∷ steps) = IsFullBefore bytes steps × AreGathered steps
 
--- A step of a reader and a writer, of which it is known what the reader has left and what the writer was given.
-abbrev pub ReadsAndWrites : {R W : Type 0} → (R → Option (List ℕ)) → (W → Option (List ℕ)) → R × W → Step → R × W → Type 0
+-- A step of a reader and a writer, of which it is known what the reader has left and what the
+-- writer was given.
+abbrev pub ReadsAndWrites : {R W : Type 0} → (R → Option (List ℕ)) → (W → Option (List ℕ)) → R × W →
+    Step → R × W → Type 0
 ReadsAndWrites remaining contents old (Heard bytes) new =
-    Consumes (remaining old.0) (remaining new.0) bytes × (bytes ≡ [] → IsAtEnd (remaining new.0)) × (new.1 ≡ old.1)
-ReadsAndWrites remaining contents old Failed new = Keeps (remaining old.0) (remaining new.0) × (new.1 ≡ old.1)
-ReadsAndWrites remaining contents old (Said bytes) new = Appends (contents old.1) (contents new.1) bytes × (new.0 ≡ old.0)
+    Consumes (remaining old.0) (remaining new.0) bytes × (bytes ≡ [] → IsAtEnd (remaining new.0))
+    × (new.1 ≡ old.1)
+ReadsAndWrites remaining contents old Failed new = Keeps (remaining old.0) (remaining new.0)
+    × (new.1 ≡ old.1)
+ReadsAndWrites remaining contents old (Said bytes) new =
+    Appends (contents old.1) (contents new.1) bytes × (new.0 ≡ old.0)

@@ -6,7 +6,8 @@ use crate::outcome::SessionFault;
 use crate::transfer::{put_all, read_some};
 use std::io::{Read, Write};
 
-/// How a reader and a writer are used together. A call is one step of both, so that all steps have one order.
+/// How a reader and a writer are used together. A call is one step of both, so that all steps have
+/// one order.
 pub trait Ends<R, W> {
     ghost use Rattle.zq_session.specs.Steps.{Step, Heard, Failed, Said};
 
@@ -17,14 +18,19 @@ pub trait Ends<R, W> {
     fn hear(&self, reader: &mut R, writer: &mut W, buffer: &mut [u8]) -> Result<usize, SessionFault>
         requires { 0 < length buffer.old }
         ensures { MatchResult result
-            (λ count. (count ≤ length buffer.new) × does (reader.old, writer.old) (Heard (take count buffer.new)) (reader.new, writer.new))
-            (λ fault. (fault ≡ SessionFault.Read) × does (reader.old, writer.old) Failed (reader.new, writer.new)) };
+            (λ count. (count ≤ length buffer.new)
+            × does (reader.old, writer.old) (Heard (take count buffer.new))
+            (reader.new, writer.new))
+            (λ fault. (fault ≡ SessionFault.Read)
+            × does (reader.old, writer.old) Failed (reader.new, writer.new)) };
 
     /// Writes the bytes: all of them, or the first where the writer fails.
     fn say(&self, reader: &mut R, writer: &mut W, bytes: &[u8]) -> Result<(), SessionFault>
         ensures { MatchResult result
             (λ done. does (reader.old, writer.old) (Said bytes.now) (reader.new, writer.new))
-            (λ fault. (fault ≡ SessionFault.Write) × ((at : ℕ) × does (reader.old, writer.old) (Said (take at bytes.now)) (reader.new, writer.new))) };
+            (λ fault. (fault ≡ SessionFault.Write)
+            × ((at : ℕ) × does (reader.old, writer.old) (Said (take at bytes.now))
+            (reader.new, writer.new))) };
 }
 
 /// Any reader and any writer, as they are.

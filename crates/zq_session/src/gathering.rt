@@ -13,11 +13,11 @@ use zq_resp::{Reply, write_reply};
 // As many bytes of replies are written at once.
 const GATHERED: usize = 65_536;
 
-/// Puts a reply's bytes behind those that are gathered, and writes them all where they are 65,536 or
-/// more. So fewer wait after each reply.
+/// Puts a reply's bytes behind those that are gathered, and writes them all where they are 65,536
+/// or more. So fewer wait after each reply.
 ///
-/// - `NoMemory`: the reply is missing, and what was gathered still waits. There was no room for the reply behind it, so
-///   that memory was asked for.
+/// - `NoMemory`: the reply is missing, and what was gathered still waits. There was no room for the
+///   reply behind it, so that memory was asked for.
 /// - `Write`: the first of the bytes are written, up to where the writer failed.
 pub fn gather<R, W, E: Ends<R, W>>(
     ends: &E,
@@ -29,7 +29,8 @@ pub fn gather<R, W, E: Ends<R, W>>(
     requires { IsTrue (is_writable reply.now) }
     ensures given { Gives E.does (held (reader.old, writer.old) out.old.items)
         (held (reader.new, writer.new) out.new.items) (reply_bytes reply.now) result }
-    ensures full { IsErrOf result SessionFault.NoMemory → vec_capacity out.old < vec_len out.old + length (reply_bytes reply.now) }
+    ensures full { IsErrOf result SessionFault.NoMemory →
+        vec_capacity out.old < vec_len out.old + length (reply_bytes reply.now) }
 {
     put_reply(out, reply)?;
     if out.len() >= GATHERED {
@@ -43,7 +44,8 @@ fn put_reply(out: &mut Vec<u8>, reply: &Reply) -> Result<(), SessionFault>
     ensures put { MatchResult result
         (λ done. out.new.items ≡ out.old.items ++ reply_bytes reply.now)
         (λ fault. (fault ≡ SessionFault.NoMemory) × (out.new.items ≡ out.old.items)) }
-    ensures full { OnErr result (vec_capacity out.old < vec_len out.old + length (reply_bytes reply.now)) }
+    ensures full { OnErr result
+        (vec_capacity out.old < vec_len out.old + length (reply_bytes reply.now)) }
 {
     match write_reply(out, reply) {
         Ok(()) => Ok(()),
@@ -51,7 +53,8 @@ fn put_reply(out: &mut Vec<u8>, reply: &Reply) -> Result<(), SessionFault>
     }
 }
 
-/// Writes what is gathered, all at once. Nothing waits then; after a fault of the writer the rest is lost.
+/// Writes what is gathered, all at once. Nothing waits then; after a fault of the writer the rest
+/// is lost.
 pub fn write_gathered<R, W, E: Ends<R, W>>(
     ends: &E,
     reader: &mut R,
@@ -59,9 +62,11 @@ pub fn write_gathered<R, W, E: Ends<R, W>>(
     out: &mut Vec<u8>,
 ) -> Result<(), SessionFault>
     ensures { MatchResult result
-        (λ done. (out.new.items ≡ []) × E.does (reader.old, writer.old) (Said out.old.items) (reader.new, writer.new))
+        (λ done. (out.new.items ≡ [])
+        × E.does (reader.old, writer.old) (Said out.old.items) (reader.new, writer.new))
         (λ fault. (fault ≡ SessionFault.Write) × (out.new.items ≡ [])
-        × ((at : ℕ) × E.does (reader.old, writer.old) (Said (take at out.old.items)) (reader.new, writer.new))) }
+        × ((at : ℕ) × E.does (reader.old, writer.old) (Said (take at out.old.items))
+        (reader.new, writer.new))) }
 {
     match ends.say(reader, writer, out) {
         Ok(()) => {

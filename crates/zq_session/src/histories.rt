@@ -25,30 +25,57 @@ ghost use Rattle.zq_words.specs.Words.{Word};
 use zq_notes::{linking, noting, reading_notes};
 use zq_semantics::asking;
 
-/// Each request of a server of a site is a call of the site, or left no note; and so is each of a session, one after the other by its pass, at one site, each with
-/// the words that the draws of the one before left. Where the site's calls each found in their heaps what those before them left there, and what they make, take
-/// and merge is of one world, the reply is what the operations gathered before the call answer: by the plan of the command over their queues, or by that of a cut,
-/// whose moves are the call's steps; and a request that only reads is answered what these operations answer, or, where that is a list with something in it, that
-/// there is no memory. So it is at sites that are linked; and where two of them have the same operations, in whatever order they came, the queues of these answer
-/// for both.
+/// Each request of a server of a site is a call of the site, or left no note; and so is each of a
+/// session, one after the other by its pass, at one site, each with the words that the draws of the
+/// one before left. Where the site's calls each found in their heaps what those before them left
+/// there, and what they make, take and merge is of one world, the reply is what the operations
+/// gathered before the call answer: by the plan of the command over their queues, or by that of a
+/// cut, whose moves are the call's steps; and a request that only reads is answered what these
+/// operations answer, or, where that is a list with something in it, that there is no memory. So it
+/// is at sites that are linked; and where two of them have the same operations, in whatever order
+/// they came, the queues of these answer for both.
 pub fn passing_meaning()
-    ensures stands { (p : ℕ) (old new : Passed) (words : List Word) (reply : Replies) → AnswersByCall old words reply new → Stands p old (command_of words) (reply_bytes reply) new }
-    ensures sessions { (p : ℕ) (old new : Passed) (requests : Requests) (replies : List Replies) → Runs AnswersByCall old requests replies new → Runs (StandsBy p) old requests replies new }
-    ensures runs { (W : List Operation) (opening : Books) (before : List Call) (c : Call) (after : List Call) (old new : Passed) (command : Command) (bytes : Word) →
-        IsWorld (heaps_of old.site) W → AreImagesOf (rule_of old.site.rule) (heaps_of old.site) W [] opening → AreCallsFrom old.site opening (before ++ c ∷ after) →
+    ensures stands { (p : ℕ) (old new : Passed) (words : List Word) (reply : Replies) →
+        AnswersByCall old words reply new →
+        Stands p old (command_of words) (reply_bytes reply) new }
+    ensures sessions { (p : ℕ) (old new : Passed) (requests : Requests) (replies : List Replies) →
+        Runs AnswersByCall old requests replies new → Runs (StandsBy p) old requests replies new }
+    ensures runs { (W : List Operation) (opening : Books) (before : List Call) (c : Call)
+        (after : List Call) (old new : Passed) (command : Command) (bytes : Word) →
+        IsWorld (heaps_of old.site) W →
+        AreImagesOf (rule_of old.site.rule) (heaps_of old.site) W [] opening →
+        AreCallsFrom old.site opening (before ++ c ∷ after) →
         AreOfWorld W (notes_of (before ++ c ∷ after)) → IsCallOf old command bytes new c →
-        IsRunOff (rule_of old.site.rule) (heaps_of old.site) old.site.number (gathered W (notes_of before) []) command (words_for command old.draws).0 (words_for command old.draws).1 c.note.stamp
+        IsRunOff (rule_of old.site.rule) (heaps_of old.site) old.site.number
+        (gathered W (notes_of before) []) command (words_for command old.draws).0
+        (words_for command old.draws).1 c.note.stamp
         c.note.heaps bytes c.note.steps }
-    ensures reads { (W : List Operation) (opening : Books) (before : List Call) (c : Call) (after : List Call) (old new : Passed) (words : List Word) (command : Command) (bytes : Word) →
-        IsWorld (heaps_of old.site) W → AreImagesOf (rule_of old.site.rule) (heaps_of old.site) W [] opening → AreCallsFrom old.site opening (before ++ c ∷ after) →
-        AreOfWorld W (notes_of (before ++ c ∷ after)) → is_question words ≡ true → command_of words ≡ Ok command → IsCallOf old command bytes new c →
-        IsAnsweredBy (queues_over (rule_of old.site.rule) (gathered W (notes_of before) []) (heaps_in (heaps_of old.site))) words bytes }
-    ensures linked { (rule : Rules) (K : ℕ) (sites : ℕ → Site) (events : List Event) (before : List Event) (e : Event) (after : List Event) (old new : Passed) (words : List Word) (command : Command)
-        (bytes : Word) → 2 ≤ K → AreEventsOf rule K sites events → events ≡ before ++ e ∷ after → is_question words ≡ true → command_of words ≡ Ok command → IsCallOf old command bytes new e.call →
-        IsAnsweredBy (queues_over rule (has_at (made_of events) e.site before) (heaps_in K)) words bytes }
-    ensures converging { (rule : Rules) (K : ℕ) (sites : ℕ → Site) (events : List Event) (one other : Asking) (words : List Word) → 2 ≤ K → AreEventsOf rule K sites events → is_question words ≡ true →
-        IsAskingOf events words one → IsAskingOf events words other → AreSame (has_at (made_of events) one.event.site one.before) (has_at (made_of events) other.event.site other.before) →
-        AreAnsweredBy (queues_over rule (has_at (made_of events) one.event.site one.before) (heaps_in K)) words one.bytes other.bytes }
+    ensures reads { (W : List Operation) (opening : Books) (before : List Call) (c : Call)
+        (after : List Call) (old new : Passed) (words : List Word) (command : Command)
+        (bytes : Word) →
+        IsWorld (heaps_of old.site) W →
+        AreImagesOf (rule_of old.site.rule) (heaps_of old.site) W [] opening →
+        AreCallsFrom old.site opening (before ++ c ∷ after) →
+        AreOfWorld W (notes_of (before ++ c ∷ after)) → is_question words ≡ true →
+        command_of words ≡ Ok command → IsCallOf old command bytes new c →
+        IsAnsweredBy (queues_over (rule_of old.site.rule) (gathered W (notes_of before) [])
+        (heaps_in (heaps_of old.site))) words bytes }
+    ensures linked { (rule : Rules) (K : ℕ) (sites : ℕ →
+        Site) (events : List Event) (before : List Event) (e : Event) (after : List Event)
+        (old new : Passed) (words : List Word) (command : Command)
+        (bytes : Word) → 2 ≤ K → AreEventsOf rule K sites events → events ≡ before ++ e ∷ after →
+        is_question words ≡ true → command_of words ≡ Ok command →
+        IsCallOf old command bytes new e.call →
+        IsAnsweredBy (queues_over rule (has_at (made_of events) e.site before) (heaps_in K)) words
+        bytes }
+    ensures converging { (rule : Rules) (K : ℕ) (sites : ℕ →
+        Site) (events : List Event) (one other : Asking) (words : List Word) → 2 ≤ K →
+        AreEventsOf rule K sites events → is_question words ≡ true →
+        IsAskingOf events words one → IsAskingOf events words other →
+        AreSame (has_at (made_of events) one.event.site one.before)
+        (has_at (made_of events) other.event.site other.before) →
+        AreAnsweredBy (queues_over rule (has_at (made_of events) one.event.site one.before)
+        (heaps_in K)) words one.bytes other.bytes }
 {
     // Each call leaves its note,
     noting();

@@ -10,8 +10,8 @@ pub enum End {
     Clean,
     /// The input ended inside a request.
     Inside,
-    /// The input went on with bytes that begin no request, or with a request past the limits. The error
-    /// for it was written.
+    /// The input went on with bytes that begin no request, or with a request past the limits. The
+    /// error for it was written.
     Protocol,
 }
 
@@ -26,8 +26,8 @@ pub enum SessionFault {
     NoMemory,
 }
 
-/// The exit status of a program whose session ended so: 0 for a clean end, 2 for input that ended inside
-/// a request or broke the protocol, 4 for a fault.
+/// The exit status of a program whose session ended so: 0 for a clean end, 2 for input that ended
+/// inside a request or broke the protocol, 4 for a fault.
 pub fn status(end: &Result<End, SessionFault>) -> u8
     ensures { result ≡ status_of end.now }
 {

@@ -13,11 +13,11 @@ use zq_resp::{Reply, Request};
 use zq_spread::{Draws, Pass, Site};
 use zq_words::{Command, Kind};
 
-/// A server of a site, which answers requests by one pass. Other threads may work at the site at the same time, each by
-/// a pass of its own, so a request may wait for another thread.
+/// A server of a site, which answers requests by one pass. Other threads may work at the site at
+/// the same time, each by a pass of its own, so a request may wait for another thread.
 ///
-/// A request is one call of the site. ZPOPNEAR draws its heaps by the next two words of the draws; no other command
-/// takes any. What is no command changes nothing and takes no words.
+/// A request is one call of the site. ZPOPNEAR draws its heaps by the next two words of the draws;
+/// no other command takes any. What is no command changes nothing and takes no words.
 #[derive(Drop)]
 pub struct Passing<'a, R: Wait> {
     rt: &'a R,
@@ -43,7 +43,8 @@ impl<'a, R: Wait> Passing<'a, R> {
 
     /// The reply to a command, by a call of the site.
     fn run(&mut self, alloc: Global, command: &Command) -> Reply
-        ensures ran { IsPassedOn (passed self.old.site.now self.old.pass self.old.draws) command.now (passed self.new.site.now self.new.pass self.new.draws) (reply_bytes result) }
+        ensures ran { IsPassedOn (passed self.old.site.now self.old.pass self.old.draws) command.now
+            (passed self.new.site.now self.new.pass self.new.draws) (reply_bytes result) }
         ensures writable { IsTrue (is_writable result) }
     {
         let (w1, w2) = draw(&mut self.draws, command);
@@ -66,7 +67,9 @@ fn draw(draws: &mut Draws, command: &Command) -> (u64, u64)
 impl<'a, R: Wait> Answers for Passing<'a, R> {
     ghost use Rattle.zq_session.specs.Passing.{AnswersByCall, passed};
 
-    ghost answers = { λ old words reply new. AnswersByCall (passed old.site.now old.pass old.draws) words reply (passed new.site.now new.pass new.draws) };
+    ghost answers = { λ old words reply new.
+        AnswersByCall (passed old.site.now old.pass old.draws) words reply
+        (passed new.site.now new.pass new.draws) };
 
     fn answer(&mut self, alloc: Global, request: &Request) -> Reply {
         match Command::read(alloc, request) {

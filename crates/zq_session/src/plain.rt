@@ -15,12 +15,12 @@ use zq_posheap::Seeded;
 use zq_resp::{Reply, Request};
 use zq_words::{Command, Kind};
 
-/// A server of a site that one session alone uses: it locks nothing. It keeps what it is given in memory alone. A
-/// member's score is the greatest of its additions'.
+/// A server of a site that one session alone uses: it locks nothing. It keeps what it is given in
+/// memory alone. A member's score is the greatest of its additions'.
 ///
-/// Every command but PING runs at the stamp after the greatest of its books', and is answered `-ERR worn after 0` where
-/// there is none. It begins all books: a tail of 4,096 records or more is cut to its newest 2,048. ZPOPNEAR takes the
-/// first pair of all heaps, as ZPOPMIN does.
+/// Every command but PING runs at the stamp after the greatest of its books', and is answered `-ERR
+/// worn after 0` where there is none. It begins all books: a tail of 4,096 records or more is cut
+/// to its newest 2,048. ZPOPNEAR takes the first pair of all heaps, as ZPOPMIN does.
 #[derive(Drop)]
 pub struct Plain {
     pub(crate) books: SiteBooks,
@@ -42,7 +42,8 @@ impl Model for Plain {
 }
 
 impl Plain {
-    /// A server with no keys over so many heaps, 1 to 16, and `Err` where there was no memory for their books.
+    /// A server with no keys over so many heaps, 1 to 16, and `Err` where there was no memory for
+    /// their books.
     pub fn new(alloc: Global, heaps: u8) -> Result<Plain, AllocError>
         requires { IsHeaps heaps }
         ensures { IfOk result (λ server. server ≡ no_keys heaps) }

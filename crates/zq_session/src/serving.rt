@@ -32,14 +32,14 @@ pub enum Served {
     Broken,
 }
 
-/// Answers the requests that end in a piece, and puts the replies' bytes behind those that are gathered.
-/// Where these grow to 65,536 they are written. After a protocol fault the error that closes the session
-/// follows them.
+/// Answers the requests that end in a piece, and puts the replies' bytes behind those that are
+/// gathered. Where these grow to 65,536 they are written. After a protocol fault the error that
+/// closes the session follows them.
 ///
-/// - `NoMemory`: there are the replies to the first of the requests. At most one reply that was made is
-///   missing, and the requests after that one are not answered.
-/// - `Write`: the first of the bytes are written, up to where the writer failed, and the requests after
-///   the one whose reply was gathered last are not answered.
+/// - `NoMemory`: there are the replies to the first of the requests. At most one reply that was
+///   made is missing, and the requests after that one are not answered.
+/// - `Write`: the first of the bytes are written, up to where the writer failed, and the requests
+///   after the one whose reply was gathered last are not answered.
 pub fn serve_piece<A: Answers, R, W, E: Ends<R, W>>(
     alloc: Global,
     answerer: &mut A,
@@ -52,7 +52,8 @@ pub fn serve_piece<A: Answers, R, W, E: Ends<R, W>>(
 ) -> Result<Served, SessionFault>
     ensures { (had : List ℕ) → input.old ≡ Some had → (bytes : List ℕ)
         × ServesPiece A.answers answerer.old answerer.new had piece.now input.new bytes result
-        × Puts E.does (held (reader.old, writer.old) out.old.items) (held (reader.new, writer.new) out.new.items) bytes result }
+        × Puts E.does (held (reader.old, writer.old) out.old.items)
+        (held (reader.new, writer.new) out.new.items) bytes result }
 {
     // What is kept of an earlier piece is less than a request.
     let _inside = input.inside();
@@ -72,7 +73,8 @@ pub fn serve_piece<A: Answers, R, W, E: Ends<R, W>>(
     Ok(Served::More)
 }
 
-/// Answers a request. Memory is wanting only where there is no room for the reply behind what is gathered.
+/// Answers a request. Memory is wanting only where there is no room for the reply behind what is
+/// gathered.
 fn answer_one<A: Answers, R, W, E: Ends<R, W>>(
     alloc: Global,
     answerer: &mut A,
@@ -84,20 +86,25 @@ fn answer_one<A: Answers, R, W, E: Ends<R, W>>(
 ) -> Result<(), SessionFault>
     ensures answered { (bytes : List ℕ)
         × AnswersAll A.answers answerer.old answerer.new (request.now ∷ []) bytes result
-        × Puts E.does (held (reader.old, writer.old) out.old.items) (held (reader.new, writer.new) out.new.items) bytes result }
-    ensures full { IsErrOf result SessionFault.NoMemory → (reply : Reply) × A.answers answerer.old request.now reply answerer.new
+        × Puts E.does (held (reader.old, writer.old) out.old.items)
+        (held (reader.new, writer.new) out.new.items) bytes result }
+    ensures full { IsErrOf result SessionFault.NoMemory → (reply : Reply)
+        × A.answers answerer.old request.now reply answerer.new
         × (vec_capacity out.old < vec_len out.old + length (reply_bytes reply)) }
 {
     let reply = answerer.answer(alloc, request);
     gather(ends, reader, writer, out, &reply)
 }
 
-/// Ends the input at a fault. One that closes the input finds no memory only where there is no room for the closing words.
+/// Ends the input at a fault. One that closes the input finds no memory only where there is no room
+/// for the closing words.
 fn end(fault: FeedFault, out: &mut Vec<u8>) -> Result<Served, SessionFault>
     ensures ended { MatchResult result
-        (λ served. IsBreak fault × (served ≡ Served.Broken) × (out.new.items ≡ out.old.items ++ closing))
+        (λ served. IsBreak fault × (served ≡ Served.Broken)
+        × (out.new.items ≡ out.old.items ++ closing))
         (λ stop. (stop ≡ SessionFault.NoMemory) × (out.new.items ≡ out.old.items)) }
-    ensures full { IsBreak fault → OnErr result (vec_capacity out.old < vec_len out.old + length closing) }
+    ensures full { IsBreak fault →
+        OnErr result (vec_capacity out.old < vec_len out.old + length closing) }
 {
     if breaks(fault) {
         close(out)

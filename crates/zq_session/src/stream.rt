@@ -19,20 +19,21 @@ const READS: u64 = 4_611_686_018_427_387_904;
 const PIECE: usize = 16_384;
 
 /// Answers the requests of the input, in order. The replies to the requests of one read are written
-/// before the next read. Before that they are written whenever 65,536 bytes or more of them are gathered,
-/// so what waits is less than that and one reply.
+/// before the next read. Before that they are written whenever 65,536 bytes or more of them are
+/// gathered, so what waits is less than that and one reply.
 ///
 /// - `Clean`: the input ended after a request, or before the first.
 /// - `Inside`: the input ended inside a request.
-/// - `Protocol`: the input went on with bytes that begin no request, or with a request past the limits.
-///   `-ERR Protocol error` was written for it, once.
+/// - `Protocol`: the input went on with bytes that begin no request, or with a request past the
+///   limits. `-ERR Protocol error` was written for it, once.
 /// - `Read`: all replies to what was read are written.
-/// - `Write`: the first of the bytes that were due are written, up to where the writer failed. The requests
-///   of the last read may be answered in part: the first of them.
-/// - `NoMemory`: the requests that ended before the last read are answered, and the replies written. Of
-///   those that ended in the last read, the first are answered. All their replies are written, but for
-///   at most the last one. No error is written. Memory was refused for that reply, for a request whose count
-///   was read, or for the words that close the session; or it was before anything was read.
+/// - `Write`: the first of the bytes that were due are written, up to where the writer failed. The
+///   requests of the last read may be answered in part: the first of them.
+/// - `NoMemory`: the requests that ended before the last read are answered, and the replies
+///   written. Of those that ended in the last read, the first are answered. All their replies are
+///   written, but for at most the last one. No error is written. Memory was refused for that reply,
+///   for a request whose count was read, or for the words that close the session; or it was before
+///   anything was read.
 pub fn session<A: Answers, R: Read, W: Write>(
     alloc: Global,
     answerer: &mut A,
@@ -48,11 +49,12 @@ pub fn session<A: Answers, R: Read, W: Write>(
     converse(alloc, answerer, &ReadWrite, reader, writer)
 }
 
-/// A session over two ends whose steps have an order. Whenever a read begins, every request that was read before is
-/// answered and every reply is written. Of two writes with no read between them the first has 65,536 bytes or more.
+/// A session over two ends whose steps have an order. Whenever a read begins, every request that
+/// was read before is answered and every reply is written. Of two writes with no read between them
+/// the first has 65,536 bytes or more.
 ///
-/// It ends as [`session`] does. `Clean` and `Inside` come after a read that gave nothing, `Read` after a read that
-/// failed or after 4,611,686,018,427,387,904 reads, `Write` after a write.
+/// It ends as [`session`] does. `Clean` and `Inside` come after a read that gave nothing, `Read`
+/// after a read that failed or after 4,611,686,018,427,387,904 reads, `Write` after a write.
 pub fn converse<A: Answers, R, W, E: Ends<R, W>>(
     alloc: Global,
     answerer: &mut A,
@@ -122,8 +124,8 @@ fn end_of(input: &zq_resp::Reader) -> End
     }
 }
 
-/// Answers the requests that end in a piece, and writes the replies: all that are gathered when the piece
-/// is done, and before that whenever they are 65,536 bytes or more.
+/// Answers the requests that end in a piece, and writes the replies: all that are gathered when the
+/// piece is done, and before that whenever they are 65,536 bytes or more.
 fn write_replies<A: Answers, R, W, E: Ends<R, W>>(
     alloc: Global,
     answerer: &mut A,

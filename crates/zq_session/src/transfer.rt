@@ -9,9 +9,11 @@ use std::io::{Read, Write};
 pub fn read_some<R: Read>(reader: &mut R, buffer: &mut [u8]) -> Result<usize, SessionFault>
     requires { 0 < length buffer.old }
     ensures { MatchResult result
-        (λ count. (count ≤ length buffer.new) × Consumes (R.remaining reader.old) (R.remaining reader.new) (take count buffer.new)
+        (λ count. (count ≤ length buffer.new)
+        × Consumes (R.remaining reader.old) (R.remaining reader.new) (take count buffer.new)
         × (count ≡ 0 → IsAtEnd (R.remaining reader.new)))
-        (λ fault. (fault ≡ SessionFault.Read) × Keeps (R.remaining reader.old) (R.remaining reader.new)) }
+        (λ fault. (fault ≡ SessionFault.Read)
+        × Keeps (R.remaining reader.old) (R.remaining reader.new)) }
 {
     match reader.read(buffer) {
         Ok(count) => Ok(count),
@@ -22,7 +24,9 @@ pub fn read_some<R: Read>(reader: &mut R, buffer: &mut [u8]) -> Result<usize, Se
 pub fn put_all<W: Write>(writer: &mut W, bytes: &[u8]) -> Result<(), SessionFault>
     ensures { MatchResult result
         (λ done. Appends (W.contents writer.old) (W.contents writer.new) bytes.now)
-        (λ fault. (fault ≡ SessionFault.Write) × ((at : ℕ) × Appends (W.contents writer.old) (W.contents writer.new) (take at bytes.now))) }
+        (λ fault. (fault ≡ SessionFault.Write)
+        × ((at : ℕ) × Appends (W.contents writer.old) (W.contents writer.new)
+        (take at bytes.now))) }
 {
     let mut at = 0;
     while at < bytes.len() {

@@ -27,18 +27,21 @@ localhost = v4 (127 ∷ 0 ∷ 0 ∷ 1 ∷ [])
 
 -- the IP address that a text writes
 abbrev pub ip_of : List ℕ → Option IpAddr
-ip_of text = first_of_two (option_map v4 (whole_value (read_ipv4 text))) (option_map v6 (whole_value (read_ipv6 text)))
+ip_of text = first_of_two (option_map v4 (whole_value (read_ipv4 text)))
+    (option_map v6 (whole_value (read_ipv6 text)))
 
 -- the address with a port, of what is read
 abbrev pub socket_v4 : List ℕ × ℕ → SocketAddr
 socket_v4 parts = socket.V4 (record { ip = record { octets = parts.0 }; port = parts.1 })
 
 abbrev pub socket_v6 : List ℕ × ℕ × ℕ × ℕ → SocketAddr
-socket_v6 parts = socket.V6 (record { ip = record { segments = parts.0 }; port = parts.1; flowinfo = parts.2; scope_id = parts.3 })
+socket_v6 parts = socket.V6
+    (record { ip = record { segments = parts.0 }; port = parts.1; flowinfo = parts.2; scope_id = parts.3 })
 
 -- the address with a port that a text writes
 abbrev pub socket_of : List ℕ → Option SocketAddr
-socket_of text = first_of_two (option_map socket_v4 (whole_value (read_socket_v4 text))) (option_map socket_v6 (whole_value (read_socket_v6 text)))
+socket_of text = first_of_two (option_map socket_v4 (whole_value (read_socket_v4 text)))
+    (option_map socket_v6 (whole_value (read_socket_v6 text)))
 
 -- the address, unless its port is 0
 abbrev pub unless_zero : Option SocketAddr → Option SocketAddr

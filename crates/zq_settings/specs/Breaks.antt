@@ -24,11 +24,13 @@ IsOutside least most value = (z : ℤ) × (value ≡ integer z) × (within least
 
 -- an array with such an entry behind whole numbers
 abbrev pub HasEntry : (Data → Type 0) → Data → Type 0
-HasEntry P value = (before : List ℕ) × (entry : Data) × (others : List Data) × (value ≡ array (items_of (map entry_of before ++ entry ∷ others))) × P entry
+HasEntry P value = (before : List ℕ) × (entry : Data) × (others : List Data)
+    × (value ≡ array (items_of (map entry_of before ++ entry ∷ others))) × P entry
 
 -- an array with such an entry
 abbrev pub HasItem : (Data → Type 0) → Data → Type 0
-HasItem P value = (before : List Data) × (entry : Data) × (others : List Data) × (value ≡ array (items_of (before ++ entry ∷ others))) × P entry
+HasItem P value = (before : List Data) × (entry : Data) × (others : List Data)
+    × (value ≡ array (items_of (before ++ entry ∷ others))) × P entry
 
 -- a text of which this holds
 abbrev pub IsText : (List ℕ → Type 0) → Data → Type 0
@@ -43,8 +45,10 @@ IsNoAddress text = (address : SocketAddr) → IsSocketText text address → sock
 
 -- the value, or one of the entries of an array, is of another kind than the key takes
 abbrev pub IsOfOtherKind : Key → Data → Type 0
-IsOfOtherKind key.Ports value = (as_array value ≡ None) ⊎ HasEntry (λ entry. as_integer entry ≡ None) value
-IsOfOtherKind key.Peers value = (as_array value ≡ None) ⊎ HasItem (λ entry. as_table entry ≡ None) value
+IsOfOtherKind key.Ports value = (as_array value ≡ None)
+    ⊎ HasEntry (λ entry. as_integer entry ≡ None) value
+IsOfOtherKind key.Peers value = (as_array value ≡ None)
+    ⊎ HasItem (λ entry. as_table entry ≡ None) value
 IsOfOtherKind key.Heaps value = as_integer value ≡ None
 IsOfOtherKind key.Workers value = as_integer value ≡ None
 IsOfOtherKind key.Connections value = as_integer value ≡ None
@@ -77,19 +81,26 @@ IsOutOfRange key.PeerAddress value = IsText IsNoAddress value
 
 -- a key that such a table does not have
 abbrev pub HasUnknown : Form → List ℕ → Members → Type 0
-HasUnknown form name table = (before : List (List ℕ)) × (others : List (List ℕ)) × (names_in table ≡ before ++ name ∷ others) × (is_known form name ≡ false)
+HasUnknown form name table = (before : List (List ℕ)) × (others : List (List ℕ))
+    × (names_in table ≡ before ++ name ∷ others) × (is_known form name ≡ false)
 
 -- the rule that is broken, apart from the order of rules
 abbrev pub Breaks : Members → Why → Type 0
 Breaks table (Unknown form.Sites name) = HasUnknown form.Sites name table
 Breaks table (Missing key.Ports) = value_at key.Ports table ≡ None
-Breaks table (Count key.Ports count) = (entries : List Data) × (value_at key.Ports table ≡ Some (array (items_of entries))) × (length entries ≡ count) × ((count ≡ 0) ⊎ (64 < count))
-Breaks table (Kind key) = (value : Data) × (value_at key table ≡ Some value) × IsOfOtherKind key value
-Breaks table (Range key) = (value : Data) × (value_at key table ≡ Some value) × IsOutOfRange key value
+Breaks table (Count key.Ports count) = (entries : List Data)
+    × (value_at key.Ports table ≡ Some (array (items_of entries))) × (length entries ≡ count)
+    × ((count ≡ 0) ⊎ (64 < count))
+Breaks table (Kind key) = (value : Data) × (value_at key table ≡ Some value)
+    × IsOfOtherKind key value
+Breaks table (Range key) = (value : Data) × (value_at key table ≡ Some value)
+    × IsOutOfRange key value
 Breaks table (Twice port) = (before : List ℕ) × (between : List ℕ) × (others : List ℕ)
-    × (value_at key.Ports table ≡ Some (array (items_of (map entry_of (before ++ port ∷ (between ++ port ∷ others))))))
+    × (value_at key.Ports table
+    ≡ Some (array (items_of (map entry_of (before ++ port ∷ (between ++ port ∷ others))))))
 Breaks table _ = ⊥
 
 -- a table is refused for a rule that it breaks
 abbrev pub EachRefusalIsOfABrokenRule : Type 0
-EachRefusalIsOfABrokenRule = (table : Members) (why : Why) → settings_of table ≡ Err why → Breaks table why
+EachRefusalIsOfABrokenRule = (table : Members) (why : Why) → settings_of table ≡ Err why →
+    Breaks table why

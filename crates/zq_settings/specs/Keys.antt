@@ -26,9 +26,11 @@ name_of key.PeerAddress = codes "address"
 
 -- the keys that a table of each kind may have
 abbrev pub keys_of : Form → List Key
-keys_of form.Sites = key.Ports ∷ key.Heaps ∷ key.Workers ∷ key.Connections ∷ key.Seed ∷ key.Rule ∷ []
+keys_of form.Sites = key.Ports ∷ key.Heaps ∷ key.Workers ∷ key.Connections ∷ key.Seed ∷ key.Rule
+    ∷ []
 keys_of form.Site =
-    key.Site ∷ key.Port ∷ key.Bind ∷ key.Secret ∷ key.Listen ∷ key.Peers ∷ key.Heaps ∷ key.Workers ∷ key.Connections ∷ key.Seed ∷ key.Rule ∷ []
+    key.Site ∷ key.Port ∷ key.Bind ∷ key.Secret ∷ key.Listen ∷ key.Peers ∷ key.Heaps ∷ key.Workers
+    ∷ key.Connections ∷ key.Seed ∷ key.Rule ∷ []
 keys_of form.Peer = key.PeerSite ∷ key.PeerAddress ∷ []
 
 -- one of the keys of such a table has this name

@@ -21,7 +21,8 @@ AsksForList most entries = (1 ≤ count_of entries) × (count_of entries ≤ mos
 
 -- for the ports of an array, or the peers
 abbrev pub AsksForEntries : ℕ → Option Data → Type 0
-AsksForEntries most value = (entries : Items) × (value ≡ Some (array entries)) × AsksForList most entries
+AsksForEntries most value = (entries : Items) × (value ≡ Some (array entries))
+    × AsksForList most entries
 
 -- for a copy of a secret
 abbrev pub AsksForSecret : Option Data → Type 0
@@ -29,7 +30,8 @@ AsksForSecret value = (text : List ℕ) × (value ≡ Some (string text)) × (16
 
 -- of several sites: for a key that is not known, or for the ports where each is known
 abbrev pub AsksOfSites : Members → Type 0
-AsksOfSites table = AsksForName form.Sites table ⊎ ((known_keys form.Sites table ≡ Ok tt) × AsksForEntries 64 (value_at key.Ports table))
+AsksOfSites table = AsksForName form.Sites table
+    ⊎ ((known_keys form.Sites table ≡ Ok tt) × AsksForEntries 64 (value_at key.Ports table))
 
 -- of one site: for its peers, where the secret and the address before them can be read
 pub record AsksForPeers (table : Members) : Type 0 where
@@ -51,4 +53,5 @@ pub record AsksForValues (table : Members) : Type 0 where
 
 -- for a key that is not known, or for these where each is known
 abbrev pub AsksOfSite : Members → Type 0
-AsksOfSite table = AsksForName form.Site table ⊎ ((known_keys form.Site table ≡ Ok tt) × AsksForValues table)
+AsksOfSite table = AsksForName form.Site table
+    ⊎ ((known_keys form.Site table ≡ Ok tt) × AsksForValues table)

@@ -12,7 +12,8 @@ use Rattle.zq_settings.specs.declared.form.Form.TheVariants as form
 use Rattle.zq_settings.specs.declared.key.Key.TheVariants as key
 use Rattle.zq_settings.specs.declared.values.Settings.{Settings}
 
--- there is no value, and the number is the default, or the value is the number, which lies between the bounds
+-- there is no value, and the number is the default, or the value is the number, which lies between
+-- the bounds
 abbrev pub IsNumber : ℕ → ℕ → ℕ → Option Data → ℕ → Type 0
 IsNumber least most default value n = ((value ≡ None) × (n ≡ default)) ⊎ ((value ≡ Some (integer (pos n))) × (least ≤ n) × (n ≤ most))
 
@@ -35,7 +36,8 @@ entry_of port = integer (pos port)
 
 -- the value is the array of the ports, each from 1 to 65535
 abbrev pub AreEntries : Option Data → List ℕ → Type 0
-AreEntries value ports = (value ≡ Some (array (items_of (map entry_of ports)))) × All (λ port. (1 ≤ port) × (port ≤ 65535)) ports × ArePorts ports
+AreEntries value ports = (value ≡ Some (array (items_of (map entry_of ports))))
+    × All (λ port. (1 ≤ port) × (port ≤ 65535)) ports × ArePorts ports
 
 -- each key of the table is known, and each value is as its key wants it
 pub record IsSettings (table : Members) (settings : Settings) : Type 0 where
@@ -49,4 +51,5 @@ pub record IsSettings (table : Members) (settings : Settings) : Type 0 where
 
 -- a table has settings where it breaks no rule, and no others
 abbrev pub SettingsAreOfTheTable : Type 0
-SettingsAreOfTheTable = (table : Members) (settings : Settings) → (settings_of table ≡ Ok settings) ↔ IsSettings table settings
+SettingsAreOfTheTable = (table : Members) (settings : Settings) → (settings_of table ≡ Ok settings)
+    ↔ IsSettings table settings

@@ -25,7 +25,8 @@ Err why >>= f = Err why
 
 -- a whole number between the bounds
 abbrev pub whole_of : Key → ℕ → ℕ → Data → Result ℕ Why
-whole_of key least most value = ok_or (as_integer value) (Kind key) >>= (λ z. ok_or (within least most z) (Range key))
+whole_of key least most value =
+    ok_or (as_integer value) (Kind key) >>= (λ z. ok_or (within least most z) (Range key))
 
 -- the same, and the default where there is no value
 abbrev pub number_of : Key → ℕ → ℕ → ℕ → Option Data → Result ℕ Why
@@ -47,16 +48,19 @@ limit_of count = if count == 0 then None else Some count
 
 -- a number of connections, where 0 or no value is no limit
 abbrev pub connections_of : Option Data → Result (Option ℕ) Why
-connections_of value = number_of key.Connections 0 1000000 0 value >>= (λ count. Ok (limit_of count))
+connections_of value = number_of key.Connections 0 1000000 0 value >>=
+    (λ count. Ok (limit_of count))
 
 -- the rule of this name, in capital letters
 abbrev pub rule_named : List ℕ → Option Rule
-rule_named word = if bytes_eq word (codes "HIGH") then Some High else if bytes_eq word (codes "LOW") then Some Low else None
+rule_named word = if bytes_eq word (codes "HIGH") then Some High else if bytes_eq word
+    (codes "LOW") then Some Low else None
 
 -- a rule by its name, and High where there is no value
 abbrev pub rule_of : Option Data → Result Rule Why
 rule_of None = Ok High
-rule_of (Some value) = ok_or (as_str value) (Kind key.Rule) >>= (λ word. ok_or (rule_named word) (Range key.Rule))
+rule_of (Some value) = ok_or (as_str value) (Kind key.Rule) >>=
+    (λ word. ok_or (rule_named word) (Range key.Rule))
 
 -- what all settings have
 abbrev pub common_of : Members → Result Common Why
@@ -76,7 +80,8 @@ count_of (item entry entries) = suc (count_of entries)
 -- what each entry is read as, or what is wrong with the first of them that cannot be read
 abbrev pub each : {A : Type 0} → (Data → Result A Why) → Items → Result (List A) Why
 each read no_items = Ok []
-each read (item entry entries) = read entry >>= (λ first. each read entries >>= (λ others. Ok (first ∷ others)))
+each read (item entry entries) =
+    read entry >>= (λ first. each read entries >>= (λ others. Ok (first ∷ others)))
 
 -- an entry that is a port
 abbrev pub port_of : Data → Result ℕ Why
@@ -93,7 +98,8 @@ distinct ports = unless_twice (first_twice ports) ports
 -- the ports of 1 to 64 entries, which are different ports
 abbrev pub ports_in : Items → Result (List ℕ) Why
 ports_in entries =
-    if count_of entries == 0 || nat_lt 64 (count_of entries) then Err (Count key.Ports (count_of entries))
+    if count_of entries == 0 || nat_lt 64 (count_of entries) then Err
+    (Count key.Ports (count_of entries))
     else each port_of entries >>= distinct
 
 -- the ports of an array, which has to be there

@@ -19,17 +19,21 @@ use Rattle.zq_settings.specs.declared.why.Why.TheVariants.{Missing, Count, Kind,
 
 -- the address, which without a secret is a loopback address
 abbrev pub unless_exposed : Bool → Key → SocketAddr → Result SocketAddr Why
-unless_exposed secured key address = if secured || is_local address then Ok address else Err (Exposed key)
+unless_exposed secured key address =
+    if secured || is_local address then Ok address else Err (Exposed key)
 
 -- an address with a port, which has to be there
 abbrev pub address_at : Bool → Key → Option Data → Result SocketAddr Why
 address_at secured key None = Err (Missing key)
-address_at secured key (Some value) = ok_or (as_str value) (Kind key) >>= (λ text. ok_or (address_of text) (Range key) >>= unless_exposed secured key)
+address_at secured key (Some value) =
+    ok_or (as_str value) (Kind key) >>=
+    (λ text. ok_or (address_of text) (Range key) >>= unless_exposed secured key)
 
 -- an address, and 127.0.0.1 where there is no value
 abbrev pub bind_of : Option Data → Result IpAddr Why
 bind_of None = Ok localhost
-bind_of (Some value) = ok_or (as_str value) (Kind key.Bind) >>= (λ text. ok_or (ip_of text) (Range key.Bind))
+bind_of (Some value) = ok_or (as_str value) (Kind key.Bind) >>=
+    (λ text. ok_or (ip_of text) (Range key.Bind))
 
 -- a text of at least 16 bytes
 abbrev pub unless_short : List ℕ → Result (Option (List ℕ)) Why

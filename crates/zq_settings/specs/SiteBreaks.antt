@@ -17,7 +17,8 @@ use Rattle.zq_settings.specs.declared.why.Why.TheVariants.{Unknown, Missing, Cou
 -- the value is an array, of which one entry is such a table
 abbrev pub HasPeer : (Members → Type 0) → Members → Type 0
 HasPeer P table = (before : List Data) × (peer : Members) × (others : List Data)
-    × (value_at key.Peers table ≡ Some (array (items_of (before ++ subtable peer ∷ others)))) × P peer
+    × (value_at key.Peers table ≡ Some (array (items_of (before ++ subtable peer ∷ others))))
+    × P peer
 
 -- this holds of the table that the key is of: of a peer's for the keys of peers
 abbrev pub HasKey : Key → (Members → Type 0) → Members → Type 0
@@ -27,31 +28,42 @@ HasKey key P table = P table
 
 -- the key has such a value
 abbrev pub HasValue : Key → (Data → Type 0) → Members → Type 0
-HasValue key P table = HasKey key (λ t. (value : Data) × (value_at key t ≡ Some value) × P value) table
+HasValue key P table =
+    HasKey key (λ t. (value : Data) × (value_at key t ≡ Some value) × P value) table
 
 -- two entries at different places are peers with this number
 abbrev pub HasTwice : ℕ → Members → Type 0
-HasTwice site table = (before : List Data) × (first : Members) × (between : List Data) × (second : Members) × (others : List Data)
-    × (value_at key.Peers table ≡ Some (array (items_of (before ++ subtable first ∷ (between ++ subtable second ∷ others)))))
-    × (value_at key.PeerSite first ≡ Some (integer (pos site))) × (value_at key.PeerSite second ≡ Some (integer (pos site)))
+HasTwice site table = (before : List Data) × (first : Members) × (between : List Data)
+    × (second : Members) × (others : List Data)
+    × (value_at key.Peers table
+    ≡ Some (array (items_of
+    (before ++ subtable first ∷ (between ++ subtable second ∷ others)))))
+    × (value_at key.PeerSite first ≡ Some (integer (pos site)))
+    × (value_at key.PeerSite second ≡ Some (integer (pos site)))
 
 -- a text that writes an address that is no loopback address
 abbrev pub IsExposed : Data → Type 0
-IsExposed value = (text : List ℕ) × (address : SocketAddr) × (value ≡ string text) × IsSocketText text address × ¬ IsLoopback address
+IsExposed value = (text : List ℕ) × (address : SocketAddr) × (value ≡ string text)
+    × IsSocketText text address × ¬ IsLoopback address
 
 -- the rule that is broken, apart from the order of rules
 abbrev pub SiteBreaks : Members → Why → Type 0
 SiteBreaks table (Unknown form.Site name) = HasUnknown form.Site name table
 SiteBreaks table (Unknown form.Peer name) = HasPeer (HasUnknown form.Peer name) table
 SiteBreaks table (Missing key) = HasKey key (λ t. value_at key t ≡ None) table
-SiteBreaks table (Count key.Peers count) = (entries : List Data) × (value_at key.Peers table ≡ Some (array (items_of entries))) × (length entries ≡ count) × (63 < count)
+SiteBreaks table (Count key.Peers count) = (entries : List Data)
+    × (value_at key.Peers table ≡ Some (array (items_of entries))) × (length entries ≡ count)
+    × (63 < count)
 SiteBreaks table (Kind key) = HasValue key (IsOfOtherKind key) table
 SiteBreaks table (Range key) = HasValue key (IsOutOfRange key) table
 SiteBreaks table (PeerTwice site) = HasTwice site table
-SiteBreaks table (OwnPeer site) = (value_at key.Site table ≡ Some (integer (pos site))) × HasPeer (λ peer. value_at key.PeerSite peer ≡ Some (integer (pos site))) table
-SiteBreaks table (Exposed address) = (value_at key.Secret table ≡ None) × HasValue address IsExposed table
+SiteBreaks table (OwnPeer site) = (value_at key.Site table ≡ Some (integer (pos site)))
+    × HasPeer (λ peer. value_at key.PeerSite peer ≡ Some (integer (pos site))) table
+SiteBreaks table (Exposed address) = (value_at key.Secret table ≡ None)
+    × HasValue address IsExposed table
 SiteBreaks table _ = ⊥
 
 -- a table is refused for a rule that it breaks
 abbrev pub EachRefusalOfASiteIsOfABrokenRule : Type 0
-EachRefusalOfASiteIsOfABrokenRule = (table : Members) (why : Why) → site_settings_of table ≡ Err why → SiteBreaks table why
+EachRefusalOfASiteIsOfABrokenRule = (table : Members) (why : Why) →
+    site_settings_of table ≡ Err why → SiteBreaks table why

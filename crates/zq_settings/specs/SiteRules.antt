@@ -34,19 +34,23 @@ IsSecret value secret = ((value ≡ None) × (secret ≡ None)) ⊎ ((text : Lis
 abbrev pub IsLoopback : SocketAddr → Type 0
 IsLoopback address = MatchIp (socket_ip address) IsLoopbackV4 IsLoopbackV6
 
--- the value is a text that writes the address, with a port that is not 0; where there is no secret, a loopback address
+-- the value is a text that writes the address, with a port that is not 0; where there is no secret,
+-- a loopback address
 abbrev pub IsAddress : Option (List ℕ) → Option Data → SocketAddr → Type 0
-IsAddress secret value address = (text : List ℕ) × (value ≡ Some (string text)) × IsSocketText text address × (1 ≤ socket_port address) × (secret ≡ None → IsLoopback address)
+IsAddress secret value address = (text : List ℕ) × (value ≡ Some (string text))
+    × IsSocketText text address × (1 ≤ socket_port address) × (secret ≡ None → IsLoopback address)
 
 -- a table has the keys of a peer alone, and they say this peer, which is another site than its own
-pub record IsPeerTable (own : ℕ) (secret : Option (List ℕ)) (table : Members) (peer : Peer) : Type 0 where
-  pub known : All (λ name. IsTrue (is_known form.Peer name)) (names_in table)
-  pub site : IsRequired 0 63 (value_at key.PeerSite table) peer.site
-  pub other : ¬ (peer.site ≡ own)
-  pub address : IsAddress secret (value_at key.PeerAddress table) peer.address
+pub record IsPeerTable (own : ℕ) (secret : Option (List ℕ)) (table : Members) (peer : Peer) : Type 0
+  where
+    pub known : All (λ name. IsTrue (is_known form.Peer name)) (names_in table)
+    pub site : IsRequired 0 63 (value_at key.PeerSite table) peer.site
+    pub other : ¬ (peer.site ≡ own)
+    pub address : IsAddress secret (value_at key.PeerAddress table) peer.address
 
 abbrev pub IsPeer : ℕ → Option (List ℕ) → Data → Peer → Type 0
-IsPeer own secret entry peer = (table : Members) × (entry ≡ subtable table) × IsPeerTable own secret table peer
+IsPeer own secret entry peer = (table : Members) × (entry ≡ subtable table)
+    × IsPeerTable own secret table peer
 
 -- the entries say these peers, one by one
 abbrev pub AreEach : {A : Type 0} → (Data → A → Type 0) → List Data → List A → Type 0
@@ -54,10 +58,13 @@ AreEach R [] [] = Unit {0}
 AreEach R (entry ∷ entries) (first ∷ others) = R entry first × AreEach R entries others
 AreEach R _ _ = ⊥
 
--- there is no value, and there are no peers, or the value is the array of the peers, no two of which have the same number
+-- there is no value, and there are no peers, or the value is the array of the peers, no two of
+-- which have the same number
 abbrev pub IsArrayOf : ℕ → Option (List ℕ) → Option Data → List Peer → Type 0
 IsArrayOf own secret value peers =
-    ((value ≡ None) × (peers ≡ [])) ⊎ ((entries : List Data) × (value ≡ Some (array (items_of entries))) × AreEach (IsPeer own secret) entries peers × ArePeers peers)
+    ((value ≡ None) × (peers ≡ []))
+    ⊎ ((entries : List Data) × (value ≡ Some (array (items_of entries)))
+    × AreEach (IsPeer own secret) entries peers × ArePeers peers)
 
 -- each key of the table is known, and each value is as its key wants it
 pub record IsSiteSettings (table : Members) (settings : SiteSettings) : Type 0 where
@@ -76,4 +83,5 @@ pub record IsSiteSettings (table : Members) (settings : SiteSettings) : Type 0 w
 
 -- a table has settings where it breaks no rule, and no others
 abbrev pub SiteSettingsAreOfTheTable : Type 0
-SiteSettingsAreOfTheTable = (table : Members) (settings : SiteSettings) → (site_settings_of table ≡ Ok settings) ↔ IsSiteSettings table settings
+SiteSettingsAreOfTheTable = (table : Members) (settings : SiteSettings) →
+    (site_settings_of table ≡ Ok settings) ↔ IsSiteSettings table settings

@@ -21,7 +21,8 @@ Reads (Err (Refused why)) reading = reading ≡ Err why
 Reads (Err NoMemory) reading = Unit {0}
 
 -- the same of a vector and a list
-abbrev pub ReadsAll : {A : Type 0} → Result (Vec A Global) SettingsFault → Result (List A) Why → Type 0
+abbrev pub ReadsAll : {A : Type 0} → Result (Vec A Global) SettingsFault → Result (List A) Why →
+    Type 0
 ReadsAll (Ok items) reading = reading ≡ Ok items.items
 ReadsAll (Err (Refused why)) reading = reading ≡ Err why
 ReadsAll (Err NoMemory) reading = Unit {0}
@@ -36,7 +37,8 @@ HasMore text = IsBlank text → ⊥
 
 -- the text is no TOML, with the line of its fault
 abbrev pub IsNoToml : List ℕ → Why → Type 0
-IsNoToml text (Text line error) = (parse_document text ≡ None) × IsWithin text error × (line ≡ line_of text (span_start error))
+IsNoToml text (Text line error) = (parse_document text ≡ None) × IsWithin text error
+    × (line ≡ line_of text (span_start error))
 IsNoToml text _ = ⊥
 
 -- the same of a fault; where there is no memory the text may be right or wrong
@@ -46,9 +48,11 @@ IsNoTable text NoMemory = HasMore text
 
 -- the text writes a table that is read as this
 abbrev pub Writes : {A : Type 0} → (Members → Result A Why) → List ℕ → Result A Why → Type 0
-Writes reading text read = (table : Members) × (parse_document text ≡ Some table) × (reading table ≡ read)
+Writes reading text read = (table : Members) × (parse_document text ≡ Some table)
+    × (reading table ≡ read)
 
--- the text is no TOML, or it writes a table that breaks this rule first; where there is no memory the text may be right or wrong
+-- the text is no TOML, or it writes a table that breaks this rule first; where there is no memory
+-- the text may be right or wrong
 abbrev pub IsRefusedBy : {A : Type 0} → (Members → Result A Why) → List ℕ → SettingsFault → Type 0
 IsRefusedBy reading text (Refused why) = IsNoToml text why ⊎ Writes reading text (Err why)
 IsRefusedBy reading text NoMemory = HasMore text

@@ -44,21 +44,28 @@ keys_text form.Peer = codes "a peer, which are site and address"
 
 -- what is wrong with a key's value, and what the key takes
 abbrev pub fault_text : Key → List ℕ → List ℕ
-fault_text key fault = owner_of key ++ (name_of key ++ (codes " " ++ (fault ++ (codes ": it takes " ++ takes_of key))))
+fault_text key fault =
+    owner_of key ++ (name_of key ++ (codes " " ++ (fault ++ (codes ": it takes " ++ takes_of key))))
 
 -- What is wrong, and what belongs there. Nothing is said of the words in which TOML refuses a text.
 abbrev pub words_of : Why → Option (List ℕ)
 words_of (why.Text line error) = None
-words_of (why.Unknown form name) = option_append (debug_str name) (Some (codes " is not a key of " ++ keys_text form))
+words_of (why.Unknown form name) =
+    option_append (debug_str name) (Some (codes " is not a key of " ++ keys_text form))
 words_of (why.Missing key) = Some (fault_text key (codes "is missing"))
-words_of (why.Count key count) = Some (fault_text key (codes "has " ++ decimal count ++ codes " entries"))
+words_of (why.Count key count) =
+    Some (fault_text key (codes "has " ++ decimal count ++ codes " entries"))
 words_of (why.Kind key) = Some (fault_text key (codes "has a value of another kind"))
 words_of (why.Range key) = Some (fault_text key (codes "has a value out of range"))
-words_of (why.Twice port) = Some (fault_text key.Ports (codes "has " ++ decimal port ++ codes " twice"))
-words_of (why.PeerTwice site) = Some (fault_text key.Peers (codes "has site " ++ decimal site ++ codes " twice"))
-words_of (why.OwnPeer site) = Some (fault_text key.Peers (codes "has the site's own number " ++ decimal site))
+words_of (why.Twice port) =
+    Some (fault_text key.Ports (codes "has " ++ decimal port ++ codes " twice"))
+words_of (why.PeerTwice site) =
+    Some (fault_text key.Peers (codes "has site " ++ decimal site ++ codes " twice"))
+words_of (why.OwnPeer site) =
+    Some (fault_text key.Peers (codes "has the site's own number " ++ decimal site))
 words_of (why.Exposed key) =
-    Some (owner_of key ++ name_of key ++ codes " is no loopback address: without a secret of at least 16 bytes it takes one")
+    Some (owner_of key ++ name_of key
+    ++ codes " is no loopback address: without a secret of at least 16 bytes it takes one")
 
 -- the same of a fault
 abbrev pub fault_words : SettingsFault → Option (List ℕ)

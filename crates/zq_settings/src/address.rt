@@ -12,7 +12,8 @@ use crate::why::Why;
 use std::net::{IpAddr, Ipv4Addr, SocketAddr};
 use toml::Table;
 
-/// The address at the key, which has to be there. Where there is no secret it has to be a loopback address.
+/// The address at the key, which has to be there. Where there is no secret it has to be a loopback
+/// address.
 pub fn read_address(table: &Table, key: Key, secured: bool) -> Result<SocketAddr, Why>
     ensures { result ≡ address_at secured key (value_in key (table_view table.now)) }
 {
@@ -29,7 +30,8 @@ pub fn read_address(table: &Table, key: Key, secured: bool) -> Result<SocketAddr
     }
 }
 
-/// The address at which the port of clients is, and 127.0.0.1 where the table does not have the key.
+/// The address at which the port of clients is, and 127.0.0.1 where the table does not have the
+/// key.
 pub fn read_bind(table: &Table) -> Result<IpAddr, Why>
     ensures { result ≡ bind_at (value_in Key.Bind (table_view table.now)) }
 {

@@ -19,7 +19,8 @@ use toml::{Table, Value};
 /// The ports of the table.
 pub fn read_ports(alloc: Global, table: &Table) -> Result<Ports, SettingsFault>
     ensures reads { Reads result (ports_at (value_in Key.Ports (table_view table.now))) }
-    ensures memory { IsErrOf result SettingsFault.NoMemory → AsksForEntries 64 (value_in Key.Ports (table_view table.now)) }
+    ensures memory { IsErrOf result SettingsFault.NoMemory →
+        AsksForEntries 64 (value_in Key.Ports (table_view table.now)) }
 {
     let Some(value) = value_at(table, Key::Ports) else {
         return Err(Why::Missing(Key::Ports).into());
@@ -34,7 +35,8 @@ pub fn read_ports(alloc: Global, table: &Table) -> Result<Ports, SettingsFault>
 #[tactic(auto, using(crate::proofs::Apart::distinct_since, crate::proofs::Seen::count_seen))]
 fn ports_of(alloc: Global, entries: &[Value]) -> Result<Ports, SettingsFault>
     ensures reads { Reads result (ports_in (items_view entries.now)) }
-    ensures memory { IsErrOf result SettingsFault.NoMemory → AsksForList 64 (items_view entries.now) }
+    ensures memory { IsErrOf result SettingsFault.NoMemory →
+        AsksForList 64 (items_view entries.now) }
 {
     if entries.is_empty() || MOST_PORTS < entries.len() {
         return Err(Why::Count(Key::Ports, entries.len()).into());

@@ -4,8 +4,8 @@ ghost use Rattle.zq_settings.specs.Rules.{SettingsAreOfTheTable};
 ghost use Rattle.zq_settings.specs.SiteBreaks.{EachRefusalOfASiteIsOfABrokenRule};
 ghost use Rattle.zq_settings.specs.SiteRules.{SiteSettingsAreOfTheTable};
 
-/// A table has settings exactly where it has no other key and each of its values is one that its key takes. They are
-/// its values, and the defaults where keys are missing.
+/// A table has settings exactly where it has no other key and each of its values is one that its
+/// key takes. They are its values, and the defaults where keys are missing.
 pub fn settings_are_of_the_table()
     ensures { SettingsAreOfTheTable }
 {}

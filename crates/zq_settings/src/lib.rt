@@ -1,5 +1,5 @@
-//! The settings of a server of sites, and those of one site, read from a TOML text: its values, or the first reason for
-//! which the text has none, in words that its author can act on.
+//! The settings of a server of sites, and those of one site, read from a TOML text: its values, or
+//! the first reason for which the text has none, in words that its author can act on.
 #![tactic(auto)]
 
 mod address;

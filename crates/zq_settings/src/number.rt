@@ -19,7 +19,8 @@ pub fn read_number<const LEAST: u64, const MOST: u64>(
     key: Key,
     default: Within<LEAST, MOST>,
 ) -> Result<Within<LEAST, MOST>, Why>
-    ensures { result ≡ number_of key LEAST MOST default.entry (value_in key (table_view table.now)) }
+    ensures { result ≡ number_of key LEAST MOST default.entry
+        (value_in key (table_view table.now)) }
 {
     let Some(value) = value_at(table, key) else {
         return Ok(default);
@@ -40,7 +41,8 @@ pub fn read_required<const LEAST: u64, const MOST: u64>(
     }
 }
 
-/// How many connections each port accepts: 0 says that there is no limit, as does a table that does not have the key.
+/// How many connections each port accepts: 0 says that there is no limit, as does a table that does
+/// not have the key.
 pub fn read_connections(table: &Table) -> Result<Option<ConnectionCount>, Why>
     ensures { result ≡ connections_of (value_in Key.Connections (table_view table.now)) }
 {

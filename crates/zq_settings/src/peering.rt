@@ -22,16 +22,18 @@ use std::alloc::{AllocError, Global};
 use toml::{Table, Value};
 use zq_dots::SiteNo;
 
-/// The peers of the table, which are none where it does not have the key. None of them has the site's own number, and
-/// where there is no secret each is at a loopback address.
+/// The peers of the table, which are none where it does not have the key. None of them has the
+/// site's own number, and where there is no secret each is at a loopback address.
 pub fn read_peers(
     alloc: Global,
     table: &Table,
     own: SiteNo,
     secured: bool,
 ) -> Result<Peers, SettingsFault>
-    ensures reads { Reads result (peers_at own secured (value_in Key.Peers (table_view table.now))) }
-    ensures memory { IsErrOf result SettingsFault.NoMemory → AsksForEntries 63 (value_in Key.Peers (table_view table.now)) }
+    ensures reads { Reads result
+        (peers_at own secured (value_in Key.Peers (table_view table.now))) }
+    ensures memory { IsErrOf result SettingsFault.NoMemory →
+        AsksForEntries 63 (value_in Key.Peers (table_view table.now)) }
 {
     let Some(value) = value_at(table, Key::Peers) else {
         return Ok(Peers::new(Vec::new(alloc)));
@@ -51,7 +53,8 @@ fn peers_of(
     secured: bool,
 ) -> Result<Peers, SettingsFault>
     ensures reads { Reads result (peers_in own secured (items_view entries.now)) }
-    ensures memory { IsErrOf result SettingsFault.NoMemory → AsksForList 63 (items_view entries.now) }
+    ensures memory { IsErrOf result SettingsFault.NoMemory →
+        AsksForList 63 (items_view entries.now) }
 {
     if MOST_PEERS < entries.len() {
         return Err(Why::Count(Key::Peers, entries.len()).into());

@@ -12,7 +12,8 @@ pub type Port = Within<1, 65_535>;
 /// The most ports that settings have.
 pub const MOST_PORTS: usize = 64;
 
-/// The ports of sites: 1 to 64 ports, no two of them equal. The place of a port, from 0, is its site's number.
+/// The ports of sites: 1 to 64 ports, no two of them equal. The place of a port, from 0, is its
+/// site's number.
 #[derive(Debug, Drop)]
 pub struct Ports {
     ports: Vec<Port>,

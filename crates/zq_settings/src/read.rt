@@ -25,8 +25,9 @@ use toml::de;
 ///
 /// # Errors
 ///
-/// `Refused` with the first rule that the text breaks, and never where it breaks none. `NoMemory` where there was no
-/// memory to read the text: never of a text that has only white space and comments.
+/// `Refused` with the first rule that the text breaks, and never where it breaks none. `NoMemory`
+/// where there was no memory to read the text: never of a text that has only white space and
+/// comments.
 #[tactic(auto, using(crate::proofs::Told::given_since, crate::proofs::Told::refused_since, crate::proofs::Told::no_table_since))]
 pub fn settings(alloc: Global, text: &str) -> Result<Settings, SettingsFault>
     ensures given { IfOk result (HasSettings text.now) }
@@ -38,7 +39,8 @@ pub fn settings(alloc: Global, text: &str) -> Result<Settings, SettingsFault>
     }
 }
 
-/// The settings of one site that the TOML text writes. The keys `site`, `port` and `listen` have to be there.
+/// The settings of one site that the TOML text writes. The keys `site`, `port` and `listen` have to
+/// be there.
 ///
 /// | key | value | if missing |
 /// |---|---|---|
@@ -50,13 +52,14 @@ pub fn settings(alloc: Global, text: &str) -> Result<Settings, SettingsFault>
 /// | `peers` | an array of at most 63 tables, each with the keys `site` and `address` and no other: the number of another site, and where it listens | there are none |
 /// | `heaps`, `workers`, `connections`, `seed`, `rule` | as of [`settings`] | as of [`settings`] |
 ///
-/// No two peers have the same number. Where there is no `secret`, `listen` and each peer's `address` are loopback
-/// addresses.
+/// No two peers have the same number. Where there is no `secret`, `listen` and each peer's
+/// `address` are loopback addresses.
 ///
 /// # Errors
 ///
-/// `Refused` with the first rule that the text breaks, and never where it breaks none. `NoMemory` where there was no
-/// memory to read the text: never of a text that has only white space and comments.
+/// `Refused` with the first rule that the text breaks, and never where it breaks none. `NoMemory`
+/// where there was no memory to read the text: never of a text that has only white space and
+/// comments.
 #[tactic(auto, using(crate::proofs::Told::site_given_since, crate::proofs::Told::site_refused_since, crate::proofs::Told::no_site_table_since))]
 pub fn site_settings(alloc: Global, text: &str) -> Result<SiteSettings, SettingsFault>
     ensures given { IfOk result (HasSiteSettings text.now) }

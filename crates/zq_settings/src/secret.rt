@@ -64,7 +64,8 @@ impl fmt::Debug for Secret {
 /// The secret of the table, if it has one.
 pub fn read_secret(alloc: Global, table: &Table) -> Result<Option<Secret>, SettingsFault>
     ensures reads { Reads result (secret_of (value_in Key.Secret (table_view table.now))) }
-    ensures memory { IsErrOf result SettingsFault.NoMemory → AsksForSecret (value_in Key.Secret (table_view table.now)) }
+    ensures memory { IsErrOf result SettingsFault.NoMemory →
+        AsksForSecret (value_in Key.Secret (table_view table.now)) }
 {
     let Some(value) = value_at(table, Key::Secret) else {
         return Ok(None);

@@ -19,7 +19,8 @@ use toml::Table;
 #[tactic(auto, using(crate::proofs::Seen::unknown_seen))]
 pub fn refuse_unknown(alloc: Global, table: &Table, form: Form) -> Result<(), SettingsFault>
     ensures reads { Reads result (known_keys form (table_view table.now)) }
-    ensures memory { IsErrOf result SettingsFault.NoMemory → AsksForName form (table_view table.now) }
+    ensures memory { IsErrOf result SettingsFault.NoMemory →
+        AsksForName form (table_view table.now) }
 {
     match find_unknown(table, form) {
         Some(name) => {
@@ -32,7 +33,8 @@ pub fn refuse_unknown(alloc: Global, table: &Table, form: Form) -> Result<(), Se
 
 /// The least key of the table that tables of its kind do not have.
 fn find_unknown(table: &Table, form: Form) -> Option<&String>
-    ensures { option_copied result ≡ find (λ name. not (is_known form (string_bytes name))) (keys table.now) }
+    ensures { option_copied result ≡ find (λ name. not (is_known form (string_bytes name)))
+        (keys table.now) }
 {
     table.keys().find(|name| !form.has_key(name.as_str()))
 }

@@ -45,7 +45,8 @@ pub struct SiteSettings {
     pub port: Port,
     /// The address at which that port is.
     pub bind: IpAddr,
-    /// Where it listens for its peers: a loopback address where there is no secret. The port is not 0.
+    /// Where it listens for its peers: a loopback address where there is no secret. The port is not
+    /// 0.
     pub listen: SocketAddr,
     /// Its peers, none of which has its number. Their addresses are as its own is.
     pub peers: Peers,

@@ -13,11 +13,12 @@ use std::fmt;
 use toml::de;
 use zq_dots::SiteNo;
 
-/// The first rule that a text of settings breaks. First comes that it is TOML, then that it has no other keys, and
-/// then the rules of its keys. Of several sites these are `ports`, `heaps`, `workers`, `connections`, `seed` and `rule`,
-/// in this order. Of one site they are `site`, `port`, `bind`, `secret`, `listen`, `peers`, and then `heaps` and the
-/// others. The entries of `peers` come one by one: that it is a table, that it has no other keys, then the rules of its
-/// `site` and of its `address`.
+/// The first rule that a text of settings breaks. First comes that it is TOML, then that it has no
+/// other keys, and then the rules of its keys. Of several sites these are `ports`, `heaps`,
+/// `workers`, `connections`, `seed` and `rule`, in this order. Of one site they are `site`, `port`,
+/// `bind`, `secret`, `listen`, `peers`, and then `heaps` and the others. The entries of `peers`
+/// come one by one: that it is a table, that it has no other keys, then the rules of its `site` and
+/// of its `address`.
 #[derive(Debug, Drop)]
 pub enum Why {
     /// The text is not TOML.
@@ -27,17 +28,19 @@ pub enum Why {
         /// What TOML does not take.
         error: de::Error,
     },
-    /// A key that a table of this kind does not have: of several the least, by the bytes of their names.
+    /// A key that a table of this kind does not have: of several the least, by the bytes of their
+    /// names.
     Unknown(Form, Name),
     /// There is no such key.
     Missing(Key),
     /// The array at the key has this number of entries, which is too few or too many.
     Count(Key, usize),
-    /// The key has a value of another kind. For `ports` and `peers` the value may be an array: then its first entry
-    /// that is no port is no whole number, and its first entry that is no peer is no table.
+    /// The key has a value of another kind. For `ports` and `peers` the value may be an array: then
+    /// its first entry that is no port is no whole number, and its first entry that is no peer is
+    /// no table.
     Kind(Key),
-    /// The key has a value of its kind that it does not take. For `ports` the first entry that is no port is a whole
-    /// number out of range.
+    /// The key has a value of its kind that it does not take. For `ports` the first entry that is
+    /// no port is a whole number out of range.
     Range(Key),
     /// Two sites have this port: of several such ports the one that stands first.
     Twice(Port),

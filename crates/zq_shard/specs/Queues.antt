@@ -19,7 +19,8 @@ pub record Keyed : Type 0 where
   pub members : Members
 
 abbrev pub keyed_code : Coded Keyed
-keyed_code = code_by (Rule × Members) (coded× rule_code members_code) (λ q. (q.rule, q.members)) (λ p. record { rule = p.0; members = p.1 }) (λ _. refl)
+keyed_code = code_by (Rule × Members) (coded× rule_code members_code) (λ q. (q.rule, q.members))
+    (λ p. record { rule = p.0; members = p.1 }) (λ _. refl)
 
 abbrev pub entries_or_none : Option Queued → Entries
 entries_or_none None = empty
@@ -35,15 +36,18 @@ places_of queue = map (λ member. (queue.0, member)) (keys queue.1.entries)
 
 -- the members of all keys with their entries
 abbrev pub members_in : List (List ℕ × Queued) → Members
-members_in queues = map_on place_cmp (λ q. get (entries_in queues q.0) q.1) (flat_map places_of queues)
+members_in queues = map_on place_cmp (λ q. get (entries_in queues q.0) q.1)
+    (flat_map places_of queues)
 
 -- each key's queue has this rule, and a key without members is not there
 abbrev pub AreQueues : Rule → List (List ℕ × Queued) → Type 0
-AreQueues rule queues = (key : List ℕ) (queue : Queued) → find bytes_cmp key queues ≡ Some queue → (queue.rule ≡ rule) × (queue.entries ≢ empty)
+AreQueues rule queues = (key : List ℕ) (queue : Queued) → find bytes_cmp key queues ≡ Some queue →
+    (queue.rule ≡ rule) × (queue.entries ≢ empty)
 
 -- the queues are as they were, but for one key, which has this one
 abbrev pub HasAt : {X : Type 0} → List ℕ → Option X → List (List ℕ × X) → List (List ℕ × X) → Type 0
-HasAt k w old new = (q : List ℕ) → find bytes_cmp q new ≡ (if eq_by_cmp bytes_cmp q k then w else find bytes_cmp q old)
+HasAt k w old new = (q : List ℕ) → find bytes_cmp q new
+    ≡ (if eq_by_cmp bytes_cmp q k then w else find bytes_cmp q old)
 
 -- the queue, where it has members
 abbrev pub unless_empty : Queued → Option Queued
@@ -56,11 +60,13 @@ and_then f (Some x) = f x
 
 -- the queue of a key of what two sides have together, where it has members
 abbrev pub queue_joined : Rule → List ℕ → List ℕ → Option Queued → Option Queued → Option Queued
-queue_joined rule u v a b = unless_empty (record { rule = rule; entries = joined_entries u v (entries_or_none a) (entries_or_none b) })
+queue_joined rule u v a b =
+    unless_empty (record { rule = rule; entries = joined_entries u v (entries_or_none a) (entries_or_none b) })
 
 -- the members of one key with their entries
 abbrev pub entries_at : Members → List ℕ → Entries
-entries_at members key = map_on bytes_cmp (λ member. get members (key, member)) (map (λ q. q.1) (keys members))
+entries_at members key = map_on bytes_cmp (λ member. get members (key, member))
+    (map (λ q. q.1) (keys members))
 
 -- the members after the effect of a new operation at a place
 abbrev pub members_after : Effect → Place → Members → Members
@@ -68,7 +74,9 @@ members_after e q members = put_entry members q (affected e (entry_at members q)
 
 -- what two sides with these vectors have together
 abbrev pub members_joined : List ℕ → List ℕ → Members → Members → Members
-members_joined u v a b = map_on place_cmp (λ q. unless_bare (join_entry u v (entry_at a q) (entry_at b q))) (keys a ++ keys b)
+members_joined u v a b =
+    map_on place_cmp (λ q. unless_bare (join_entry u v (entry_at a q) (entry_at b q)))
+    (keys a ++ keys b)
 
 -- an entry that a member had, without additions where it did not stand
 abbrev pub or_none : Option Entry → Entry

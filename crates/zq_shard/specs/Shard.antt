@@ -23,7 +23,10 @@ pub record HeapImage : Type 0 where
 
 abbrev pub heap_image_code : Coded HeapImage
 heap_image_code =
-    code_by (ℕ × (ℕ × (Rule × Image))) (coded× coded_ℕ (coded× coded_ℕ (coded× rule_code image_code))) (λ s. (s.heap, (s.heaps, (s.rule, s.image)))) (λ p. record { heap = p.0; heaps = p.1.0; rule = p.1.1.0; image = p.1.1.1 }) (λ _. refl)
+    code_by (ℕ × (ℕ × (Rule × Image)))
+    (coded× coded_ℕ (coded× coded_ℕ (coded× rule_code image_code)))
+    (λ s. (s.heap, (s.heaps, (s.rule, s.image))))
+    (λ p. record { heap = p.0; heaps = p.1.0; rule = p.1.1.0; image = p.1.1.1 }) (λ _. refl)
 
 -- its numbers are in range, and its image keeps the bounds
 pub record IsHeapImage (s : HeapImage) : Type 0 where
@@ -38,7 +41,8 @@ pub record IsSameHeap (s t : HeapImage) : Type 0 where
 
 -- the next operation of a site: it has seen what the heap has
 abbrev pub next_operation : HeapImage → ℕ → List ℕ → List ℕ → Act → Placed
-next_operation s site key member act = record { heaps = s.heaps; operation = operation_over s.heap s.image.vector site key member act }
+next_operation s site key member act =
+    record { heaps = s.heaps; operation = operation_over s.heap s.image.vector site key member act }
 
 -- the heap has the image of this closed set of operations
 pub record HoldsImage (s : HeapImage) (S : List Operation) : Type 0 where
@@ -56,10 +60,12 @@ pub record IsOfHeap (s : HeapImage) (p : Placed) : Type 0 where
 abbrev pub queue_at : HeapImage → List ℕ → List Scored
 queue_at s key = queue_of s.rule key (s.image.members ∷ [])
 
--- the heap has the image of this closed set, and q is what the set means by the queue of the key in this heap
-pub record IsMeant (s : HeapImage) (S : List Operation) (key : List ℕ) (q : List Scored) : Type 0 where
-  pub holds : HoldsImage s S
-  pub queue : IsQueue s.rule s.heaps S key (s.heap ∷ []) q
+-- the heap has the image of this closed set, and q is what the set means by the queue of the key in
+-- this heap
+pub record IsMeant (s : HeapImage) (S : List Operation) (key : List ℕ) (q : List Scored) : Type 0
+  where
+    pub holds : HoldsImage s S
+    pub queue : IsQueue s.rule s.heaps S key (s.heap ∷ []) q
 
 -- the image where the member has this entry
 abbrev pub with_entry : Place → Entry → Image → Image

@@ -23,7 +23,9 @@ impl Queues {
     ) -> Result<Queues, AllocError>
         requires { other.now.rule ≡ self.now.rule }
         ensures rule { IfOk result (λ merged. merged.rule ≡ self.now.rule) }
-        ensures joined { IfOk result (λ merged. merged.members ≡ members_joined mine.now theirs.now self.now.members other.now.members) }
+        ensures joined { IfOk result
+            (λ merged. merged.members
+            ≡ members_joined mine.now theirs.now self.now.members other.now.members) }
     {
         let none = Queue::new(alloc, self.rule, *self.queues.hasher());
         let room = self.queues.len().max(other.queues.len());
@@ -69,7 +71,9 @@ fn join_mine(
     requires kept { AreQueues none.now.rule my_queues.now.entries }
     requires their_kept { AreQueues none.now.rule their_queues.now.entries }
     ensures { OnOk result ((q : List ℕ) → map.find bytes_cmp q merged.new.entries
-        ≡ and_then (λ queue. queue_joined none.now.rule mine.now theirs.now (Some queue) (map.find bytes_cmp q their_queues.now.entries)) (map.find bytes_cmp q my_queues.now.entries)) }
+        ≡ and_then (λ queue. queue_joined none.now.rule mine.now theirs.now (Some queue)
+        (map.find bytes_cmp q their_queues.now.entries))
+        (map.find bytes_cmp q my_queues.now.entries)) }
 {
     for (key, queue) in my_queues {
         let other = queue_or(their_queues, key.as_slice(), none);
@@ -91,9 +95,13 @@ fn join_theirs(
     requires nothing { none.now.entries ≡ map.empty }
     requires their_kept { AreQueues none.now.rule their_queues.now.entries }
     requires begun { (q : List ℕ) → map.find bytes_cmp q merged.old.entries
-        ≡ and_then (λ queue. queue_joined none.now.rule mine.now theirs.now (Some queue) (map.find bytes_cmp q their_queues.now.entries)) (map.find bytes_cmp q my_queues.now.entries) }
+        ≡ and_then (λ queue. queue_joined none.now.rule mine.now theirs.now (Some queue)
+        (map.find bytes_cmp q their_queues.now.entries))
+        (map.find bytes_cmp q my_queues.now.entries) }
     ensures { OnOk result ((q : List ℕ) → map.find bytes_cmp q merged.new.entries
-        ≡ queue_joined none.now.rule mine.now theirs.now (map.find bytes_cmp q my_queues.now.entries) (map.find bytes_cmp q their_queues.now.entries)) }
+        ≡ queue_joined none.now.rule mine.now theirs.now
+        (map.find bytes_cmp q my_queues.now.entries)
+        (map.find bytes_cmp q their_queues.now.entries)) }
 {
     for (key, queue) in their_queues {
         if !my_queues.contains_key(key) {
@@ -128,7 +136,9 @@ fn join_at(
 ) -> Result<(), AllocError>
     requires absent { map.find bytes_cmp key.now merged.old.entries ≡ None }
     requires rule { other.now.rule ≡ queue.now.rule }
-    ensures { OnOk result (HasAt key.now (unless_empty (record { rule = queue.now.rule; entries = joined_entries mine.now theirs.now queue.now.entries other.now.entries }))
+    ensures { OnOk result
+        (HasAt key.now (unless_empty
+        (record { rule = queue.now.rule; entries = joined_entries mine.now theirs.now queue.now.entries other.now.entries }))
         merged.old.entries merged.new.entries) }
 {
     let joined = queue.merge(alloc, mine, other, theirs)?;

@@ -20,7 +20,8 @@ use zq_queue::Queue;
 impl Queues {
     /// The members with their entries, by key and then by member.
     pub fn rows(&self, alloc: Global) -> Result<Vec<RowRef<'_>>, AllocError>
-        ensures { IfOk result (λ rows. map lent_row rows.items ≡ map row_of (finite.entries self.now.members)) }
+        ensures { IfOk result (λ rows. map lent_row rows.items
+            ≡ map row_of (finite.entries self.now.members)) }
     {
         let keys = keys_in_order(alloc, &self.queues)?;
         let mut rows = Vec::new(alloc);
@@ -37,7 +38,9 @@ impl Queues {
         rows: &mut Vec<RowRef<'a>>,
         key: &'a [u8],
     ) -> Result<(), AllocError>
-        ensures { OnOk result (map lent_row rows.new.items ≡ map lent_row rows.old.items ++ map row_of (block key.now (entries_at self.now.members key.now))) }
+        ensures { OnOk result (map lent_row rows.new.items
+            ≡ map lent_row rows.old.items ++ map row_of
+            (block key.now (entries_at self.now.members key.now))) }
     {
         match self.queue(key) {
             Some(queue) => push_members(alloc, rows, key, queue),
@@ -52,7 +55,9 @@ fn keys_in_order<'a>(
     queues: &'a IndexMap<Name, Queue, Seeded>,
 ) -> Result<Vec<&'a [u8]>, AllocError>
     ensures rising { IfOk result (λ keys. IsStrictlySortedBy bytes_cmp (map lent_key keys.items)) }
-    ensures all { IfOk result (λ keys. (q : List ℕ) → list_any (eq_by_cmp bytes_cmp q) (map lent_key keys.items) ≡ is_some (finite.find bytes_cmp q queues.now.entries)) }
+    ensures all { IfOk result (λ keys. (q : List ℕ) →
+        list_any (eq_by_cmp bytes_cmp q) (map lent_key keys.items)
+        ≡ is_some (finite.find bytes_cmp q queues.now.entries)) }
 {
     let mut keys = keys_in_any_order(alloc, queues)?;
     keys.sort_unstable();
@@ -64,8 +69,10 @@ fn keys_in_any_order<'a>(
     alloc: Global,
     queues: &'a IndexMap<Name, Queue, Seeded>,
 ) -> Result<Vec<&'a [u8]>, AllocError>
-    ensures keys { IfOk result (λ keys. map lent_key keys.items ≡ map (λ e. e.0) queues.now.entries) }
-    ensures distinct { IfOk result (λ keys. IsDistinct (pointwise nat_eq) (map lent_key keys.items)) }
+    ensures keys { IfOk result (λ keys. map lent_key keys.items
+        ≡ map (λ e. e.0) queues.now.entries) }
+    ensures distinct { IfOk result
+        (λ keys. IsDistinct (pointwise nat_eq) (map lent_key keys.items)) }
 {
     let mut keys = Vec::with_capacity(alloc, queues.len())?;
     for (key, _) in queues {
@@ -81,7 +88,8 @@ fn push_members<'a>(
     key: &'a [u8],
     queue: &'a Queue,
 ) -> Result<(), AllocError>
-    ensures { OnOk result (map lent_row rows.new.items ≡ map lent_row rows.old.items ++ map row_of (block key.now queue.now.entries)) }
+    ensures { OnOk result (map lent_row rows.new.items ≡ map lent_row rows.old.items
+        ++ map row_of (block key.now queue.now.entries)) }
 {
     let members = queue.rows(alloc)?;
     rows.reserve(members.len())?;

@@ -27,8 +27,8 @@ impl Shard {
         self.queues.rows(alloc)
     }
 
-    /// The heap of this vector, `heap` of `heaps`, in which no member stands: what [`Shard::push_row`]
-    /// begins with.
+    /// The heap of this vector, `heap` of `heaps`, in which no member stands: what
+    /// [`Shard::push_row`] begins with.
     pub fn of_vector(
         alloc: Global,
         heap: u8,
@@ -65,14 +65,18 @@ impl Shard {
     ) -> Result<(), AllocError>
         requires wide { length entry ≡ SITES }
         requires full { is_bare entry ≡ false }
-        requires bounded { IsBoundedRow self.old.heaps self.old.heap self.old.image.vector (row_of ((key.now, member.now), entry)) }
+        requires bounded { IsBoundedRow self.old.heaps self.old.heap self.old.image.vector
+            (row_of ((key.now, member.now), entry)) }
         ensures heap { self.new.heap ≡ self.old.heap }
         ensures heaps { self.new.heaps ≡ self.old.heaps }
         ensures rule { self.new.rule ≡ self.old.rule }
-        ensures image { OnOk result (self.new.image ≡ with_entry (key.now, member.now) entry self.old.image) }
-        ensures rows { OnOk result ((before : List model.Row) → self.old.image ≡ image_of_rows self.old.image.vector before →
+        ensures image { OnOk result
+            (self.new.image ≡ with_entry (key.now, member.now) entry self.old.image) }
+        ensures rows { OnOk result ((before : List model.Row) →
+            self.old.image ≡ image_of_rows self.old.image.vector before →
             AreInOrder (before ++ row_of ((key.now, member.now), entry) ∷ []) →
-            self.new.image ≡ image_of_rows self.old.image.vector (before ++ row_of ((key.now, member.now), entry) ∷ [])) }
+            self.new.image ≡ image_of_rows self.old.image.vector
+            (before ++ row_of ((key.now, member.now), entry) ∷ [])) }
         ensures refused { OnErr result (self.new ≡ self.old) }
     {
         // The bounds that the members keep.
@@ -95,11 +99,13 @@ impl Shard {
         requires heap { heap < heaps }
         requires counters { IsCounters vector.now }
         requires rows { AreRows (map given_row rows.now) }
-        requires bounded { (row : model.Row) → IsIn row (map given_row rows.now) → IsBoundedRow heaps heap vector.now row }
+        requires bounded { (row : model.Row) → IsIn row (map given_row rows.now) →
+            IsBoundedRow heaps heap vector.now row }
         ensures heap { IfOk result (λ shard. shard.heap ≡ heap) }
         ensures heaps { IfOk result (λ shard. shard.heaps ≡ heaps) }
         ensures rule { IfOk result (λ shard. shard.rule ≡ rule_of rule) }
-        ensures image { IfOk result (λ shard. shard.image ≡ image_of_rows vector.now (map given_row rows.now)) }
+        ensures image { IfOk result
+            (λ shard. shard.image ≡ image_of_rows vector.now (map given_row rows.now)) }
     {
         let mut shard = Shard::of_vector(alloc, heap, heaps, rule, vector, hasher);
         for row in rows {

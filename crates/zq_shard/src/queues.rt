@@ -21,8 +21,8 @@ use zq_entry::Entry;
 use zq_posheap::{Guess, Name, NameRef, Seeded};
 use zq_queue::{Effect, Queue};
 
-/// The keys of a heap with their queues. A key without members is not there. A call looks one key up time after time,
-/// so a look-up begins where the last one ended.
+/// The keys of a heap with their queues. A key without members is not there. A call looks one key
+/// up time after time, so a look-up begins where the last one ended.
 #[derive(Drop)]
 pub(crate) struct Queues {
     pub(crate) rule: Rule,
@@ -72,18 +72,23 @@ impl Queues {
 
     /// The queue of a key, which has members.
     pub fn queue(&self, key: &[u8]) -> Option<&Queue>
-        ensures entries { IfSome result (λ queue. queue.now.entries ≡ entries_at self.now.members key.now) }
+        ensures entries { IfSome result
+            (λ queue. queue.now.entries ≡ entries_at self.now.members key.now) }
         ensures rule { IfSome result (λ queue. queue.now.rule ≡ self.now.rule) }
-        ensures list { IfSome result (λ queue. listed queue.now.rule queue.now.entries ≡ queue_of self.now.rule key.now (self.now.members ∷ [])) }
+        ensures list { IfSome result
+            (λ queue. listed queue.now.rule queue.now.entries
+            ≡ queue_of self.now.rule key.now (self.now.members ∷ [])) }
         ensures absent { IfNone result (entries_at self.now.members key.now ≡ map.empty) }
-        ensures no_list { IfNone result (queue_of self.now.rule key.now (self.now.members ∷ []) ≡ []) }
+        ensures no_list { IfNone result
+            (queue_of self.now.rule key.now (self.now.members ∷ []) ≡ []) }
     {
         self.guess.get(&self.queues, key)
     }
 
     /// The entry of a member of a key, and `None` where it does not stand.
     pub fn entry(&self, key: &[u8], member: &[u8]) -> Option<&Entry>
-        ensures { option_map (λ entry. entry.now) result ≡ map.get self.now.members (key.now, member.now) }
+        ensures { option_map (λ entry. entry.now) result
+            ≡ map.get self.now.members (key.now, member.now) }
     {
         match self.queue(key) {
             Some(queue) => queue.entry(member),
@@ -93,7 +98,8 @@ impl Queues {
 
     /// The score of a member of a key, and `None` where it does not stand.
     pub fn score(&self, key: &[u8], member: &[u8]) -> Option<i128>
-        ensures { result ≡ score_of self.now.rule (entry_at self.now.members (key.now, member.now)) }
+        ensures { result ≡ score_of self.now.rule
+            (entry_at self.now.members (key.now, member.now)) }
     {
         match self.queue(key) {
             Some(queue) => queue.score(member),
@@ -119,8 +125,10 @@ impl Queues {
         requires counter { (1 ≤ effect.now.dot.n) × (effect.now.dot.n ≤ LAST) }
         requires room { HasRoom effect.now (entry_at self.old.members (key.now, member.now)) }
         ensures rule { self.new.rule ≡ self.old.rule }
-        ensures before { IfOk result (λ before. before ≡ map.get self.old.members (key.now, member.now)) }
-        ensures taken { OnOk result (self.new.members ≡ members_after effect.now (key.now, member.now) self.old.members) }
+        ensures before { IfOk result
+            (λ before. before ≡ map.get self.old.members (key.now, member.now)) }
+        ensures taken { OnOk result
+            (self.new.members ≡ members_after effect.now (key.now, member.now) self.old.members) }
         ensures refused { OnErr result (self.new ≡ self.old) }
     {
         take(
@@ -143,7 +151,8 @@ impl Queues {
         before: Option<Entry>,
     ) -> Result<(), AllocError>
         ensures rule { self.new.rule ≡ self.old.rule }
-        ensures back { OnOk result (self.new.members ≡ put_entry self.old.members (key.now, member.now) (or_none before)) }
+        ensures back { OnOk result
+            (self.new.members ≡ put_entry self.old.members (key.now, member.now) (or_none before)) }
         ensures refused { OnErr result (self.new ≡ self.old) }
     {
         put_back(
@@ -206,10 +215,14 @@ fn take(
     effect: &Effect<'_>,
 ) -> Result<Option<Entry>, AllocError>
     requires counter { (1 ≤ effect.now.dot.n) × (effect.now.dot.n ≤ LAST) }
-    requires room { HasRoom effect.now (entry_in (entries_in queues.old.entries key.now) member.now) }
+    requires room { HasRoom effect.now
+        (entry_in (entries_in queues.old.entries key.now) member.now) }
     requires kept { AreQueues (rule_of rule) queues.old.entries }
-    ensures before { IfOk result (λ before. before ≡ map.get (entries_in queues.old.entries key.now) member.now) }
-    ensures taken { OnOk result (HasAt key.now (unless_empty (record { rule = rule_of rule; entries = entries_after effect.now member.now (entries_in queues.old.entries key.now) }))
+    ensures before { IfOk result
+        (λ before. before ≡ map.get (entries_in queues.old.entries key.now) member.now) }
+    ensures taken { OnOk result
+        (HasAt key.now (unless_empty
+        (record { rule = rule_of rule; entries = entries_after effect.now member.now (entries_in queues.old.entries key.now) }))
         queues.old.entries queues.new.entries) }
     ensures refused { OnErr result (queues.new.entries ≡ queues.old.entries) }
 {
@@ -238,7 +251,9 @@ fn put_back(
     before: Option<Entry>,
 ) -> Result<(), AllocError>
     requires kept { AreQueues (rule_of rule) queues.old.entries }
-    ensures back { OnOk result (HasAt key.now (unless_empty (record { rule = rule_of rule; entries = set_entry (entries_in queues.old.entries key.now) member.now (or_none before) }))
+    ensures back { OnOk result
+        (HasAt key.now (unless_empty
+        (record { rule = rule_of rule; entries = set_entry (entries_in queues.old.entries key.now) member.now (or_none before) }))
         queues.old.entries queues.new.entries) }
     ensures refused { OnErr result (queues.new.entries ≡ queues.old.entries) }
 {
@@ -263,7 +278,8 @@ pub(crate) fn add(
     queue: Queue,
 ) -> Result<(), AllocError>
     requires absent { map.find bytes_cmp key.now queues.old.entries ≡ None }
-    ensures added { OnOk result (HasAt key.now (unless_empty queue) queues.old.entries queues.new.entries) }
+    ensures added { OnOk result
+        (HasAt key.now (unless_empty queue) queues.old.entries queues.new.entries) }
     ensures refused { OnErr result (queues.new.entries ≡ queues.old.entries) }
 {
     if !queue.is_empty() {
@@ -280,7 +296,8 @@ fn copy_into(
     source: &IndexMap<Name, Queue, Seeded>,
 ) -> Result<(), AllocError>
     requires empty { queues.old.entries ≡ [] }
-    ensures { OnOk result ((q : List ℕ) → map.find bytes_cmp q queues.new.entries ≡ and_then unless_empty (map.find bytes_cmp q source.now.entries)) }
+    ensures { OnOk result ((q : List ℕ) → map.find bytes_cmp q queues.new.entries
+        ≡ and_then unless_empty (map.find bytes_cmp q source.now.entries)) }
 {
     for (key, queue) in source {
         add(queues, alloc, key.as_slice(), queue.copy(alloc)?)?;
@@ -290,7 +307,9 @@ fn copy_into(
 
 /// Whether both have the same keys with the same queues.
 fn are_same(queues: &IndexMap<Name, Queue, Seeded>, others: &IndexMap<Name, Queue, Seeded>) -> bool
-    ensures { IsTrue result ↔ ((q : List ℕ) → map.find bytes_cmp q queues.now.entries ≡ map.find bytes_cmp q others.now.entries) }
+    ensures { IsTrue result
+        ↔ ((q : List ℕ) → map.find bytes_cmp q queues.now.entries
+        ≡ map.find bytes_cmp q others.now.entries) }
 {
     are_within(queues, others) && are_within(others, queues)
 }
@@ -300,7 +319,9 @@ fn are_within(
     queues: &IndexMap<Name, Queue, Seeded>,
     others: &IndexMap<Name, Queue, Seeded>,
 ) -> bool
-    ensures { IsTrue result ↔ ((q : List ℕ) (queue : Queued) → map.find bytes_cmp q queues.now.entries ≡ Some queue → map.find bytes_cmp q others.now.entries ≡ Some queue) }
+    ensures { IsTrue result
+        ↔ ((q : List ℕ) (queue : Queued) → map.find bytes_cmp q queues.now.entries ≡ Some queue →
+        map.find bytes_cmp q others.now.entries ≡ Some queue) }
 {
     for (key, queue) in queues {
         match others.get(key) {

@@ -14,10 +14,10 @@ use crate::shard::Shard;
 use std::alloc::{AllocError, Global};
 
 impl Shard {
-    /// Makes an ordered index of a key's members, unless it has one or has no more members than so many. Until the key is
-    /// gone, or the shard is merged, changes keep it, and readings of the key in order cost a logarithm of its members and
-    /// what they answer. Where memory is refused there is no index, now or from a later change on, and such readings look
-    /// at all members.
+    /// Makes an ordered index of a key's members, unless it has one or has no more members than so
+    /// many. Until the key is gone, or the shard is merged, changes keep it, and readings of the
+    /// key in order cost a logarithm of its members and what they answer. Where memory is refused
+    /// there is no index, now or from a later change on, and such readings look at all members.
     pub fn index(&mut self, alloc: Global, key: &[u8], most: usize)
         ensures { self.new ≡ self.old }
     {
@@ -28,7 +28,8 @@ impl Shard {
     pub fn count(&self, key: &[u8]) -> usize
         ensures number { result ≡ finite.len (entries_at self.now.image.members key.now) }
         ensures queue { result ≡ length (queue_at self.now key.now) }
-        ensures meant { (S : List Operation) (q : List Scored) → IsMeant self.now S key.now q → result ≡ length q }
+        ensures meant { (S : List Operation) (q : List Scored) → IsMeant self.now S key.now q →
+            result ≡ length q }
         ensures small { result < 2 ^ 63 }
     {
         match self.queues.queue(key) {
@@ -40,7 +41,8 @@ impl Shard {
     /// The first score of a key with its member: the head of `in_order`, at hand with no sort.
     pub fn top(&self, key: &[u8]) -> Option<(i128, &[u8])>
         ensures queue { option_map lent_pair result ≡ slice_get (queue_at self.now key.now) 0 }
-        ensures meant { (S : List Operation) (q : List Scored) → IsMeant self.now S key.now q → option_map lent_pair result ≡ slice_get q 0 }
+        ensures meant { (S : List Operation) (q : List Scored) → IsMeant self.now S key.now q →
+            option_map lent_pair result ≡ slice_get q 0 }
     {
         match self.queues.queue(key) {
             Some(queue) => queue.top(),
@@ -50,8 +52,10 @@ impl Shard {
 
     /// All scores of a key with their members, by score and then by bytes.
     pub fn in_order(&self, alloc: Global, key: &[u8]) -> Result<Vec<(i128, &[u8])>, AllocError>
-        ensures queue { IfOk result (λ pairs. map lent_pair pairs.items ≡ queue_at self.now key.now) }
-        ensures meant { (S : List Operation) (q : List Scored) → IsMeant self.now S key.now q → IfOk result (λ pairs. map lent_pair pairs.items ≡ q) }
+        ensures queue { IfOk result
+            (λ pairs. map lent_pair pairs.items ≡ queue_at self.now key.now) }
+        ensures meant { (S : List Operation) (q : List Scored) → IsMeant self.now S key.now q →
+            IfOk result (λ pairs. map lent_pair pairs.items ≡ q) }
     {
         match self.queues.queue(key) {
             Some(queue) => queue.in_order(alloc),
@@ -66,8 +70,10 @@ impl Shard {
         key: &[u8],
         count: usize,
     ) -> Result<Vec<(i128, &[u8])>, AllocError>
-        ensures queue { IfOk result (λ pairs. map lent_pair pairs.items ≡ take count (queue_at self.now key.now)) }
-        ensures meant { (S : List Operation) (q : List Scored) → IsMeant self.now S key.now q → IfOk result (λ pairs. map lent_pair pairs.items ≡ take count q) }
+        ensures queue { IfOk result
+            (λ pairs. map lent_pair pairs.items ≡ take count (queue_at self.now key.now)) }
+        ensures meant { (S : List Operation) (q : List Scored) → IsMeant self.now S key.now q →
+            IfOk result (λ pairs. map lent_pair pairs.items ≡ take count q) }
     {
         match self.queues.queue(key) {
             Some(queue) => queue.first(alloc, count),
@@ -78,7 +84,8 @@ impl Shard {
     /// How many pairs of `in_order` go before the member's, and `None` where it does not stand.
     pub fn rank(&self, key: &[u8], member: &[u8]) -> Option<usize>
         ensures queue { result ≡ position (is_of_member member.now) (queue_at self.now key.now) }
-        ensures meant { (S : List Operation) (q : List Scored) → IsMeant self.now S key.now q → result ≡ position (is_of_member member.now) q }
+        ensures meant { (S : List Operation) (q : List Scored) → IsMeant self.now S key.now q →
+            result ≡ position (is_of_member member.now) q }
     {
         match self.queues.queue(key) {
             Some(queue) => queue.rank(member),
@@ -88,8 +95,10 @@ impl Shard {
 
     /// How many pairs of `in_order` go after the member's, and `None` where it does not stand.
     pub fn turned_rank(&self, key: &[u8], member: &[u8]) -> Option<usize>
-        ensures queue { result ≡ position (is_of_member member.now) (reverse (queue_at self.now key.now)) }
-        ensures meant { (S : List Operation) (q : List Scored) → IsMeant self.now S key.now q → result ≡ position (is_of_member member.now) (reverse q) }
+        ensures queue { result ≡ position (is_of_member member.now)
+            (reverse (queue_at self.now key.now)) }
+        ensures meant { (S : List Operation) (q : List Scored) → IsMeant self.now S key.now q →
+            result ≡ position (is_of_member member.now) (reverse q) }
     {
         match self.queues.queue(key) {
             Some(queue) => queue.turned_rank(member),
@@ -99,7 +108,8 @@ impl Shard {
 
     /// How many pairs of `in_order` go before this one, which need not stand there.
     pub fn count_before(&self, key: &[u8], score: i128, member: &[u8]) -> usize
-        ensures queue { result ≡ count_by (λ pair. is_lt (scored_cmp pair (score, member.now))) (queue_at self.now key.now) }
+        ensures queue { result ≡ count_by (λ pair. is_lt (scored_cmp pair (score, member.now)))
+            (queue_at self.now key.now) }
         ensures meant { (S : List Operation) (q : List Scored) → IsMeant self.now S key.now q →
             result ≡ count_by (λ pair. is_lt (scored_cmp pair (score, member.now))) q }
     {
@@ -111,7 +121,8 @@ impl Shard {
 
     /// How many pairs of `in_order` go after this one, which need not stand there.
     pub fn count_after(&self, key: &[u8], score: i128, member: &[u8]) -> usize
-        ensures queue { result ≡ count_by (λ pair. is_lt (scored_cmp (score, member.now) pair)) (queue_at self.now key.now) }
+        ensures queue { result ≡ count_by (λ pair. is_lt (scored_cmp (score, member.now) pair))
+            (queue_at self.now key.now) }
         ensures meant { (S : List Operation) (q : List Scored) → IsMeant self.now S key.now q →
             result ≡ count_by (λ pair. is_lt (scored_cmp (score, member.now) pair)) q }
     {
@@ -123,9 +134,12 @@ impl Shard {
 
     /// How many scores of a key are below this one, or at it where `or_equal`.
     pub fn count_below(&self, key: &[u8], score: i128, or_equal: bool) -> usize
-        ensures queue { result ≡ count_by (λ pair. if or_equal then is_le (int_cmp pair.0 score) else is_lt (int_cmp pair.0 score)) (queue_at self.now key.now) }
+        ensures queue { result
+            ≡ count_by (λ pair. if or_equal then is_le (int_cmp pair.0 score) else is_lt
+            (int_cmp pair.0 score)) (queue_at self.now key.now) }
         ensures meant { (S : List Operation) (q : List Scored) → IsMeant self.now S key.now q →
-            result ≡ count_by (λ pair. if or_equal then is_le (int_cmp pair.0 score) else is_lt (int_cmp pair.0 score)) q }
+            result ≡ count_by (λ pair.
+            if or_equal then is_le (int_cmp pair.0 score) else is_lt (int_cmp pair.0 score)) q }
     {
         match self.queues.queue(key) {
             Some(queue) => queue.count_below(score, or_equal),
@@ -133,8 +147,8 @@ impl Shard {
         }
     }
 
-    /// What stands in `in_order` from the place `from` up to the place `to`, itself left out; places
-    /// count from 0.
+    /// What stands in `in_order` from the place `from` up to the place `to`, itself left out;
+    /// places count from 0.
     pub fn slice(
         &self,
         alloc: Global,
@@ -142,8 +156,10 @@ impl Shard {
         from: usize,
         to: usize,
     ) -> Result<Vec<(i128, &[u8])>, AllocError>
-        ensures queue { IfOk result (λ pairs. map lent_pair pairs.items ≡ part from to (queue_at self.now key.now)) }
-        ensures meant { (S : List Operation) (q : List Scored) → IsMeant self.now S key.now q → IfOk result (λ pairs. map lent_pair pairs.items ≡ part from to q) }
+        ensures queue { IfOk result
+            (λ pairs. map lent_pair pairs.items ≡ part from to (queue_at self.now key.now)) }
+        ensures meant { (S : List Operation) (q : List Scored) → IsMeant self.now S key.now q →
+            IfOk result (λ pairs. map lent_pair pairs.items ≡ part from to q) }
     {
         match self.queues.queue(key) {
             Some(queue) => queue.slice(alloc, from, to),
@@ -159,8 +175,11 @@ impl Shard {
         from: usize,
         to: usize,
     ) -> Result<Vec<(i128, &[u8])>, AllocError>
-        ensures queue { IfOk result (λ pairs. map lent_pair pairs.items ≡ part from to (reverse (queue_at self.now key.now))) }
-        ensures meant { (S : List Operation) (q : List Scored) → IsMeant self.now S key.now q → IfOk result (λ pairs. map lent_pair pairs.items ≡ part from to (reverse q)) }
+        ensures queue { IfOk result
+            (λ pairs. map lent_pair pairs.items
+            ≡ part from to (reverse (queue_at self.now key.now))) }
+        ensures meant { (S : List Operation) (q : List Scored) → IsMeant self.now S key.now q →
+            IfOk result (λ pairs. map lent_pair pairs.items ≡ part from to (reverse q)) }
     {
         match self.queues.queue(key) {
             Some(queue) => queue.slice_turned(alloc, from, to),

@@ -110,7 +110,8 @@ impl Shard {
 
     /// What a member of a key has, and `None` where it has no live addition.
     pub fn entry(&self, key: &[u8], member: &[u8]) -> Option<&Entry>
-        ensures { option_map (λ entry. entry.now) result ≡ map.get self.now.image.members (key.now, member.now) }
+        ensures { option_map (λ entry. entry.now) result
+            ≡ map.get self.now.image.members (key.now, member.now) }
     {
         self.queues.entry(key, member)
     }
@@ -118,11 +119,14 @@ impl Shard {
     /// The score of a member of a key: the preferred of the values of its live additions, and
     /// `None` where it has none, as each member of another heap.
     pub fn score(&self, key: &[u8], member: &[u8]) -> Option<i128>
-        ensures image { result ≡ score_of self.now.rule (entry_at self.now.image.members (key.now, member.now)) }
+        ensures image { result ≡ score_of self.now.rule
+            (entry_at self.now.image.members (key.now, member.now)) }
         ensures meant { (S : List Operation) (x : ℤ) → HoldsImage self.now S →
-            (result ≡ Some x) ↔ ((place.heap_of key.now member.now self.now.heaps ≡ self.now.heap) × IsScore self.now.rule S key.now member.now x) }
+            (result ≡ Some x) ↔ ((place.heap_of key.now member.now self.now.heaps ≡ self.now.heap)
+            × IsScore self.now.rule S key.now member.now x) }
         ensures absent { (S : List Operation) → HoldsImage self.now S →
-            (result ≡ None) ↔ (place.heap_of key.now member.now self.now.heaps ≡ self.now.heap → (p : Operation) → IsLive S key.now member.now p → ⊥) }
+            (result ≡ None) ↔ (place.heap_of key.now member.now self.now.heaps ≡ self.now.heap →
+            (p : Operation) → IsLive S key.now member.now p → ⊥) }
     {
         self.queues.score(key, member)
     }

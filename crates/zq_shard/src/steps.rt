@@ -28,9 +28,12 @@ impl Shard {
         ensures heap { self.new.heap ≡ self.old.heap }
         ensures heaps { self.new.heaps ≡ self.old.heaps }
         ensures rule { self.new.rule ≡ self.old.rule }
-        ensures before { IfOk result (λ before. before ≡ map.get self.old.image.members (place_of op.now.operation)) }
+        ensures before { IfOk result
+            (λ before. before ≡ map.get self.old.image.members (place_of op.now.operation)) }
         ensures taken { OnOk result (self.new.image ≡ image_after op.now.operation self.old.image) }
-        ensures set { OnOk result ((S : List Operation) → HoldsImage self.old S → IsWorld self.old.heaps (op.now.operation ∷ S) → HoldsImage self.new (op.now.operation ∷ S)) }
+        ensures set { OnOk result ((S : List Operation) → HoldsImage self.old S →
+            IsWorld self.old.heaps (op.now.operation ∷ S) →
+            HoldsImage self.new (op.now.operation ∷ S)) }
         ensures refused { OnErr result (self.new ≡ self.old) }
     {
         ranged(op);
@@ -56,11 +59,13 @@ impl Shard {
         before: Option<Entry>,
     ) -> Result<(), AllocError>
         requires full { IfSome before (λ entry. is_bare entry ≡ false) }
-        requires bounded { IsBounded self.old.heaps self.old.heap (with_entry (key.now, member.now) (or_none before) self.old.image) }
+        requires bounded { IsBounded self.old.heaps self.old.heap
+            (with_entry (key.now, member.now) (or_none before) self.old.image) }
         ensures heap { self.new.heap ≡ self.old.heap }
         ensures heaps { self.new.heaps ≡ self.old.heaps }
         ensures rule { self.new.rule ≡ self.old.rule }
-        ensures image { OnOk result (self.new.image ≡ with_entry (key.now, member.now) (or_none before) self.old.image) }
+        ensures image { OnOk result
+            (self.new.image ≡ with_entry (key.now, member.now) (or_none before) self.old.image) }
         ensures refused { OnErr result (self.new ≡ self.old) }
     {
         self.queues.put_back(alloc, key, member, before)
@@ -82,7 +87,8 @@ impl Shard {
     ///
     /// `WrongHeap` where the heap, the number of heaps or the member's hash is another.
     pub fn judge(&self, op: &Op) -> Result<Taken, TakeFault>
-        ensures judged { IfOk result (λ taken. answer_of taken ≡ taken_of self.now.image.vector op.now.operation) }
+        ensures judged { IfOk result
+            (λ taken. answer_of taken ≡ taken_of self.now.image.vector op.now.operation) }
         ensures placed { IsOk result ↔ IsOfHeap self.now op.now }
         ensures wrong_heap { IfErr result (λ fault. fault ≡ TakeFault.WrongHeap) }
     {
@@ -103,17 +109,21 @@ impl Shard {
     }
 
     /// Takes an operation of another site where it is New; what is Known or Early changes nothing.
-    /// The answer is that of [`Shard::judge`], and `NoMemory` where a New one finds no memory; after
-    /// a fault nothing has changed.
+    /// The answer is that of [`Shard::judge`], and `NoMemory` where a New one finds no memory;
+    /// after a fault nothing has changed.
     pub fn take(&mut self, alloc: Global, op: &Op) -> Result<Taken, TakeFault>
-        ensures judged { IfOk result (λ taken. answer_of taken ≡ taken_of self.old.image.vector op.now.operation) }
+        ensures judged { IfOk result
+            (λ taken. answer_of taken ≡ taken_of self.old.image.vector op.now.operation) }
         ensures wrong_heap { IsErrOf result TakeFault.WrongHeap ↔ (IsOfHeap self.old op.now → ⊥) }
-        ensures no_memory { IsErrOf result TakeFault.NoMemory → taken_of self.old.image.vector op.now.operation ≡ sets.New }
+        ensures no_memory { IsErrOf result TakeFault.NoMemory →
+            taken_of self.old.image.vector op.now.operation ≡ sets.New }
         ensures heap { self.new.heap ≡ self.old.heap }
         ensures heaps { self.new.heaps ≡ self.old.heaps }
         ensures rule { self.new.rule ≡ self.old.rule }
         ensures image { OnOk result (self.new.image ≡ image_taken op.now.operation self.old.image) }
-        ensures set { IfOk result (λ taken. (S : List Operation) → HoldsImage self.old S → IsWorld self.old.heaps (op.now.operation ∷ S) → (answer_of taken ≡ sets.Early → ⊥) → HoldsImage self.new (op.now.operation ∷ S)) }
+        ensures set { IfOk result (λ taken. (S : List Operation) → HoldsImage self.old S →
+            IsWorld self.old.heaps (op.now.operation ∷ S) → (answer_of taken ≡ sets.Early → ⊥) →
+            HoldsImage self.new (op.now.operation ∷ S)) }
         ensures refused { OnErr result (self.new ≡ self.old) }
     {
         match self.judge(op)? {

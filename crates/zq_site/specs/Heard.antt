@@ -29,4 +29,5 @@ end_of (Err (why, before)) = Err (loss_of why)
 -- the frames were heard, one after the other, and nothing else
 abbrev pub AreHeard : {H : Type 0} → (H → List ℕ → H → Type 0) → H → H → Frames → Type 0
 AreHeard hears old new [] = old ≡ new
-AreHeard {H} hears old new (frame ∷ frames) = (mid : H) × hears old frame mid × AreHeard hears mid new frames
+AreHeard {H} hears old new (frame ∷ frames) = (mid : H) × hears old frame mid
+    × AreHeard hears mid new frames

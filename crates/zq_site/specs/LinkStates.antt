@@ -39,10 +39,14 @@ raised stream wire = record {
 -- the link of this number is down, and no other
 abbrev pub lowered : {S : Type 0} → ℕ → LinkState S → LinkState S
 lowered number wire =
-    if is_up number wire.link then record { outbox = cleared wire.outbox; link = None; last = wire.last; over = wire.over } else wire
+    if is_up number wire.link then
+    record { outbox = cleared wire.outbox; link = None; last = wire.last; over = wire.over }
+    else wire
 
--- The frame that waited first goes over the link that is up, by its number and its stream, and waits no more.
-pub record IsTurn {S : Type 0} (number : ℕ) (IsStream : S → Type 0) (frame : List ℕ) (old new : LinkState S) : Type 0 where
+-- The frame that waited first goes over the link that is up, by its number and its stream, and
+-- waits no more.
+pub record IsTurn {S : Type 0} (number : ℕ) (IsStream : S →
+    Type 0) (frame : List ℕ) (old new : LinkState S) : Type 0 where
   pub up : Connection S
   pub link : old.link ≡ Some up
   pub number_is : number ≡ up.number

@@ -16,7 +16,8 @@ opening = seconds 5
 abbrev pub telling : ℕ
 telling = seconds 5
 
--- nothing may come over a link for so long: a peer that is not silent tells what it has four times meanwhile
+-- nothing may come over a link for so long: a peer that is not silent tells what it has four times
+-- meanwhile
 abbrev pub silence : ℕ
 silence = 4 * telling
 

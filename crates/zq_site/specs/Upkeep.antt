@@ -3,8 +3,8 @@
 use Rattle.std.specs.Prelude.{Bool, List, [], if◌then◌else◌, ◌∷◌, ◌≡◌}
 use Rattle.zq_site.specs.declared.loss.Loss.{Loss}
 
--- The peers are told what the site has; the peer was heard until the link ended; the link is taken down, which was up or
--- was not; its end is warned of.
+-- The peers are told what the site has; the peer was heard until the link ended; the link is taken
+-- down, which was up or was not; its end is warned of.
 pub data Deed : Type 0 where
   Tells : Deed
   Hears : (loss : Loss) → Deed

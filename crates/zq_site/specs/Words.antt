@@ -49,15 +49,21 @@ words_of_node node.NoMemory = codes "there was no memory for it"
 
 -- why a frame was not heard
 abbrev pub words_of_unheard : Unheard → List ℕ
-words_of_unheard (Unread fault) = if is_memory fault then codes "there was no memory for it" else codes "it is no frame"
+words_of_unheard (Unread fault) =
+    if is_memory fault then codes "there was no memory for it" else codes "it is no frame"
 words_of_unheard (Refused fault) = words_of_node fault
 
 -- what the site of this number warns of, with the number of the peer where it is known
 abbrev pub words_of_warning : ℕ → Warning → List ℕ
-words_of_warning site (Refuses refusal) = codes "site " ++ (decimal site ++ (codes " refuses a peer: " ++ words_of refusal))
+words_of_warning site (Refuses refusal) =
+    codes "site " ++ (decimal site ++ (codes " refuses a peer: " ++ words_of refusal))
 words_of_warning site (Loses peer why) =
-    codes "site " ++ (decimal site ++ (codes " lost its link to site " ++ (decimal peer ++ (codes ": " ++ words_of_loss why))))
+    codes "site " ++ (decimal site
+    ++ (codes " lost its link to site " ++ (decimal peer ++ (codes ": " ++ words_of_loss why))))
 words_of_warning site (Drops peer why) =
-    codes "site " ++ (decimal site ++ (codes " drops a frame of site " ++ (decimal peer ++ (codes ": " ++ words_of_unheard why))))
+    codes "site " ++ (decimal site
+    ++ (codes " drops a frame of site "
+    ++ (decimal peer ++ (codes ": " ++ words_of_unheard why))))
 words_of_warning site (Keeps peer) =
-    codes "site " ++ (decimal site ++ (codes " has a frame for site " ++ (decimal peer ++ codes " that is too long")))
+    codes "site " ++ (decimal site
+    ++ (codes " has a frame for site " ++ (decimal peer ++ codes " that is too long")))

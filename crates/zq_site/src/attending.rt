@@ -18,8 +18,9 @@ use std::time::Clock;
 use zq_dots::SiteNo;
 use zq_wire::{Opened, Unopened};
 
-/// Opens a link to one of these peers over the stream, and reads it until it ends. It says whether a frame of the peer was
-/// heard: a greeting that agrees is no sign that this site is welcome there. Who was refused is warned of.
+/// Opens a link to one of these peers over the stream, and reads it until it ends. It says whether
+/// a frame of the peer was heard: a greeting that agrees is no sign that this site is welcome
+/// there. Who was refused is warned of.
 pub fn attend<L: Log + RandomSource + Clock + Wait>(
     log: &L,
     shared: Shared<'_>,
@@ -37,8 +38,8 @@ pub fn attend<L: Log + RandomSource + Clock + Wait>(
     }
 }
 
-/// Puts a link that was opened in the place of an older one, and keeps it until it ends. It says whether a frame of the
-/// peer was heard.
+/// Puts a link that was opened in the place of an older one, and keeps it until it ends. It says
+/// whether a frame of the peer was heard.
 fn follow<L: Log + Wait>(log: &L, shared: Shared<'_>, stream: TcpStream, opened: &Opened) -> bool {
     let peer = opened.peer;
     let Some(line) = line_of(shared.lines, peer) else {

@@ -15,7 +15,8 @@ use zq_wire::Topic;
 
 /// Where frames for peers wait.
 pub trait Post {
-    /// What stands before, the site of the peer, what the frame is about, its bytes, and what stands after.
+    /// What stands before, the site of the peer, what the frame is about, its bytes, and what
+    /// stands after.
     ghost posts: { Self → ℕ → Topic → List ℕ → Self → Type 0 };
 
     /// The frame waits for this peer.

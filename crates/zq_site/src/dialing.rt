@@ -11,7 +11,8 @@ use std::random::RandomSource;
 use std::sync::Wait;
 use std::time::Clock;
 
-/// Dials the peer of a line, and dials it again after each attempt and each end of the link, until the site ends.
+/// Dials the peer of a line, and dials it again after each attempt and each end of the link, until
+/// the site ends.
 pub fn dial_line<N, L>(net: &N, log: &L, shared: Shared<'_>, line: &PeerLink)
 where
     N: Net<Listener = TcpListener, Stream = TcpStream>,

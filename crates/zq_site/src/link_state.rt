@@ -53,8 +53,8 @@ impl<S> LinkState<S> {
         }
     }
 
-    /// The frame waits, in the place of an older one of its topic. Where there is no link, or the site has no such heap, it
-    /// is dropped.
+    /// The frame waits, in the place of an older one of its topic. Where there is no link, or the
+    /// site has no such heap, it is dropped.
     pub fn put(&mut self, topic: Topic, frame: Vec<u8>)
         ensures { self.new ≡ put_on topic frame.items self.old }
     {
@@ -66,7 +66,8 @@ impl<S> LinkState<S> {
     /// The frame that waits first, which then waits no more, if one does.
     pub fn take(&mut self) -> Option<Parcel>
         ensures heaps { self.new.outbox.heaps ≡ self.old.outbox.heaps }
-        ensures first { self.old.outbox.parcels ≡ option_to_list (option_map parcel_of result) ++ self.new.outbox.parcels }
+        ensures first { self.old.outbox.parcels ≡ option_to_list (option_map parcel_of result)
+            ++ self.new.outbox.parcels }
         ensures link { self.new.link ≡ self.old.link }
         ensures last { self.new.last ≡ self.old.last }
         ensures over { self.new.over ≡ self.old.over }
@@ -76,13 +77,16 @@ impl<S> LinkState<S> {
 }
 
 impl<S: Drop> LinkState<S> {
-    /// A link is up over this stream: its number, and the stream of the older link, which it replaces. What waited for the
-    /// older link waits no more, and the older link's end does not take this one down. Where the site ends the link is not
-    /// up, and its stream is dropped.
+    /// A link is up over this stream: its number, and the stream of the older link, which it
+    /// replaces. What waited for the older link waits no more, and the older link's end does not
+    /// take this one down. Where the site ends the link is not up, and its stream is dropped.
     pub fn raise(&mut self, stream: S) -> Option<(u64, Option<S>)>
-        ensures there { result ≡ (if self.old.over then None else Some (next_number self.old, option_map link_stream self.old.link)) }
+        ensures there { result
+            ≡ (if self.old.over then None else Some
+            (next_number self.old, option_map link_stream self.old.link)) }
         ensures up { self.new ≡ (if self.old.over then self.old else raised stream self.old) }
-        ensures alone { IsSome result → (number : ℕ) → number ≢ next_number self.old → lowered number self.new ≡ self.new }
+        ensures alone { IsSome result → (number : ℕ) → number ≢ next_number self.old →
+            lowered number self.new ≡ self.new }
     {
         if self.over {
             return None;
@@ -94,9 +98,11 @@ impl<S: Drop> LinkState<S> {
         Some((number, stream_of(older)))
     }
 
-    /// The link of this number is down: its stream. Where it was replaced, or was down before, nothing happens.
+    /// The link of this number is down: its stream. Where it was replaced, or was down before,
+    /// nothing happens.
     pub fn lower(&mut self, number: u64) -> Option<S>
-        ensures stream { result ≡ (if is_up number self.old.link then option_map link_stream self.old.link else None) }
+        ensures stream { result
+            ≡ (if is_up number self.old.link then option_map link_stream self.old.link else None) }
         ensures down { self.new ≡ lowered number self.old }
     {
         if !self.is_up(number) {

@@ -27,7 +27,8 @@ impl Model for Pause {
 }
 
 impl Pause {
-    /// The pause after the first attempt, or after a link over which a frame came: 100 milliseconds.
+    /// The pause after the first attempt, or after a link over which a frame came: 100
+    /// milliseconds.
     pub fn first() -> Pause
         ensures { result ≡ FIRST_PAUSE }
     {
@@ -51,8 +52,8 @@ impl Pause {
     }
 }
 
-/// The pause after an attempt, from the last one before it, if there was one: the first pause where a frame of the peer was
-/// heard or there was none before, and else a longer one than the last.
+/// The pause after an attempt, from the last one before it, if there was one: the first pause where
+/// a frame of the peer was heard or there was none before, and else a longer one than the last.
 pub fn pause_after(last: Option<Pause>, heard: bool) -> Pause
     ensures { result ≡ next_pause last heard }
 {

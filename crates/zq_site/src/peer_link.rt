@@ -50,14 +50,15 @@ impl PeerLink {
         self.peer
     }
 
-    /// The frame waits for the link, in the place of an older one of its topic; where there is no link it is dropped.
+    /// The frame waits for the link, in the place of an older one of its topic; where there is no
+    /// link it is dropped.
     pub fn put<R: Wait>(&self, rt: &R, topic: Topic, frame: Vec<u8>) {
         self.wire.lock(rt).put(topic, frame);
         self.changed.notify_all();
     }
 
-    /// A link is up over this stream, in the place of an older one, whose stream is shut down: its number. Where the site
-    /// ends there is none.
+    /// A link is up over this stream, in the place of an older one, whose stream is shut down: its
+    /// number. Where the site ends there is none.
     pub fn raise<R: Wait>(&self, rt: &R, stream: Arc<TcpStream>) -> Option<u64> {
         let (number, older) = self.wire.lock(rt).raise(stream)?;
         shut(older);
@@ -65,7 +66,8 @@ impl PeerLink {
         Some(number)
     }
 
-    /// The link of this number is down, and its stream is shut down. It says whether that link was up.
+    /// The link of this number is down, and its stream is shut down. It says whether that link was
+    /// up.
     pub fn lower<R: Wait>(&self, rt: &R, number: u64) -> bool {
         let stream = self.wire.lock(rt).lower(number);
         shut(stream)
@@ -94,8 +96,8 @@ impl PeerLink {
     }
 }
 
-/// The frame that waits first, and the link over which it goes. Where there is no link or nothing waits there is none, and
-/// nothing changes.
+/// The frame that waits first, and the link over which it goes. Where there is no link or nothing
+/// waits there is none, and nothing changes.
 fn take_turn(wire: &mut LinkState<Arc<TcpStream>>) -> Option<Turn>
     ensures turn { IfSome result (λ turn. IsTurn turn.number
         (λ stream. arc_value stream ≡ arc_value turn.stream) turn.frame.items wire.old wire.new) }

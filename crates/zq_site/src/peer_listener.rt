@@ -37,8 +37,8 @@ impl PeerListener {
         self.kept.fetch_sub(1, Ordering::SeqCst);
     }
 
-    /// Connects to the listener's address, until no thread accepts any more: each ends where it has accepted a connection
-    /// after the site's end was told.
+    /// Connects to the listener's address, until no thread accepts any more: each ends where it has
+    /// accepted a connection after the site's end was told.
     pub fn wake<N: Net<Listener = TcpListener, Stream = TcpStream>, R: Clock>(
         &self,
         net: &N,

@@ -47,8 +47,8 @@ impl<R: Wait> Hear for Ear<'_, R> {
     }
 }
 
-/// Reads the frames of a peer, which begin with these bytes, and has them heard in their order, until the link ends. It
-/// says why.
+/// Reads the frames of a peer, which begin with these bytes, and has them heard in their order,
+/// until the link ends. It says why.
 pub fn read_link<W: Wait, R: Read, H: Hear>(
     rt: &W,
     alloc: Global,
@@ -107,8 +107,8 @@ fn stopped_by(kind: ErrorKind) -> Option<Loss>
     }
 }
 
-/// Has the frames heard that end in a piece, in their order, and says why the link ends, if it does: the frames before a
-/// fault are heard.
+/// Has the frames heard that end in a piece, in their order, and says why the link ends, if it
+/// does: the frames before a fault are heard.
 fn hear_on<H: Hear>(ear: &mut H, fed: Result<Vec<Vec<u8>>, StreamError>) -> Result<(), Loss>
     ensures heard { AreHeard H.hears ear.old ear.new (given_by (answered fed)) }
     ensures ended { result ≡ end_of (answered fed) }

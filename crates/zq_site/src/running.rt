@@ -29,8 +29,8 @@ pub struct Seeds {
     pub draws: u64,
 }
 
-/// Runs the link thread of a site, and all its other threads. When those are done the link thread is told to stop, and is
-/// waited for.
+/// Runs the link thread of a site, and all its other threads. When those are done the link thread
+/// is told to stop, and is waited for.
 pub fn run_site<N, L>(
     net: &N,
     log: &L,
@@ -109,8 +109,8 @@ where
     })
 }
 
-/// Runs what dials each peer of a smaller number, what tells the peers from time to time what the site has, and what
-/// follows, until the site ends.
+/// Runs what dials each peer of a smaller number, what tells the peers from time to time what the
+/// site has, and what follows, until the site ends.
 fn run_dialers<N, L>(
     net: &N,
     log: &L,
@@ -190,8 +190,8 @@ where
     })
 }
 
-/// How many threads accept peers, of which so many dial: two for each, and at least one. So a peer comes in whose old link
-/// has not ended yet.
+/// How many threads accept peers, of which so many dial: two for each, and at least one. So a peer
+/// comes in whose old link has not ended yet.
 fn acceptors(dialers: usize) -> usize
     ensures { result ≡ acceptors_for dialers }
 {

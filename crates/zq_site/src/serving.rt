@@ -24,18 +24,20 @@ use zq_serve::{
 };
 use zq_settings::SiteSettings;
 
-/// Serves the site of the settings in this process: `workers` connections of its port at once, the others as these end.
-/// When it listens on its port and for its peers it writes `site N port P peers A` to `out`, and only then accepts. It
-/// ends when the port has accepted and served as many connections as `connections` says.
+/// Serves the site of the settings in this process: `workers` connections of its port at once, the
+/// others as these end. When it listens on its port and for its peers it writes `site N port P
+/// peers A` to `out`, and only then accepts. It ends when the port has accepted and served as many
+/// connections as `connections` says.
 ///
-/// It dials its peers of a smaller number, and those of a greater number dial it; after a break a peer is dialled again,
-/// after a pause that doubles from 100 milliseconds to 5 seconds, and is the first one again once a frame came over a link.
-/// A peer that is not expected, has another number of heaps or another rule, or does not know the secret, is let go. After
-/// each call of a connection the peers are told what the site has, and those that lack something are sent it. A link over
-/// which nothing came for 20 seconds is given up.
+/// It dials its peers of a smaller number, and those of a greater number dial it; after a break a
+/// peer is dialled again, after a pause that doubles from 100 milliseconds to 5 seconds, and is the
+/// first one again once a frame came over a link. A peer that is not expected, has another number
+/// of heaps or another rule, or does not know the secret, is let go. After each call of a
+/// connection the peers are told what the site has, and those that lack something are sent it. A
+/// link over which nothing came for 20 seconds is given up.
 ///
-/// What goes wrong at a connection, with a peer or on a link ends that alone, and is warned of in the log.
-/// The log's own handle does not connect within a time, so the net is passed beside it.
+/// What goes wrong at a connection, with a peer or on a link ends that alone, and is warned of in
+/// the log. The log's own handle does not connect within a time, so the net is passed beside it.
 ///
 /// # Errors
 ///

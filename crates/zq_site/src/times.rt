@@ -50,9 +50,9 @@ pub fn not_accepted() -> Duration
     Duration::from_millis(100)
 }
 
-/// The most bytes of a frame: a gibibyte. A state has some forty bytes and a member's text for each addition, so that
-/// some ten million members of a heap fit. A greater number is no length that a peer would send: it would cost the memory
-/// of as many bytes as come.
+/// The most bytes of a frame: a gibibyte. A state has some forty bytes and a member's text for each
+/// addition, so that some ten million members of a heap fit. A greater number is no length that a
+/// peer would send: it would cost the memory of as many bytes as come.
 pub fn most_frame() -> u32
     ensures { result ≡ wanted.most_frame }
 {

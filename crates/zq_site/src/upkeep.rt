@@ -18,7 +18,8 @@ pub trait Upkeep {
     fn hear(&mut self) -> Loss
         ensures { does self.old (Hears result) self.new };
 
-    /// Takes the link down, and says whether it was up: another thread or a newer link may have ended it before.
+    /// Takes the link down, and says whether it was up: another thread or a newer link may have
+    /// ended it before.
     fn lower(&mut self) -> bool
         ensures { does self.old (Lowers result) self.new };
 
@@ -27,8 +28,8 @@ pub trait Upkeep {
         ensures { does self.old (Warns loss) self.new };
 }
 
-/// Keeps a link that is up until it ends: at once the peers are told what the site has, then the peer is heard. The end is
-/// warned of where the link was up until then.
+/// Keeps a link that is up until it ends: at once the peers are told what the site has, then the
+/// peer is heard. The end is warned of where the link was up until then.
 pub fn keep_up<U: Upkeep>(link: &mut U)
     ensures { IsKeptUp U.does link.old link.new }
 {

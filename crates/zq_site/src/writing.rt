@@ -17,8 +17,8 @@ use std::net::TcpStream;
 use std::sync::Wait;
 use zq_wire::write_framed;
 
-/// Sends a peer the frames that wait for it, until the site ends. Where a write fails the link is down. A frame for which
-/// there was no memory is dropped.
+/// Sends a peer the frames that wait for it, until the site ends. Where a write fails the link is
+/// down. A frame for which there was no memory is dropped.
 pub fn write_line<L: Log + Wait>(log: &L, shared: Shared<'_>, line: &PeerLink) {
     for _ in log.forever() {
         let Some(turn) = line.next(log) else {

@@ -25,10 +25,13 @@ use Rattle.zq_spread.specs.declared.faults.ReadFault.TheVariants as unread
 
 -- an operation was taken, or refused as the book refuses it
 abbrev pub taken_in : ℕ → Placed → Result Taken TakeFault → Book → List Step → Type 0
-taken_in stamp p (Ok taken) b steps = (answer_of taken ≡ sets.taken_of b.state.vector p.operation) × (steps ≡ steps_taken b stamp p.operation)
+taken_in stamp p (Ok taken) b steps = (answer_of taken ≡ sets.taken_of b.state.vector p.operation)
+    × (steps ≡ steps_taken b stamp p.operation)
 taken_in stamp p (Err WrongHeap) b steps = ⊥
-taken_in stamp p (Err Worn) b steps = (sets.taken_of b.state.vector p.operation ≡ sets.New) × (b.count ≡ LAST_STAMP) × (steps ≡ [])
-taken_in stamp p (Err NoMemory) b steps = (sets.taken_of b.state.vector p.operation ≡ sets.New) × (steps ≡ [])
+taken_in stamp p (Err Worn) b steps = (sets.taken_of b.state.vector p.operation ≡ sets.New)
+    × (b.count ≡ LAST_STAMP) × (steps ≡ [])
+taken_in stamp p (Err NoMemory) b steps = (sets.taken_of b.state.vector p.operation ≡ sets.New)
+    × (steps ≡ [])
 
 abbrev pub IsTaken : ℕ → Placed → Result Taken TakeFault → List Book → List (List Step) → Type 0
 IsTaken stamp p result (b ∷ []) (steps ∷ []) = taken_in stamp p result b steps
@@ -36,19 +39,22 @@ IsTaken stamp p result books steps = ⊥
 
 -- another heap was merged, or refused as the book refuses it
 abbrev pub merged_in : ℕ → HeapImage → Result (Unit {0}) MergeFault → Book → List Step → Type 0
-merged_in stamp other (Ok done) b steps = (b.count ≢ LAST_STAMP) × (steps ≡ Merged stamp other.image ∷ [])
+merged_in stamp other (Ok done) b steps = (b.count ≢ LAST_STAMP)
+    × (steps ≡ Merged stamp other.image ∷ [])
 merged_in stamp other (Err unmerged.WrongHeap) b steps = ⊥
 merged_in stamp other (Err unmerged.WrongRule) b steps = ⊥
 merged_in stamp other (Err unmerged.Worn) b steps = (b.count ≡ LAST_STAMP) × (steps ≡ [])
 merged_in stamp other (Err unmerged.NoMemory) b steps = (b.count ≢ LAST_STAMP) × (steps ≡ [])
 
-abbrev pub IsMerged : ℕ → HeapImage → Result (Unit {0}) MergeFault → List Book → List (List Step) → Type 0
+abbrev pub IsMerged : ℕ → HeapImage → Result (Unit {0}) MergeFault → List Book → List (List Step) →
+    Type 0
 IsMerged stamp other result (b ∷ []) (steps ∷ []) = merged_in stamp other result b steps
 IsMerged stamp other result books steps = ⊥
 
 -- the book is a after the own steps of one call of this stamp, and these do what is asked
 abbrev pub HasWorked : (List Book → List (List Step) → Type 0) → Book → Book → ℕ → Type 0
-HasWorked Does b a stamp = (steps : List Step) × IsWorked b a stamp steps × Does (a ∷ []) (steps ∷ [])
+HasWorked Does b a stamp = (steps : List Step) × IsWorked b a stamp steps
+    × Does (a ∷ []) (steps ∷ [])
 
 -- the vector of the heap was shown
 abbrev pub IsShown : List ℕ → List Book → List (List Step) → Type 0
@@ -71,14 +77,19 @@ IsCopied result books steps = ⊥
 
 -- the book was asked, and no step was made
 abbrev pub IsAsked : Result Since ReadFault → List Book → List (List Step) → Type 0
-IsAsked result (b ∷ []) (steps ∷ []) = read_of (λ (since : Since) (book : Book). Unit {0}) result b × (steps ≡ [])
+IsAsked result (b ∷ []) (steps ∷ []) = read_of (λ (since : Since) (book : Book). Unit {0}) result b
+    × (steps ≡ [])
 IsAsked result books steps = ⊥
 
--- what a peer of the vector v lacks of the book: it is too old exactly where v does not cover the base's vector, else these are the operations of the tail
--- that v lacks; each is new to the peer where it comes, and all of them leave what merging the whole state would
+-- what a peer of the vector v lacks of the book: it is too old exactly where v does not cover the
+-- base's vector, else these are the operations of the tail that v lacks; each is new to the peer
+-- where it comes, and all of them leave what merging the whole state would
 pub record IsSince (v : List ℕ) (since : Since) (b : Book) : Type 0 where
   pub too_old : is_too_old since ≡ not (sets.covers v b.base.vector)
   pub ops : IfOps since (λ ops. ops ≡ map (placed_at b.heaps) (lacking v (operations_of b.tail)))
   pub placed : IfOps since (λ ops. All (IsOfHeap (base_of b)) ops)
-  pub new : IfOps since (λ ops. (S T : List Operation) → IsPeer b S T v → AreNew (map (λ p. p.operation) ops) (image_of T b.heap))
-  pub merges : IfOps since (λ ops. (S T : List Operation) → IsPeer b S T v → image_after_all (map (λ p. p.operation) ops) (image_of T b.heap) ≡ join (image_of T b.heap) b.state)
+  pub new : IfOps since (λ ops. (S T : List Operation) → IsPeer b S T v →
+      AreNew (map (λ p. p.operation) ops) (image_of T b.heap))
+  pub merges : IfOps since (λ ops. (S T : List Operation) → IsPeer b S T v →
+      image_after_all (map (λ p. p.operation) ops) (image_of T b.heap)
+      ≡ join (image_of T b.heap) b.state)

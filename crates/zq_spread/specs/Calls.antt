@@ -30,9 +30,11 @@ pub record IsLikeSite (site : Site) (s : HeapImage) : Type 0 where
   pub heaps : s.heaps ≡ heaps_of site
   pub rule : s.rule ≡ rule_of site.rule
 
--- a call's part in one heap: what it found there, which follows what the pass had seen, its own steps on that, and what it left, which the pass has then seen;
--- what it found is what the lock gave, and what it left is what it put home
-pub record IsWorkedIn (before after : Pass) (h : ℕ) (found left : LockedHeap) (steps : List Step) : Type 0 where
+-- a call's part in one heap: what it found there, which follows what the pass had seen, its own
+-- steps on that, and what it left, which the pass has then seen; what it found is what the lock
+-- gave, and what it left is what it put home
+pub record IsWorkedIn (before after : Pass) (h : ℕ) (found left : LockedHeap)
+    (steps : List Step) : Type 0 where
   pub follows : FollowsSeen Follows found (seen_at before h)
   pub worked : IsWorked left.book found.book after.stamp steps
   pub seen : seen_at after h ≡ Some left
@@ -40,25 +42,30 @@ pub record IsWorkedIn (before after : Pass) (h : ℕ) (found left : LockedHeap) 
   pub turn : IsTurnAfter found left (turns_at after h) (turns_at before h)
 
 -- its parts in each of its heaps
-abbrev pub AreWorkedIn : Pass → Pass → List ℕ → List LockedHeap → List LockedHeap → List (List Step) → Type 0
+abbrev pub AreWorkedIn : Pass → Pass → List ℕ → List LockedHeap → List LockedHeap →
+    List (List Step) → Type 0
 AreWorkedIn before after [] [] [] [] = Unit {0}
-AreWorkedIn before after (h ∷ heaps) (x ∷ found) (y ∷ left) (ss ∷ steps) = IsWorkedIn before after h x y ss × AreWorkedIn before after heaps found left steps
+AreWorkedIn before after (h ∷ heaps) (x ∷ found) (y ∷ left) (ss ∷ steps) =
+    IsWorkedIn before after h x y ss × AreWorkedIn before after heaps found left steps
 AreWorkedIn before after heaps found left steps = ⊥
 
 abbrev pub greatest_stamp : List LockedHeap → ℕ
 greatest_stamp [] = 0
 greatest_stamp (x ∷ found) = max x.book.stamp (greatest_stamp found)
 
--- a call of a pass in these heaps: its stamp is the one after the greatest that it found in them and in the pass; its own steps follow in each, at that
--- stamp; the pass then has seen what was left there, and of other heaps what it had, and it has held no other; the answer and the steps are what the call does
--- over the books found
-pub record IsCall (Does : List Book → List (List Step) → Type 0) (before after : Pass) (heaps : List ℕ) : Type 0 where
+-- a call of a pass in these heaps: its stamp is the one after the greatest that it found in them
+-- and in the pass; its own steps follow in each, at that stamp; the pass then has seen what was
+-- left there, and of other heaps what it had, and it has held no other; the answer and the steps
+-- are what the call does over the books found
+pub record IsCall (Does : List Book → List (List Step) →
+    Type 0) (before after : Pass) (heaps : List ℕ) : Type 0 where
   pub found : List LockedHeap
   pub left : List LockedHeap
   pub steps : List (List Step)
   pub next : after.stamp ≡ max before.stamp (greatest_stamp found) + 1
   pub worked : AreWorkedIn before after heaps found left steps
-  pub others : (k : ℕ) → (IsIn k heaps → ⊥) → (seen_at after k ≡ seen_at before k) × (steps_at after k ≡ steps_at before k) × (turns_at after k ≡ turns_at before k)
+  pub others : (k : ℕ) → (IsIn k heaps → ⊥) → (seen_at after k ≡ seen_at before k)
+      × (steps_at after k ≡ steps_at before k) × (turns_at after k ≡ turns_at before k)
   pub done : Does (map (λ x. x.book) found) steps
 
 -- the pass has seen a book of this heap with this property

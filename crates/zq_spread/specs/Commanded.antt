@@ -20,8 +20,10 @@ AreAppended [] [] [] = Unit {0}
 AreAppended (y ∷ new) (x ∷ old) (ss ∷ steps) = IsAppended y x ss × AreAppended new old steps
 AreAppended new old steps = ⊥
 
--- the command ran over the books found, whole or cut, with this reply, and its steps are what it recorded there
-pub record IsAnswered (rule : Rule) (site stamp : ℕ) (command : Command) (reply : Word) (found : List Book) (steps : List (List Step)) : Type 0 where
+-- the command ran over the books found, whole or cut, with this reply, and its steps are what it
+-- recorded there
+pub record IsAnswered (rule : Rule) (site stamp : ℕ) (command : Command) (reply : Word)
+    (found : List Book) (steps : List (List Step)) : Type 0 where
   pub left : List Book
   pub ran : IsRun rule site stamp command found left reply
   pub appended : AreAppended left found steps

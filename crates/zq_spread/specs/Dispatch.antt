@@ -32,7 +32,8 @@ IsWornOut heaps reply before after = (reply ≡ worn_reply) × IsWornIn heaps be
 
 -- the same, or since there was no memory to hold more heaps than one, and then no lock was taken
 abbrev pub IsTurnedAway : List ℕ → Word → Pass → Pass → Type 0
-IsTurnedAway heaps reply before after = IsWornOut heaps reply before after ⊎ ((reply ≡ short_reply) × (after ≡ before))
+IsTurnedAway heaps reply before after = IsWornOut heaps reply before after
+    ⊎ ((reply ≡ short_reply) × (after ≡ before))
 
 -- one of the books has a member of the key
 abbrev pub HasQueued : Rule → List ℕ → List Book → Type 0
@@ -45,15 +46,18 @@ HasNear rule command books = ⊥
 
 -- what the site's command does at a stamp, with this reply, over the books that its call found
 abbrev pub DoesCommand : Site → ℕ → Command → Word → List Book → List (List Step) → Type 0
-DoesCommand site stamp command reply = IsAnswered (rule_of site.rule) site.number stamp command reply
+DoesCommand site stamp command reply =
+    IsAnswered (rule_of site.rule) site.number stamp command reply
 
 -- and what it does over two heaps that are drawn, where one of them has a member of the key
 abbrev pub DoesNear : Site → ℕ → Command → Word → List Book → List (List Step) → Type 0
-DoesNear site stamp command reply found steps = DoesCommand site stamp command reply found steps × HasNear (rule_of site.rule) command found
+DoesNear site stamp command reply found steps = DoesCommand site stamp command reply found steps
+    × HasNear (rule_of site.rule) command found
 
 -- a call of the command in these heaps
 abbrev pub IsCommand : Site → Command → Word → Pass → Pass → List ℕ → Type 0
-IsCommand site command reply before after heaps = IsCall (DoesCommand site after.stamp command reply) before after heaps
+IsCommand site command reply before after heaps =
+    IsCall (DoesCommand site after.stamp command reply) before after heaps
 
 -- it has held each of these heaps once
 abbrev pub HasHeldEach : Pass → Pass → List ℕ → Type 0
@@ -61,38 +65,55 @@ HasHeldEach before after heaps = (h : ℕ) → IsIn h heaps → HasHeldOnce befo
 
 -- such a call, which has found these values there
 abbrev pub IsCommandOver : Site → Command → Word → Pass → Pass → List ℕ → List LockedHeap → Type 0
-IsCommandOver site command reply before after heaps found = (call : IsCommand site command reply before after heaps) × (call.found ≡ found) × HasHeldEach before after heaps
+IsCommandOver site command reply before after heaps found =
+    (call : IsCommand site command reply before after heaps) × (call.found ≡ found)
+    × HasHeldEach before after heaps
 
--- such a call, where there was enough from the first, or one of the books that it found has a member of the key
+-- such a call, where there was enough from the first, or one of the books that it found has a
+-- member of the key
 abbrev pub HasAnswered : Site → Command → List ℕ → Bool → Word → Pass → Pass → List ℕ → Type 0
 HasAnswered site command key enough reply before after heaps =
-    (call : IsCommand site command reply before after heaps) × ((enough ≡ true) ⊎ HasQueued (rule_of site.rule) key (map (λ (x : LockedHeap). x.book) call.found)) × HasHeldEach before after heaps
+    (call : IsCommand site command reply before after heaps)
+    × ((enough ≡ true) ⊎ HasQueued (rule_of site.rule) key
+    (map (λ (x : LockedHeap). x.book) call.found)) × HasHeldEach before after heaps
 
--- ZPOPNEAR has held each of these heaps twice: first its book had no member of the key, and was let go as it was given
+-- ZPOPNEAR has held each of these heaps twice: first its book had no member of the key, and was let
+-- go as it was given
 abbrev pub HasPassedOver : Command → Pass → Pass → List ℕ → Type 0
-HasPassedOver (Zpopnear key) before after heaps = (h : ℕ) → IsIn h heaps → (last : Entry LockedHeap) × IsPassedOver key (last ∷ []) before after h
+HasPassedOver (Zpopnear key) before after heaps = (h : ℕ) → IsIn h heaps → (last : Entry LockedHeap)
+    × IsPassedOver key (last ∷ []) before after h
 HasPassedOver command before after heaps = ⊥
 
 -- the same, but that it may not have come to hold each of them again
 abbrev pub HasFoundNone : Command → Pass → Pass → List ℕ → Type 0
-HasFoundNone (Zpopnear key) before after heaps = (h : ℕ) → IsIn h heaps → (later : List (Entry LockedHeap)) × IsPassedOver key later before after h
+HasFoundNone (Zpopnear key) before after heaps = (h : ℕ) → IsIn h heaps →
+    (later : List (Entry LockedHeap)) × IsPassedOver key later before after h
 HasFoundNone command before after heaps = ⊥
 
--- a call of ZPOPNEAR in the heaps that it drew, where one of them has a member of the key, or in all, where it has passed over those; or the refusal of the one
--- or of the other
+-- a call of ZPOPNEAR in the heaps that it drew, where one of them has a member of the key, or in
+-- all, where it has passed over those; or the refusal of the one or of the other
 abbrev pub IsNear : Site → Command → Word → Pass → Pass → List ℕ → Type 0
 IsNear site command reply before after drawn =
     IsCall (DoesNear site after.stamp command reply) before after drawn
-    ⊎ ((IsCommand site command reply before after (all_heaps site) × HasPassedOver command before after drawn)
-    ⊎ (IsTurnedAway drawn reply before after ⊎ (IsWornOut (all_heaps site) reply before after × HasFoundNone command before after drawn)))
+    ⊎ ((IsCommand site command reply before after (all_heaps site)
+    × HasPassedOver command before after drawn)
+    ⊎ (IsTurnedAway drawn reply before after
+    ⊎ (IsWornOut (all_heaps site) reply before after
+    × HasFoundNone command before after drawn)))
 
--- a command that needs no heap is answered over no books, and leaves the pass; one of a member is a call in its heap; ZPOPNEAR is a call in the two heaps that
--- it draws where one of them has a member of the key, or in all; any other is a call in all heaps; else it is refused
+-- a command that needs no heap is answered over no books, and leaves the pass; one of a member is a
+-- call in its heap; ZPOPNEAR is a call in the two heaps that it draws where one of them has a
+-- member of the key, or in all; any other is a call in all heaps; else it is refused
 abbrev pub IsCalledIn : Heaps → Site → Command → ℕ → ℕ → Word → Pass → Pass → Type 0
-IsCalledIn NoHeap site command w1 w2 reply before after = (after ≡ before) × DoesCommand site after.stamp command reply [] []
-IsCalledIn (One heap) site command w1 w2 reply before after = IsCommand site command reply before after (heap ∷ []) ⊎ IsWornOut (heap ∷ []) reply before after
-IsCalledIn Near site command w1 w2 reply before after = IsNear site command reply before after (drawn (heaps_of site) w1 w2)
-IsCalledIn All site command w1 w2 reply before after = IsCommand site command reply before after (all_heaps site) ⊎ IsTurnedAway (all_heaps site) reply before after
+IsCalledIn NoHeap site command w1 w2 reply before after = (after ≡ before)
+    × DoesCommand site after.stamp command reply [] []
+IsCalledIn (One heap) site command w1 w2 reply before after =
+    IsCommand site command reply before after (heap ∷ []) ⊎ IsWornOut (heap ∷ []) reply before after
+IsCalledIn Near site command w1 w2 reply before after =
+    IsNear site command reply before after (drawn (heaps_of site) w1 w2)
+IsCalledIn All site command w1 w2 reply before after =
+    IsCommand site command reply before after (all_heaps site)
+    ⊎ IsTurnedAway (all_heaps site) reply before after
 
 -- a command that works in these heaps was refused since one of them is another's
 abbrev pub IsBusyWith : Heaps → Site → Pass → Pass → Type 0
@@ -103,4 +124,5 @@ IsBusyWith All site before after = IsBusyIn (all_heaps site) before after
 
 -- the command was called by the two words, and answered with these bytes
 abbrev pub IsCalled : Site → Command → ℕ → ℕ → Word → Pass → Pass → Type 0
-IsCalled site command w1 w2 reply before after = IsCalledIn (named.heaps_of command (heaps_of site)) site command w1 w2 reply before after
+IsCalled site command w1 w2 reply before after =
+    IsCalledIn (named.heaps_of command (heaps_of site)) site command w1 w2 reply before after

@@ -11,4 +11,5 @@ second_drawn K w1 w2 = (first_drawn K w1 + 1 + w2 % (K - 1)) % K
 
 -- both, the lower one first
 abbrev pub drawn : ℕ → ℕ → ℕ → List ℕ
-drawn K w1 w2 = min (first_drawn K w1) (second_drawn K w1 w2) ∷ max (first_drawn K w1) (second_drawn K w1 w2) ∷ []
+drawn K w1 w2 = min (first_drawn K w1) (second_drawn K w1 w2)
+    ∷ max (first_drawn K w1) (second_drawn K w1 w2) ∷ []

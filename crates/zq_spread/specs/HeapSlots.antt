@@ -10,7 +10,8 @@ use Rattle.zq_spread.specs.declared.heap_slot.HeapSlot.{HeapSlot}
 use Rattle.zq_tally.specs.Words.{id_of, kept_of, passes_of, total_of, total_table}
 use Rattle.zq_ticketlock.specs.Steps.{FollowsSeen}
 
--- the value is one of this heap: its book, its rule, its table, and the parts kept with the total; the count is what it began with and the total
+-- the value is one of this heap: its book, its rule, its table, and the parts kept with the total;
+-- the count is what it began with and the total
 pub record IsOf (slot : HeapSlot) (kept : LockedHeap) : Type 0 where
   pub heap : kept.book.heap ≡ slot.heap
   pub heaps : kept.book.heaps ≡ slot.heaps
@@ -19,9 +20,10 @@ pub record IsOf (slot : HeapSlot) (kept : LockedHeap) : Type 0 where
   pub parts : kept_of kept.total ≡ slot.spare
   pub count : kept.book.count ≡ slot.opening + total_of kept.total
 
--- a call of this stamp has begun on the value found: it follows what the seat had seen, the stamp is the one after the value's and the pass's, and nothing is
--- done but for a cut and the stamp
-pub record IsBegun (slot : HeapSlot) (before : Option LockedHeap) (floor stamp : ℕ) (now found : LockedHeap) : Type 0 where
+-- a call of this stamp has begun on the value found: it follows what the seat had seen, the stamp
+-- is the one after the value's and the pass's, and nothing is done but for a cut and the stamp
+pub record IsBegun (slot : HeapSlot) (before : Option LockedHeap) (floor stamp : ℕ)
+    (now found : LockedHeap) : Type 0 where
   pub follows : FollowsSeen Follows found before
   pub home : IsAtHome found
   pub of : IsOf slot found

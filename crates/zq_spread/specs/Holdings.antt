@@ -26,12 +26,15 @@ book_held holding = (kept_held holding).book
 pub record IsHoldingOf (site : Site) (holding : Holding) : Type 0 where
   pub heap : holding.heap < heaps_of site
   pub pass : IsPassBut site (holding.heap ∷ []) holding.pass
-  pub lock : (slot : HeapSlot) → slice_get site.slots.items holding.heap ≡ Some slot → held_lock holding.held ≡ id_of slot.lock
-  pub of : (slot : HeapSlot) → slice_get site.slots.items holding.heap ≡ Some slot → IsOf slot (kept_held holding)
+  pub lock : (slot : HeapSlot) → slice_get site.slots.items holding.heap ≡ Some slot →
+      held_lock holding.held ≡ id_of slot.lock
+  pub of : (slot : HeapSlot) → slice_get site.slots.items holding.heap ≡ Some slot →
+      IsOf slot (kept_held holding)
   pub home : IsAtHome (kept_held holding)
   pub given : given holding.held ≡ Some (kept_held holding)
 
--- the pass holds this heap: what it found there follows what it had seen, and all else of the pass is as it was
+-- the pass holds this heap: what it found there follows what it had seen, and all else of the pass
+-- is as it was
 pub record IsHeldBy (before : Pass) (h : ℕ) (holding : Holding) : Type 0 where
   pub heap : holding.heap ≡ h
   pub follows : FollowsSeen Follows (kept_held holding) (seen_at before h)
@@ -41,11 +44,13 @@ pub record IsHeldBy (before : Pass) (h : ℕ) (holding : Holding) : Type 0 where
   pub turns : held_logged holding.held ≡ turns_at before h
   pub rest : (k : ℕ) → (k ≡ h → ⊥) → turns_at holding.pass k ≡ turns_at before k
 
--- the pass is back, and has seen the book that was held, which was let go as it was given; all else of it is as it was
+-- the pass is back, and has seen the book that was held, which was let go as it was given; all else
+-- of it is as it was
 pub record IsBack (holding : Holding) (after : Pass) : Type 0 where
   pub seen : seen_at after holding.heap ≡ Some (kept_held holding)
   pub others : (k : ℕ) → (k ≡ holding.heap → ⊥) → seen_at after k ≡ seen_at holding.pass k
   pub steps : (k : ℕ) → steps_at after k ≡ steps_at holding.pass k
   pub stamp : after.stamp ≡ holding.pass.stamp
-  pub turn : HasTurn (kept_held holding) (kept_held holding) (turns_at after holding.heap) (held_logged holding.held)
+  pub turn : HasTurn (kept_held holding) (kept_held holding) (turns_at after holding.heap)
+      (held_logged holding.held)
   pub rest : (k : ℕ) → (k ≡ holding.heap → ⊥) → turns_at after k ≡ turns_at holding.pass k

@@ -14,7 +14,8 @@ IsAtHome kept = passes_of kept.total ≡ []
 
 -- the later book was reached from the earlier one, and the total has grown by as much as the count
 abbrev pub Follows : LockedHeap → LockedHeap → Type 0
-Follows later earlier = Reached later.book earlier.book × total.FollowsTotal later.total later.book.count earlier.total earlier.book.count
+Follows later earlier = Reached later.book earlier.book
+    × total.FollowsTotal later.total later.book.count earlier.total earlier.book.count
 
 pub follows_itself : (x : LockedHeap) → Follows x x
 follows_itself x = (([], touched_reaches x.book x.book.stamp (omega arith)), total.follows_itself x.total x.book.count)

@@ -16,29 +16,35 @@ use Rattle.zq_spread.specs.declared.site.Site.{Site}
 abbrev pub IsInBounds : ℕ → ℕ → Type 0
 IsInBounds heaps passes = (2 ≤ heaps) × (heaps ≤ 16) × (1 ≤ passes) × (passes ≤ 128)
 
--- each book is that of the heap of its place, of as many heaps as there are books, and all have one rule
+-- each book is that of the heap of its place, of as many heaps as there are books, and all have one
+-- rule
 pub record AreOfHeaps (books : List Book) : Type 0 where
   pub heap : (h : ℕ) (book : Book) → slice_get books h ≡ Some book → book.heap ≡ h
   pub heaps : (h : ℕ) (book : Book) → slice_get books h ≡ Some book → book.heaps ≡ length books
-  pub rule : (h k : ℕ) (one other : Book) → slice_get books h ≡ Some one → slice_get books k ≡ Some other → one.rule ≡ other.rule
+  pub rule : (h k : ℕ) (one other : Book) → slice_get books h ≡ Some one →
+      slice_get books k ≡ Some other → one.rule ≡ other.rule
 
 -- the books of as many heaps, of this rule, in which nothing was done
 pub record AreEmptyBooks (heaps : ℕ) (rule : Rule) (books : List Book) : Type 0 where
   pub number : length books ≡ heaps
-  pub empty : (h : ℕ) (book : Book) → slice_get books h ≡ Some book → book ≡ opened (record { heap = h; heaps = heaps; rule = rule; image = empty_image }) 0 0
+  pub empty : (h : ℕ) (book : Book) → slice_get books h ≡ Some book →
+      book ≡ opened (record { heap = h; heaps = heaps; rule = rule; image = empty_image }) 0 0
 
 -- the pass has made no call, and has seen these books
 pub record IsNewPass (books : List Book) (pass : Pass) : Type 0 where
   pub stamp : pass.stamp ≡ 0
   pub steps : (h : ℕ) → steps_at pass h ≡ 0
-  pub seen : (h : ℕ) (book : Book) → slice_get books h ≡ Some book → (kept : LockedHeap) × (seen_at pass h ≡ Some kept) × (kept.book ≡ book)
+  pub seen : (h : ℕ) (book : Book) → slice_get books h ≡ Some book → (kept : LockedHeap)
+      × (seen_at pass h ≡ Some kept) × (kept.book ≡ book)
 
 -- a new site of this number over these books, with all its passes
-pub record IsMade (number : ℕ) (books : List Book) (n : ℕ) (site : Site) (passes : List Pass) : Type 0 where
+pub record IsMade (number : ℕ) (books : List Book) (n : ℕ) (site : Site)
+    (passes : List Pass) : Type 0 where
   pub number_is : site.number ≡ number
   pub heaps : length site.slots.items ≡ length books
   pub rule : (h : ℕ) (book : Book) → slice_get books h ≡ Some book → rule_of site.rule ≡ book.rule
-  pub opening : (h : ℕ) (book : Book) → slice_get books h ≡ Some book → opening_at site h ≡ book.count
+  pub opening : (h : ℕ) (book : Book) → slice_get books h ≡ Some book →
+      opening_at site h ≡ book.count
   pub passes_are : length passes ≡ n
   pub all : AreAllPasses site passes
   pub new : (i : ℕ) (pass : Pass) → slice_get passes i ≡ Some pass → IsNewPass books pass

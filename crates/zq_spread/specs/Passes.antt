@@ -44,31 +44,39 @@ IsCountOf slot other = ⊥
 
 -- the slot is that of this heap
 abbrev pub IsRoomAt : Site → ℕ → HeapSlot → Type 0
-IsRoomAt site h slot = (slot.heap ≡ h) × (slot.heaps ≡ length site.slots.items) × (slot.rule ≡ site.rule)
+IsRoomAt site h slot = (slot.heap ≡ h) × (slot.heaps ≡ length site.slots.items)
+    × (slot.rule ≡ site.rule)
 
 -- the pass is one of the site's, and calls work in these heaps, where its seats are out
 pub record IsPassBut (site : Site) (out : List ℕ) (pass : Pass) : Type 0 where
   pub seats : length pass.seats.items ≡ length site.slots.items
   pub counts : length pass.counts.items ≡ length site.slots.items
-  pub slots : (h : ℕ) (slot : HeapSlot) → slice_get site.slots.items h ≡ Some slot → IsRoomAt site h slot
-  pub seat : (h : ℕ) (slot : HeapSlot) → (IsIn h out → ⊥) → slice_get site.slots.items h ≡ Some slot → IsSeatOf slot (slice_get pass.seats.items h)
-  pub count : (h : ℕ) (slot : HeapSlot) → slice_get site.slots.items h ≡ Some slot → IsCountOf slot (slice_get pass.counts.items h)
+  pub slots : (h : ℕ) (slot : HeapSlot) → slice_get site.slots.items h ≡ Some slot →
+      IsRoomAt site h slot
+  pub seat : (h : ℕ) (slot : HeapSlot) → (IsIn h out → ⊥) →
+      slice_get site.slots.items h ≡ Some slot → IsSeatOf slot (slice_get pass.seats.items h)
+  pub count : (h : ℕ) (slot : HeapSlot) → slice_get site.slots.items h ≡ Some slot →
+      IsCountOf slot (slice_get pass.counts.items h)
   pub stamp : pass.stamp ≤ LAST_STAMP
 
 -- the pass is one of the site's
 pub record IsPassOf (site : Site) (pass : Pass) : Type 0 where
   pub seats : length pass.seats.items ≡ length site.slots.items
   pub counts : length pass.counts.items ≡ length site.slots.items
-  pub slots : (h : ℕ) (slot : HeapSlot) → slice_get site.slots.items h ≡ Some slot → IsRoomAt site h slot
-  pub seat : (h : ℕ) (slot : HeapSlot) → slice_get site.slots.items h ≡ Some slot → IsSeatOf slot (slice_get pass.seats.items h)
-  pub count : (h : ℕ) (slot : HeapSlot) → slice_get site.slots.items h ≡ Some slot → IsCountOf slot (slice_get pass.counts.items h)
+  pub slots : (h : ℕ) (slot : HeapSlot) → slice_get site.slots.items h ≡ Some slot →
+      IsRoomAt site h slot
+  pub seat : (h : ℕ) (slot : HeapSlot) → slice_get site.slots.items h ≡ Some slot →
+      IsSeatOf slot (slice_get pass.seats.items h)
+  pub count : (h : ℕ) (slot : HeapSlot) → slice_get site.slots.items h ≡ Some slot →
+      IsCountOf slot (slice_get pass.counts.items h)
   pub stamp : pass.stamp ≤ LAST_STAMP
 
 -- what was seen later follows what was seen before
 abbrev pub IsSeenLater : Option LockedHeap → Option LockedHeap → Type 0
 IsSeenLater later before = IfSome later (λ x. FollowsSeen Follows x before)
 
--- a call was refused: the pass has made no step and has its stamp, what it has seen follows what it had, and each heap that it held was let go as it was given
+-- a call was refused: the pass has made no step and has its stamp, what it has seen follows what it
+-- had, and each heap that it held was let go as it was given
 pub record IsStopped (before after : Pass) : Type 0 where
   pub stamp : after.stamp ≡ before.stamp
   pub steps : (h : ℕ) → steps_at after h ≡ steps_at before h

@@ -13,4 +13,5 @@ pub kept_itself : (x : LockedHeap) → IsKeptOn x x
 kept_itself x = (refl, recorded_itself x.book)
 
 pub kept_through : (x y z : LockedHeap) → IsKeptOn x y → IsKeptOn y z → IsKeptOn x z
-kept_through x y z first second = (second.0 ∙ first.0, recorded_through x.book y.book z.book first.1 second.1)
+kept_through x y z first second =
+    (second.0 ∙ first.0, recorded_through x.book y.book z.book first.1 second.1)

@@ -39,23 +39,27 @@ IsBoundedBook book = IsBounded book.heaps book.heap book.state
 -- heaps of the site, by rising number
 abbrev pub AreHeapsOf : Site → List ℕ → Type 0
 AreHeapsOf site [] = Unit {0}
-AreHeapsOf site (h ∷ heaps) = (h < heaps_of site) × ((k : ℕ) → IsIn k heaps → h < k) × AreHeapsOf site heaps
+AreHeapsOf site (h ∷ heaps) = (h < heaps_of site) × ((k : ℕ) → IsIn k heaps → h < k)
+    × AreHeapsOf site heaps
 
 -- ---- seats
 
 -- the pass has its seats in these heaps
 pub record HasSeatsIn (site : Site) (heaps : List ℕ) (pass : Pass) : Type 0 where
   pub number : length pass.seats.items ≡ heaps_of site
-  pub seat : (h : ℕ) (slot : HeapSlot) → IsIn h heaps → slice_get site.slots.items h ≡ Some slot → IsSeatOf slot (slice_get pass.seats.items h)
+  pub seat : (h : ℕ) (slot : HeapSlot) → IsIn h heaps → slice_get site.slots.items h ≡ Some slot →
+      IsSeatOf slot (slice_get pass.seats.items h)
 
 -- nothing of the pass has changed but its seats in these heaps
 pub record IsSameOutside (heaps : List ℕ) (before after : Pass) : Type 0 where
   pub number : length after.seats.items ≡ length before.seats.items
-  pub seats : (k : ℕ) → (IsIn k heaps → ⊥) → slice_get after.seats.items k ≡ slice_get before.seats.items k
+  pub seats : (k : ℕ) → (IsIn k heaps → ⊥) →
+      slice_get after.seats.items k ≡ slice_get before.seats.items k
   pub counts : after.counts ≡ before.counts
   pub stamp : after.stamp ≡ before.stamp
 
--- the pass has its seats in these heaps again, they have seen what follows what they had, and let go as it was given what they held
+-- the pass has its seats in these heaps again, they have seen what follows what they had, and let
+-- go as it was given what they held
 pub record AreBack (site : Site) (heaps : List ℕ) (before after : Pass) : Type 0 where
   pub seats : HasSeatsIn site heaps after
   pub outside : IsSameOutside heaps before after
@@ -83,11 +87,14 @@ pub record IsBegunFrom (stamp : ℕ) (old now : Held LockedHeap) : Type 0 where
   pub turns : held_logged now ≡ held_logged old
 
 -- and it was put onto the stack
-abbrev pub HasPushed : ℕ → Held LockedHeap → List (Held LockedHeap) → List (Held LockedHeap) → Type 0
-HasPushed stamp old before after = (now : Held LockedHeap) × (after ≡ now ∷ before) × IsBegunFrom stamp old now
+abbrev pub HasPushed : ℕ → Held LockedHeap → List (Held LockedHeap) → List (Held LockedHeap) →
+    Type 0
+HasPushed stamp old before after = (now : Held LockedHeap) × (after ≡ now ∷ before)
+    × IsBegunFrom stamp old now
 
 -- a call of this stamp has begun in a heap that is held, on the value that it found there
-pub record IsBegunAt (site : Site) (before : Pass) (stamp h : ℕ) (held : Held LockedHeap) (found : LockedHeap) : Type 0 where
+pub record IsBegunAt (site : Site) (before : Pass) (stamp h : ℕ) (held : Held LockedHeap)
+    (found : LockedHeap) : Type 0 where
   pub slot : HeapSlot
   pub at : slice_get site.slots.items h ≡ Some slot
   pub lock : held_lock held ≡ id_of slot.lock
@@ -104,15 +111,19 @@ pub record IsBegunAt (site : Site) (before : Pass) (stamp h : ℕ) (held : Held 
 -- in each of the heaps
 abbrev pub AreBegunAt : Site → Pass → ℕ → List ℕ → List (Held LockedHeap) → List LockedHeap → Type 0
 AreBegunAt site before stamp [] [] [] = Unit {0}
-AreBegunAt site before stamp (h ∷ heaps) (held ∷ helds) (x ∷ found) = IsBegunAt site before stamp h held x × AreBegunAt site before stamp heaps helds found
+AreBegunAt site before stamp (h ∷ heaps) (held ∷ helds) (x ∷ found) =
+    IsBegunAt site before stamp h held x × AreBegunAt site before stamp heaps helds found
 AreBegunAt site before stamp heaps helds found = ⊥
 
 -- one of the values has a member of the key
 abbrev pub HasMemberIn : List ℕ → List LockedHeap → Type 0
-HasMemberIn key found = (x : LockedHeap) × IsIn x found × (1 ≤ length (queue_at (state_of x.book) key))
+HasMemberIn key found = (x : LockedHeap) × IsIn x found
+    × (1 ≤ length (queue_at (state_of x.book) key))
 
--- a call that sought this has begun in these heaps: its stamp is the one after the greatest that it found, and there was enough, or one heap has a member of the key
-pub record HasBegun (site : Site) (before : Pass) (heaps key : List ℕ) (scan : LockScan) (stamp : ℕ) (helds : List (Held LockedHeap)) : Type 0 where
+-- a call that sought this has begun in these heaps: its stamp is the one after the greatest that it
+-- found, and there was enough, or one heap has a member of the key
+pub record HasBegun (site : Site) (before : Pass) (heaps key : List ℕ) (scan : LockScan) (stamp : ℕ)
+    (helds : List (Held LockedHeap)) : Type 0 where
   pub found : List LockedHeap
   pub each : AreBegunAt site before stamp heaps helds found
   pub next : stamp ≡ max scan.stamp (greatest_stamp found) + 1
@@ -147,9 +158,13 @@ AreHeldOn old new = ⊥
 
 pub held_on_itself : (helds : List (Held LockedHeap)) → AreHeldOn helds helds
 held_on_itself [] = tt
-held_on_itself (x ∷ helds) = (record { lock = refl; was_given = refl; kept = kept_itself (value_of x); turns = refl }, held_on_itself helds)
+held_on_itself (x ∷ helds) = (
+  record { lock = refl; was_given = refl; kept = kept_itself (value_of x); turns = refl },
+  held_on_itself helds,
+)
 
-pub held_on_through : (xs ys zs : List (Held LockedHeap)) → AreHeldOn xs ys → AreHeldOn ys zs → AreHeldOn xs zs
+pub held_on_through : (xs ys zs : List (Held LockedHeap)) → AreHeldOn xs ys → AreHeldOn ys zs →
+    AreHeldOn xs zs
 held_on_through [] [] [] first second = tt
 held_on_through [] [] (z ∷ zs) first second = absurd second
 held_on_through [] (y ∷ ys) zs first second = absurd first
@@ -177,15 +192,18 @@ MayEndIn site [] [] = Unit {0}
 MayEndIn site (h ∷ heaps) (held ∷ helds) = MayEndAt site h held × MayEndIn site heaps helds
 MayEndIn site heaps helds = ⊥
 
--- the call has ended in the heap: the pass has seen the book that was held, has made the steps by which its count rose, and has put that home
+-- the call has ended in the heap: the pass has seen the book that was held, has made the steps by
+-- which its count rose, and has put that home
 pub record HasEndedAt (before after : Pass) (h : ℕ) (held : Held LockedHeap) : Type 0 where
   pub left : LockedHeap
   pub seen : seen_at after h ≡ Some left
   pub book : left.book ≡ (value_of held).book
-  pub steps : IfSome (given held) (λ found. steps_at after h + found.book.count ≡ steps_at before h + (value_of held).book.count)
+  pub steps : IfSome (given held) (λ found. steps_at after h + found.book.count
+      ≡ steps_at before h + (value_of held).book.count)
   pub turn : IfSome (given held) (λ found. HasTurn found left (turns_at after h) (held_logged held))
 
 abbrev pub HasEndedIn : Pass → Pass → List ℕ → List (Held LockedHeap) → Type 0
 HasEndedIn before after [] [] = Unit {0}
-HasEndedIn before after (h ∷ heaps) (held ∷ helds) = HasEndedAt before after h held × HasEndedIn before after heaps helds
+HasEndedIn before after (h ∷ heaps) (held ∷ helds) = HasEndedAt before after h held
+    × HasEndedIn before after heaps helds
 HasEndedIn before after heaps helds = ⊥

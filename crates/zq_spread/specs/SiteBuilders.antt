@@ -33,7 +33,8 @@ pub record IsCounted (tally_of : Tally) (heap : ℕ) (before after : Pass) : Typ
   pub none : tally.steps_of count ≡ 0
 
 -- the pass was given a seat at this lock in a heap, which has seen this value
-pub record IsSeated (lock : TicketLock LockedHeap) (value : Option LockedHeap) (heap : ℕ) (before after : Pass) : Type 0 where
+pub record IsSeated (lock : TicketLock LockedHeap) (value : Option LockedHeap) (heap : ℕ)
+    (before after : Pass) : Type 0 where
   pub counts : after.counts ≡ before.counts
   pub stamp : after.stamp ≡ before.stamp
   pub seat : Seat LockedHeap
@@ -42,12 +43,13 @@ pub record IsSeated (lock : TicketLock LockedHeap) (value : Option LockedHeap) (
   pub seen_is : seen seat ≡ value
 
 -- the slot is that of this heap, over this book, for so many passes
-pub record IsRoomOver (heaps n : ℕ) (rule : Rule) (h : ℕ) (book : Book) (slot : HeapSlot) : Type 0 where
-  pub heap_is : slot.heap ≡ h
-  pub heaps_are : slot.heaps ≡ heaps
-  pub rule_is : slot.rule ≡ rule
-  pub opening : slot.opening ≡ book.count
-  pub spare : n + slot.spare ≡ ALL_PARTS
+pub record IsRoomOver (heaps n : ℕ) (rule : Rule) (h : ℕ) (book : Book) (slot : HeapSlot) : Type 0
+  where
+    pub heap_is : slot.heap ≡ h
+    pub heaps_are : slot.heaps ≡ heaps
+    pub rule_is : slot.rule ≡ rule
+    pub opening : slot.opening ≡ book.count
+    pub spare : n + slot.spare ≡ ALL_PARTS
 
 -- the pass has a seat in the slot, which has seen the book, and a count, which has no steps
 pub record IsNewIn (slot : HeapSlot) (h : ℕ) (book : Book) (pass : Pass) : Type 0 where
@@ -57,20 +59,25 @@ pub record IsNewIn (slot : HeapSlot) (h : ℕ) (book : Book) (pass : Pass) : Typ
   pub none : steps_at pass h ≡ 0
 
 -- the first heaps have these books, in slots in which each pass is new
-pub record AreSettled (heaps n : ℕ) (rule : Rule) (books : List Book) (slots : List HeapSlot) (passes : List Pass) : Type 0 where
+pub record AreSettled (heaps n : ℕ) (rule : Rule) (books : List Book) (slots : List HeapSlot)
+    (passes : List Pass) : Type 0 where
   pub number : length slots ≡ length books
   pub passes_are : length passes ≡ n
   pub places : (i : ℕ) (pass : Pass) → slice_get passes i ≡ Some pass → HasPlaces heaps pass
-  pub slot : (h : ℕ) (slot : HeapSlot) (book : Book) → slice_get slots h ≡ Some slot → slice_get books h ≡ Some book → IsRoomOver heaps n rule h book slot
-  pub new : (i h : ℕ) (pass : Pass) (slot : HeapSlot) (book : Book) → slice_get passes i ≡ Some pass → slice_get slots h ≡ Some slot → slice_get books h ≡ Some book → IsNewIn slot h book pass
+  pub slot : (h : ℕ) (slot : HeapSlot) (book : Book) → slice_get slots h ≡ Some slot →
+      slice_get books h ≡ Some book → IsRoomOver heaps n rule h book slot
+  pub new : (i h : ℕ) (pass : Pass) (slot : HeapSlot) (book : Book) →
+      slice_get passes i ≡ Some pass → slice_get slots h ≡ Some slot →
+      slice_get books h ≡ Some book → IsNewIn slot h book pass
 
 -- what is left is for the other heaps
-pub record IsGround (heaps n : ℕ) (rule : Rule) (books : List Book) (builder : SiteBuilder) : Type 0 where
-  pub empty_slots : length builder.empty_slots.items + length builder.slots.items ≡ heaps
-  pub slot : heaps ≤ vec_capacity builder.slots
-  pub heaps_are : builder.heaps ≡ heaps
-  pub rule_is : builder.rule ≡ rule
-  pub settled : AreSettled heaps n rule books builder.slots.items builder.passes.items
+pub record IsGround (heaps n : ℕ) (rule : Rule) (books : List Book) (builder : SiteBuilder) : Type 0
+  where
+    pub empty_slots : length builder.empty_slots.items + length builder.slots.items ≡ heaps
+    pub slot : heaps ≤ vec_capacity builder.slots
+    pub heaps_are : builder.heaps ≡ heaps
+    pub rule_is : builder.rule ≡ rule
+    pub settled : AreSettled heaps n rule books builder.slots.items builder.passes.items
 
 -- the next heap may get its book
 pub record IsReady (builder : SiteBuilder) : Type 0 where
@@ -78,7 +85,8 @@ pub record IsReady (builder : SiteBuilder) : Type 0 where
   pub heap : length builder.slots.items < builder.heaps
   pub slot : length builder.slots.items < vec_capacity builder.slots
   pub passes : length builder.passes.items ≤ 128
-  pub places : (i : ℕ) (pass : Pass) → slice_get builder.passes.items i ≡ Some pass → HasPlaces builder.heaps pass
+  pub places : (i : ℕ) (pass : Pass) → slice_get builder.passes.items i ≡ Some pass →
+      HasPlaces builder.heaps pass
 
 -- the book is the next heap's
 pub record IsNextBook (builder : SiteBuilder) (book : Book) : Type 0 where

@@ -1,4 +1,5 @@
--- What a pass knows of a lock whose tickets are used up, or which somebody else has; and why calls are refused.
+-- What a pass knows of a lock whose tickets are used up, or which somebody else has; and why calls
+-- are refused.
 
 use Rattle.std.specs.Prelude.{Bool, List, Option, Some, [], false, length, slice_get, ℕ, ◌++◌, ◌<◌, ◌∷◌, ◌≡◌, ◌≤◌, ◌⊎◌}
 use Rattle.zq_journal.specs.Books.{LAST_STAMP, state_of}
@@ -42,9 +43,11 @@ HasFoundWorn heap (first ∷ others) = last_ticket ≤ reached_at first heap
 
 -- ---- what is found
 
--- all tickets of a lock up to this one are drawn, and that is the last; or its book, as it was seen, has the last stamp
+-- all tickets of a lock up to this one are drawn, and that is the last; or its book, as it was
+-- seen, has the last stamp
 abbrev pub IsAtLast : ℕ → Option LockedHeap → Type 0
-IsAtLast reached seen = (last_ticket ≤ reached) ⊎ ((x : LockedHeap) × (seen ≡ Some x) × (LAST_STAMP ≤ x.book.stamp))
+IsAtLast reached seen = (last_ticket ≤ reached)
+    ⊎ ((x : LockedHeap) × (seen ≡ Some x) × (LAST_STAMP ≤ x.book.stamp))
 
 -- somebody else has drawn the ticket of a lock that is served, which is not the last
 abbrev pub IsHeldElsewhere : ℕ → ℕ → Type 0
@@ -52,11 +55,13 @@ IsHeldElsewhere served reached = (served < last_ticket) × (served < reached)
 
 -- a last value was found: of the stamp from which the call goes on, or in one of these heaps
 abbrev pub HasFoundLast : ℕ → List ℕ → Pass → Type 0
-HasFoundLast floor heaps pass = (LAST_STAMP ≤ floor) ⊎ ((h : ℕ) × IsIn h heaps × IsAtLast (reached_at pass h) (seen_at pass h))
+HasFoundLast floor heaps pass = (LAST_STAMP ≤ floor)
+    ⊎ ((h : ℕ) × IsIn h heaps × IsAtLast (reached_at pass h) (seen_at pass h))
 
 -- one of these heaps was found to be another's
 abbrev pub HasFoundBusy : List ℕ → Pass → Type 0
-HasFoundBusy heaps pass = (h : ℕ) × IsIn h heaps × IsHeldElsewhere (served_at pass h) (reached_at pass h)
+HasFoundBusy heaps pass = (h : ℕ) × IsIn h heaps
+    × IsHeldElsewhere (served_at pass h) (reached_at pass h)
 
 -- ---- why a call is refused
 
@@ -96,16 +101,19 @@ IsUnlocked stop.Nothing served reached = ⊥
 
 -- ---- heaps that ZPOPNEAR passes over
 
--- the heap was held, its book had no member of the key, and it was let go as it was given; these holds came later
-pub record IsPassedOver (key : List ℕ) (later : List (Entry LockedHeap)) (before after : Pass) (h : ℕ) : Type 0 where
+-- the heap was held, its book had no member of the key, and it was let go as it was given; these
+-- holds came later
+pub record IsPassedOver (key : List ℕ) (later : List (Entry LockedHeap)) (before after : Pass)
+    (h : ℕ) : Type 0 where
   pub given : LockedHeap
   pub none : length (queue_at (state_of given.book) key) ≡ 0
   pub ticket : ℕ
   pub turns : turns_at after h ≡ later ++ entry ticket given given ∷ turns_at before h
 
--- why a call in several heaps stops, which goes on from this stamp, and may have found enough before: a last value, another's heap, or no member of the key
--- in any of them
+-- why a call in several heaps stops, which goes on from this stamp, and may have found enough
+-- before: a last value, another's heap, or no member of the key in any of them
 abbrev pub IsStopOf : ℕ → Bool → List ℕ → List ℕ → Pass → Pass → Stop → Type 0
 IsStopOf floor enough heaps key before after stop.Worn = HasFoundLast floor heaps after
 IsStopOf floor enough heaps key before after stop.Busy = HasFoundBusy heaps after
-IsStopOf floor enough heaps key before after stop.Nothing = (enough ≡ false) × ((h : ℕ) → IsIn h heaps → IsPassedOver key [] before after h)
+IsStopOf floor enough heaps key before after stop.Nothing = (enough ≡ false)
+    × ((h : ℕ) → IsIn h heaps → IsPassedOver key [] before after h)

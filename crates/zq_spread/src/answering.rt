@@ -30,7 +30,8 @@ impl LockedHeap {
         requires one { named.heaps_of command.now self.old.book.heaps ≡ One self.old.book.heap }
         ensures total { self.new.total ≡ self.old.total }
         ensures worked { (a : Books) → IsWorked self.old.book a stamp [] →
-            HasWorked (IsAnswered self.old.book.rule site stamp command.now (reply_bytes result)) self.new.book a stamp }
+            HasWorked (IsAnswered self.old.book.rule site stamp command.now (reply_bytes result))
+            self.new.book a stamp }
         ensures writable { IsTrue (is_writable result) }
     {
         // What a book says of its bounds.

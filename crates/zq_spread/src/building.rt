@@ -45,7 +45,8 @@ fn empty_pass(alloc: Global, heaps: u8) -> Result<Pass, AllocError>
 
 fn empty_passes(alloc: Global, heaps: u8, count: usize) -> Result<Vec<Pass>, AllocError>
     ensures number { IfOk result (λ passes. length passes.items ≡ count) }
-    ensures places { IfOk result (λ passes. (i : ℕ) (pass : Passes) → slice_get passes.items i ≡ Some pass → HasPlaces heaps pass) }
+    ensures places { IfOk result (λ passes. (i : ℕ) (pass : Passes) →
+        slice_get passes.items i ≡ Some pass → HasPlaces heaps pass) }
 {
     let mut passes = Vec::new(alloc);
     for _pass in 0..count {
@@ -70,8 +71,10 @@ fn empty_slots(alloc: Global, count: u8) -> Result<Vec<EmptySlot>, AllocError>
 fn deal_counts(tally: &Tally, total: &mut Total, heap: usize, passes: &mut [Pass])
     requires own { total_table total.old ≡ table_of tally.now }
     requires spare { length passes.old < kept_of total.old }
-    requires places { (i : ℕ) (pass : Passes) → slice_get passes.old i ≡ Some pass → heap < length pass.counts.items }
-    ensures total { (total_table total.new ≡ total_table total.old) × (total_of total.new ≡ total_of total.old) × (passes_of total.new ≡ passes_of total.old) }
+    requires places { (i : ℕ) (pass : Passes) → slice_get passes.old i ≡ Some pass →
+        heap < length pass.counts.items }
+    ensures total { (total_table total.new ≡ total_table total.old)
+        × (total_of total.new ≡ total_of total.old) × (passes_of total.new ≡ passes_of total.old) }
     ensures own { total_table total.new ≡ table_of tally.now }
     ensures kept { kept_of total.new + length passes.old ≡ kept_of total.old }
     ensures dealt { AllZip (IsCounted tally.now heap) passes.old passes.new }
@@ -89,7 +92,8 @@ fn deal_seats(
     passes: &mut [Pass],
 )
     requires lock { lock_of first ≡ id_of lock.now }
-    requires places { (i : ℕ) (pass : Passes) → slice_get passes.old i ≡ Some pass → heap < length pass.seats.items }
+    requires places { (i : ℕ) (pass : Passes) → slice_get passes.old i ≡ Some pass →
+        heap < length pass.seats.items }
     ensures dealt { AllZip (IsSeated lock.now (seen first) heap) passes.old passes.new }
 {
     let mut seat = first;
@@ -123,7 +127,9 @@ impl SiteBuilder {
     fn build_next(&mut self, book: Book)
         requires ready { IsReady self.old }
         requires book { IsNextBook self.old book }
-        ensures settled { (heaps n : ℕ) (rule : Rules) (books : List Books) → IsGround heaps n rule books self.old → IsGround heaps n rule (books ++ book ∷ []) self.new }
+        ensures settled { (heaps n : ℕ) (rule : Rules) (books : List Books) →
+            IsGround heaps n rule books self.old →
+            IsGround heaps n rule (books ++ book ∷ []) self.new }
     {
         let Some(
             EmptySlot {
@@ -154,11 +160,14 @@ impl SiteBuilder {
 
     /// Gives each heap its book. It takes no memory.
     pub(crate) fn build(mut self, books: Vec<Book>) -> (Vec<HeapSlot>, Vec<Pass>)
-        requires builder { IsGround (length books.items) (length self.passes.items) self.rule [] self }
+        requires builder { IsGround (length books.items)
+            (length self.passes.items) self.rule [] self }
         requires books { AreOfHeaps books.items }
-        requires rule { (h : ℕ) (book : Books) → slice_get books.items h ≡ Some book → book.rule ≡ rule_of self.rule }
+        requires rule { (h : ℕ) (book : Books) → slice_get books.items h ≡ Some book →
+            book.rule ≡ rule_of self.rule }
         requires bounded { length self.passes.items ≤ 128 }
-        ensures { AreSettled (length books.items) (length self.passes.items) self.rule books.items result.0.items result.1.items }
+        ensures { AreSettled (length books.items)
+            (length self.passes.items) self.rule books.items result.0.items result.1.items }
     {
         for book in books {
             self.build_next(book);

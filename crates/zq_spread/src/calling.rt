@@ -42,10 +42,11 @@ pub(crate) fn short() -> Reply
 }
 
 impl Site {
-    /// Runs a command in the one heap that it names, such as ZADD of one member. It locks that heap alone, and takes no
-    /// memory for locks. Where the heap's lock or the stamp is at its last value it answers `ERR worn after 0`, and no image,
-    /// book or stamp has changed. Where memory is refused, or the site's counter or the book's count is at its last value,
-    /// the reply says so, and the call stands at its stamp.
+    /// Runs a command in the one heap that it names, such as ZADD of one member. It locks that heap
+    /// alone, and takes no memory for locks. Where the heap's lock or the stamp is at its last
+    /// value it answers `ERR worn after 0`, and no image, book or stamp has changed. Where memory
+    /// is refused, or the site's counter or the book's count is at its last value, the reply says
+    /// so, and the call stands at its stamp.
     pub fn call_one<R: Wait>(
         &self,
         rt: &R,
@@ -58,7 +59,10 @@ impl Site {
         requires heap { heap < heaps_of self.now }
         requires one { named.heaps_of command.now (heaps_of self.now) ≡ One heap }
         ensures pass { IsPassOf self.now pass.new }
-        ensures called { IsCall (IsAnswered (rule_of self.now.rule) self.now.number pass.new.stamp command.now (reply_bytes result)) pass.old pass.new (heap ∷ []) ⊎ IsWornOut (heap ∷ []) (reply_bytes result) pass.old pass.new }
+        ensures called { IsCall
+            (IsAnswered (rule_of self.now.rule) self.now.number pass.new.stamp command.now
+            (reply_bytes result)) pass.old pass.new (heap ∷ [])
+            ⊎ IsWornOut (heap ∷ []) (reply_bytes result) pass.old pass.new }
         ensures writable { IsTrue (is_writable result) }
     {
         let heap = usize::from(heap);
@@ -71,8 +75,8 @@ impl Site {
         reply
     }
 
-    /// The same where nobody holds the heap or waits for it. It never waits: else it is `Busy`, and no image, book or stamp
-    /// has changed.
+    /// The same where nobody holds the heap or waits for it. It never waits: else it is `Busy`, and
+    /// no image, book or stamp has changed.
     pub fn try_call_one(
         &self,
         alloc: Global,
@@ -84,7 +88,11 @@ impl Site {
         requires heap { heap < heaps_of self.now }
         requires one { named.heaps_of command.now (heaps_of self.now) ≡ One heap }
         ensures pass { IsPassOf self.now pass.new }
-        ensures called { IfOk result (λ reply. IsCall (IsAnswered (rule_of self.now.rule) self.now.number pass.new.stamp command.now (reply_bytes reply)) pass.old pass.new (heap ∷ []) ⊎ IsWornOut (heap ∷ []) (reply_bytes reply) pass.old pass.new) }
+        ensures called { IfOk result
+            (λ reply. IsCall (IsAnswered
+            (rule_of self.now.rule) self.now.number pass.new.stamp command.now (reply_bytes reply))
+            pass.old pass.new (heap ∷ [])
+            ⊎ IsWornOut (heap ∷ []) (reply_bytes reply) pass.old pass.new) }
         ensures busy { OnErr result (IsBusyIn (heap ∷ []) pass.old pass.new) }
         ensures writable { IfOk result (λ reply. IsTrue (is_writable reply)) }
     {

@@ -35,8 +35,8 @@ pub(crate) fn every(heaps: usize) -> &'static [u8]
 }
 
 impl Site {
-    /// Runs a command in these heaps. `Nothing` where it needs a member of the key, and none of them has one. After an
-    /// error no image, book or stamp has changed.
+    /// Runs a command in these heaps. `Nothing` where it needs a member of the key, and none of
+    /// them has one. After an error no image, book or stamp has changed.
     fn call_in<R: Wait>(
         &self,
         rt: &R,
@@ -51,13 +51,17 @@ impl Site {
         requires pass { IsPassOf self.now pass.old }
         requires some { 0 < length heaps.now }
         requires heaps { AreHeapsOf self.now heaps.now }
-        requires homes { (books : List Books) → AreBooksAt self.now heaps.now books → HasBooks command.now (lending_of books) }
+        requires homes { (books : List Books) → AreBooksAt self.now heaps.now books →
+            HasBooks command.now (lending_of books) }
         requires empty { helds_of holds.old ≡ [] }
         requires slot { length heaps.now ≤ vec_capacity holds.old.helds }
         ensures pass { IsPassOf self.now pass.new }
-        ensures called { IfOk result (λ reply. HasAnswered self.now command.now key.now is_enough (reply_bytes reply) pass.old pass.new heaps.now) }
+        ensures called { IfOk result
+            (λ reply. HasAnswered self.now command.now key.now is_enough
+            (reply_bytes reply) pass.old pass.new heaps.now) }
         ensures stopped { OnErr result (IsStopped pass.old pass.new) }
-        ensures why { IfErr result (IsStopOf pass.old.stamp is_enough heaps.now key.now pass.old pass.new) }
+        ensures why { IfErr result
+            (IsStopOf pass.old.stamp is_enough heaps.now key.now pass.old pass.new) }
         ensures waits { IsErrOf result Stop.Busy → ⊥ }
         ensures writable { IfOk result (λ reply. IsTrue (is_writable reply)) }
         ensures empty { helds_of holds.new ≡ [] }
@@ -86,7 +90,8 @@ impl Site {
         requires empty { helds_of holds.old ≡ [] }
         requires slot { heaps_of self.now ≤ vec_capacity holds.old.helds }
         ensures pass { IsPassOf self.now pass.new }
-        ensures called { (IsCommand self.now command.now (reply_bytes result) pass.old pass.new (all_heaps self.now) × HasHeldEach pass.old pass.new (all_heaps self.now))
+        ensures called { (IsCommand self.now command.now (reply_bytes result) pass.old pass.new
+            (all_heaps self.now) × HasHeldEach pass.old pass.new (all_heaps self.now))
             ⊎ IsWornOut (all_heaps self.now) (reply_bytes result) pass.old pass.new }
         ensures writable { IsTrue (is_writable result) }
         ensures empty { helds_of holds.new ≡ [] }
@@ -100,8 +105,8 @@ impl Site {
         }
     }
 
-    /// Runs ZPOPNEAR in two heaps that were drawn, the lower one first, where one of them has a member of the key, and
-    /// else in all heaps.
+    /// Runs ZPOPNEAR in two heaps that were drawn, the lower one first, where one of them has a
+    /// member of the key, and else in all heaps.
     fn answer_near<R: Wait>(
         &self,
         rt: &R,
@@ -120,7 +125,8 @@ impl Site {
         requires empty { helds_of holds.old ≡ [] }
         requires slot { heaps_of self.now ≤ vec_capacity holds.old.helds }
         ensures pass { IsPassOf self.now pass.new }
-        ensures called { IsNear self.now command.now (reply_bytes result) pass.old pass.new drawn.now }
+        ensures called { IsNear self.now command.now
+            (reply_bytes result) pass.old pass.new drawn.now }
         ensures writable { IsTrue (is_writable result) }
         ensures empty { helds_of holds.new ≡ [] }
     {
@@ -133,8 +139,8 @@ impl Site {
         }
     }
 
-    /// Runs a command in all heaps, which it locks in rising order. Where memory to hold them was refused, it answers `OOM
-    /// after 0`, and no lock was taken.
+    /// Runs a command in all heaps, which it locks in rising order. Where memory to hold them was
+    /// refused, it answers `OOM after 0`, and no lock was taken.
     pub(crate) fn call_all<R: Wait>(
         &self,
         rt: &R,
@@ -144,7 +150,9 @@ impl Site {
     ) -> Reply
         requires pass { IsPassOf self.now pass.old }
         ensures pass { IsPassOf self.now pass.new }
-        ensures called { IsCommand self.now command.now (reply_bytes result) pass.old pass.new (all_heaps self.now) ⊎ IsTurnedAway (all_heaps self.now) (reply_bytes result) pass.old pass.new }
+        ensures called { IsCommand self.now command.now (reply_bytes result) pass.old pass.new
+            (all_heaps self.now) ⊎ IsTurnedAway (all_heaps self.now)
+            (reply_bytes result) pass.old pass.new }
         ensures writable { IsTrue (is_writable result) }
     {
         let Ok(mut holds) = LockedHeaps::with_room(alloc, self.slots.len()) else {
@@ -169,7 +177,8 @@ impl Site {
         requires pass { IsPassOf self.now pass.old }
         requires near { command.now ≡ Zpopnear key.now }
         ensures pass { IsPassOf self.now pass.new }
-        ensures called { IsNear self.now command.now (reply_bytes result) pass.old pass.new (drawn (heaps_of self.now) w1 w2) }
+        ensures called { IsNear self.now command.now (reply_bytes result) pass.old pass.new
+            (drawn (heaps_of self.now) w1 w2) }
         ensures writable { IsTrue (is_writable result) }
     {
         let Ok(mut holds) = LockedHeaps::with_room(alloc, self.slots.len()) else {

@@ -22,22 +22,24 @@ impl Site {
     fn answer_alone(&self, alloc: Global, pass: &Pass, command: &Command) -> Reply
         requires pass { IsPassOf self.now pass.now }
         requires none { named.heaps_of command.now (heaps_of self.now) ≡ NoHeap }
-        ensures answered { DoesCommand self.now pass.now.stamp command.now (reply_bytes result) [] [] }
+        ensures answered { DoesCommand self.now pass.now.stamp command.now
+            (reply_bytes result) [] [] }
         ensures writable { IsTrue (is_writable result) }
     {
         let mut books: Vec<Book> = Vec::new(alloc);
         run(&mut books, alloc, self.number, pass.stamp, command)
     }
 
-    /// Runs a command in the heaps that it works in: none for PING, that of its one member for ZADD, ZREM and the like, all
-    /// for a command of whole keys, and for ZPOPNEAR the two that the words draw where one of them has a member of its key,
-    /// else all. It locks these heaps in rising order, and works at one stamp, which is after all that it found there and
-    /// after the pass's latest.
+    /// Runs a command in the heaps that it works in: none for PING, that of its one member for
+    /// ZADD, ZREM and the like, all for a command of whole keys, and for ZPOPNEAR the two that the
+    /// words draw where one of them has a member of its key, else all. It locks these heaps in
+    /// rising order, and works at one stamp, which is after all that it found there and after the
+    /// pass's latest.
     ///
-    /// Where a lock or the stamp is at its last value it answers `ERR worn after 0`, and no image, book or stamp has
-    /// changed. Where the memory to hold several heaps was refused it answers `OOM after 0`, and no lock was taken. Where
-    /// memory is refused later, or the site's counter or a book's count is at its last value, the reply says so, and the
-    /// call stands at its stamp.
+    /// Where a lock or the stamp is at its last value it answers `ERR worn after 0`, and no image,
+    /// book or stamp has changed. Where the memory to hold several heaps was refused it answers
+    /// `OOM after 0`, and no lock was taken. Where memory is refused later, or the site's counter
+    /// or a book's count is at its last value, the reply says so, and the call stands at its stamp.
     pub fn call<R: Wait>(
         &self,
         rt: &R,
@@ -49,7 +51,8 @@ impl Site {
     ) -> Reply
         requires pass { IsPassOf self.now pass.old }
         ensures pass { IsPassOf self.now pass.new }
-        ensures called { IsCalled self.now command.now w1 w2 (reply_bytes result) pass.old pass.new }
+        ensures called { IsCalled self.now command.now w1 w2
+            (reply_bytes result) pass.old pass.new }
         ensures writable { IsTrue (is_writable result) }
     {
         match command.heaps(self.slots.len() as u8) {
@@ -63,8 +66,9 @@ impl Site {
         }
     }
 
-    /// The same where nobody holds one of the heaps or waits for it. It never waits: else it is `Busy`, and no image, book
-    /// or stamp has changed. A command that needs no heap is never `Busy`.
+    /// The same where nobody holds one of the heaps or waits for it. It never waits: else it is
+    /// `Busy`, and no image, book or stamp has changed. A command that needs no heap is never
+    /// `Busy`.
     pub fn try_call(
         &self,
         alloc: Global,
@@ -75,8 +79,11 @@ impl Site {
     ) -> Result<Reply, Busy>
         requires pass { IsPassOf self.now pass.old }
         ensures pass { IsPassOf self.now pass.new }
-        ensures called { IfOk result (λ reply. IsCalled self.now command.now w1 w2 (reply_bytes reply) pass.old pass.new) }
-        ensures busy { OnErr result (IsBusyWith (named.heaps_of command.now (heaps_of self.now)) self.now pass.old pass.new) }
+        ensures called { IfOk result
+            (λ reply. IsCalled self.now command.now w1 w2 (reply_bytes reply) pass.old pass.new) }
+        ensures busy { OnErr result
+            (IsBusyWith (named.heaps_of command.now (heaps_of self.now)) self.now pass.old
+            pass.new) }
         ensures free { named.heaps_of command.now (heaps_of self.now) ≡ NoHeap → IsOk result }
         ensures writable { IfOk result (λ reply. IsTrue (is_writable reply)) }
     {

@@ -31,9 +31,9 @@ pub(crate) struct HeapSlot {
 }
 
 impl HeapSlot {
-    /// Locks the heap, and begins a call there, with the stamp after those of the heap and of the pass: the tail is cut
-    /// where it is long, and the stamp raised. Where the lock is exhausted, or that stamp would be past the last
-    /// one, the seat comes back, and nothing has changed.
+    /// Locks the heap, and begins a call there, with the stamp after those of the heap and of the
+    /// pass: the tail is cut where it is long, and the stamp raised. Where the lock is exhausted,
+    /// or that stamp would be past the last one, the seat comes back, and nothing has changed.
     pub(crate) fn begin<R: Wait>(
         &self,
         rt: &R,
@@ -44,11 +44,16 @@ impl HeapSlot {
         requires seen { IfSome (seen seat) (IsOf self.now) }
         ensures lock { IfOk result (λ begun. held_lock begun.0 ≡ id_of self.now.lock) }
         ensures bounded { IfOk result (λ begun. begun.1 ≤ LAST_STAMP) }
-        ensures begun { IfOk result (λ begun. IfSome (given begun.0) (IsBegun self.now (seen seat) floor begun.1 (value_of begun.0))) }
+        ensures begun { IfOk result
+            (λ begun. IfSome (given begun.0)
+            (IsBegun self.now (seen seat) floor begun.1 (value_of begun.0))) }
         ensures turns { IfOk result (λ begun. held_logged begun.0 ≡ logged seat) }
-        ensures refused { IfErr result (λ back. (lock_of back ≡ id_of self.now.lock) × IfSome (seen back) (IsOf self.now) × IfSome (seen back) (λ x. FollowsSeen Follows x (seen seat))) }
+        ensures refused { IfErr result (λ back. (lock_of back ≡ id_of self.now.lock)
+            × IfSome (seen back) (IsOf self.now)
+            × IfSome (seen back) (λ x. FollowsSeen Follows x (seen seat))) }
         ensures left { IfErr result (λ back. IsLeftAsGiven (logged back) (logged seat)) }
-        ensures worn { IfErr result (λ back. (LAST_STAMP ≤ floor) ⊎ IsAtLast (reached back) (seen back)) }
+        ensures worn { IfErr result (λ back. (LAST_STAMP ≤ floor)
+            ⊎ IsAtLast (reached back) (seen back)) }
     {
         match self.lock.lock(rt, seat) {
             Ok(held) => self.date(held, floor),
@@ -66,11 +71,16 @@ impl HeapSlot {
         requires seen { IfSome (seen seat) (IsOf self.now) }
         ensures lock { IfOk result (λ begun. held_lock begun.0 ≡ id_of self.now.lock) }
         ensures bounded { IfOk result (λ begun. begun.1 ≤ LAST_STAMP) }
-        ensures begun { IfOk result (λ begun. IfSome (given begun.0) (IsBegun self.now (seen seat) floor begun.1 (value_of begun.0))) }
+        ensures begun { IfOk result
+            (λ begun. IfSome (given begun.0)
+            (IsBegun self.now (seen seat) floor begun.1 (value_of begun.0))) }
         ensures turns { IfOk result (λ begun. held_logged begun.0 ≡ logged seat) }
-        ensures refused { IfErr result (λ e. (lock_of e.1 ≡ id_of self.now.lock) × IfSome (seen e.1) (IsOf self.now) × IfSome (seen e.1) (λ x. FollowsSeen Follows x (seen seat))) }
+        ensures refused { IfErr result (λ e. (lock_of e.1 ≡ id_of self.now.lock)
+            × IfSome (seen e.1) (IsOf self.now)
+            × IfSome (seen e.1) (λ x. FollowsSeen Follows x (seen seat))) }
         ensures left { IfErr result (λ e. IsLeftAsGiven (logged e.1) (logged seat)) }
-        ensures why { IfErr result (λ e. IsUnbegun e.0 floor (served e.1) (reached e.1) (seen e.1)) }
+        ensures why { IfErr result
+            (λ e. IsUnbegun e.0 floor (served e.1) (reached e.1) (seen e.1)) }
     {
         match self.lock.try_lock(seat) {
             Ok(held) => match self.date(held, floor) {
@@ -96,12 +106,15 @@ impl HeapSlot {
         ensures bounded { IfOk result (λ begun. begun.1 ≤ LAST_STAMP) }
         ensures given { IfOk result (λ begun. given begun.0 ≡ Some (value_of held)) }
         ensures begun { IfOk result (λ begun. begun.1 ≡ max floor (value_of held).book.stamp + 1) }
-        ensures worked { IfOk result (λ begun. IsWorked (value_of begun.0).book (value_of held).book begun.1 []) }
+        ensures worked { IfOk result
+            (λ begun. IsWorked (value_of begun.0).book (value_of held).book begun.1 []) }
         ensures total { IfOk result (λ begun. (value_of begun.0).total ≡ (value_of held).total) }
         ensures turns { IfOk result (λ begun. held_logged begun.0 ≡ held_logged held) }
-        ensures refused { IfErr result (λ back. (lock_of back ≡ id_of self.now.lock) × (seen back ≡ Some (value_of held))) }
+        ensures refused { IfErr result (λ back. (lock_of back ≡ id_of self.now.lock)
+            × (seen back ≡ Some (value_of held))) }
         ensures left { IfErr result (λ back. IsLeftAsGiven (logged back) (held_logged held)) }
-        ensures worn { IfErr result (λ back. (LAST_STAMP ≤ floor) ⊎ IsAtLast (reached back) (seen back)) }
+        ensures worn { IfErr result (λ back. (LAST_STAMP ≤ floor)
+            ⊎ IsAtLast (reached back) (seen back)) }
     {
         let last = u64::max(floor, held.value().book.stamp());
         if last >= LAST {
@@ -113,10 +126,12 @@ impl HeapSlot {
 
     /// Counts a step for each record and each merge that was made since the total was right.
     fn count_up(&self, kept: &mut LockedHeap, count: &mut Count)
-        requires own { (tally.count_table count.old ≡ tally.id_of self.now.tally) × (tally.total_table kept.old.total ≡ tally.id_of self.now.tally) }
+        requires own { (tally.count_table count.old ≡ tally.id_of self.now.tally)
+            × (tally.total_table kept.old.total ≡ tally.id_of self.now.tally) }
         requires behind { self.now.opening + tally.total_of kept.old.total ≤ kept.old.book.count }
         ensures counted { IsCountedUp self.now kept.new kept.old }
-        ensures steps { tally.steps_of count.new + self.now.opening + tally.total_of kept.old.total ≡ tally.steps_of count.old + kept.old.book.count }
+        ensures steps { tally.steps_of count.new + self.now.opening + tally.total_of kept.old.total
+            ≡ tally.steps_of count.old + kept.old.book.count }
         ensures table { tally.count_table count.new ≡ tally.count_table count.old }
     {
         let made = kept.book.count() - self.opening - kept.total.steps();
@@ -125,15 +140,19 @@ impl HeapSlot {
         }
     }
 
-    /// Puts the heap home after a call of this stamp, and counts the call's steps. The seat has then seen the heap.
+    /// Puts the heap home after a call of this stamp, and counts the call's steps. The seat has
+    /// then seen the heap.
     pub(crate) fn end(&self, mut held: Held<LockedHeap>, count: &mut Count) -> Seat<LockedHeap>
         requires lock { held_lock held ≡ id_of self.now.lock }
         requires own { tally.count_table count.old ≡ tally.id_of self.now.tally }
         requires worked { IfSome (given held) (IsWorkedOn self.now (value_of held)) }
         ensures lock { lock_of result ≡ id_of self.now.lock }
         ensures table { tally.count_table count.new ≡ tally.count_table count.old }
-        ensures seen { HasSeen result (λ y. (y.book ≡ (value_of held).book) × IsOf self.now y × IfSome (given held) (λ found. HasTurn found y (logged result) (held_logged held))) }
-        ensures steps { tally.steps_of count.new + self.now.opening + tally.total_of (value_of held).total ≡ tally.steps_of count.old + (value_of held).book.count }
+        ensures seen { HasSeen result (λ y. (y.book ≡ (value_of held).book) × IsOf self.now y
+            × IfSome (given held) (λ found. HasTurn found y (logged result) (held_logged held))) }
+        ensures steps { tally.steps_of count.new + self.now.opening
+            + tally.total_of (value_of held).total ≡ tally.steps_of count.old
+            + (value_of held).book.count }
     {
         held.was_given();
         self.count_up(held.value_mut(), count);

@@ -23,11 +23,12 @@ impl Holding {
 }
 
 impl Site {
-    /// Takes a heap's lock, if nobody holds it or waits for it, and shows its book, which was reached from what the pass
-    /// had seen. Other passes cannot work in the heap until it is released. It never waits, and takes no memory.
+    /// Takes a heap's lock, if nobody holds it or waits for it, and shows its book, which was
+    /// reached from what the pass had seen. Other passes cannot work in the heap until it is
+    /// released. It never waits, and takes no memory.
     ///
-    /// Or else the pass comes back as it was: `Worn` where the lock is at its last value, else `Busy`, where it has found that
-    /// somebody else had drawn the ticket which is served.
+    /// Or else the pass comes back as it was: `Worn` where the lock is at its last value, else
+    /// `Busy`, where it has found that somebody else had drawn the ticket which is served.
     pub fn hold(&self, mut pass: Pass, heap: u8) -> Result<Holding, (HoldFault, Pass)>
         requires pass { IsPassOf self.now pass }
         requires heap { heap < heaps_of self.now }
@@ -35,8 +36,10 @@ impl Site {
         ensures held { IfOk result (IsHeldBy pass heap) }
         ensures back { IfErr result (λ e. IsPassOf self.now e.1) }
         ensures same { IfErr result (λ e. IsSamePass pass e.1) }
-        ensures worn { IfErr result (λ e. (e.0 ≡ HoldFault.Worn) ↔ (last_ticket ≤ served_at e.1 heap)) }
-        ensures busy { IfErr result (λ e. e.0 ≡ HoldFault.Busy → served_at e.1 heap < reached_at e.1 heap) }
+        ensures worn { IfErr result (λ e. (e.0 ≡ HoldFault.Worn)
+            ↔ (last_ticket ≤ served_at e.1 heap)) }
+        ensures busy { IfErr result (λ e. e.0 ≡ HoldFault.Busy →
+            served_at e.1 heap < reached_at e.1 heap) }
     {
         let heap = usize::from(heap);
         let seat = self.take_seat(&mut pass, heap);
@@ -50,8 +53,8 @@ impl Site {
         }
     }
 
-    /// Puts a heap home that was held, with its book, its stamp and all its records as they were. The pass has then seen
-    /// that book. It takes no memory.
+    /// Puts a heap home that was held, with its book, its stamp and all its records as they were.
+    /// The pass has then seen that book. It takes no memory.
     pub fn release(&self, holding: Holding) -> Pass
         requires holding { IsHoldingOf self.now holding }
         ensures pass { IsPassOf self.now result }

@@ -91,7 +91,8 @@ impl Books for LockedHeap {
 
 /// The heap at the one place.
 fn heap_at(kept: &LockedHeap, _place: usize) -> &Shard
-    ensures { (book : Books) → slice_get (kept.now.book ∷ []) _place ≡ Some book → result.now ≡ record (state_of book) { rule = kept.now.book.rule } }
+    ensures { (book : Books) → slice_get (kept.now.book ∷ []) _place ≡ Some book →
+        result.now ≡ record (state_of book) { rule = kept.now.book.rule } }
 {
     kept.book.shard()
 }

@@ -113,9 +113,11 @@ fn book_at(holds: &LockedHeaps, place: usize) -> &Book
 
 /// The place of the book of a heap, which is one of these.
 fn place_of(holds: &LockedHeaps, heap: u8) -> usize
-    requires { (place : ℕ) × (book : Books) × (slice_get (books_of (helds_of holds.now)) place ≡ Some book) × (book.heap ≡ heap) }
+    requires { (place : ℕ) × (book : Books)
+        × (slice_get (books_of (helds_of holds.now)) place ≡ Some book) × (book.heap ≡ heap) }
     ensures inside { result < length (books_of (helds_of holds.now)) }
-    ensures heap { (book : Books) → slice_get (books_of (helds_of holds.now)) result ≡ Some book → book.heap ≡ heap }
+    ensures heap { (book : Books) → slice_get (books_of (helds_of holds.now)) result ≡ Some book →
+        book.heap ≡ heap }
 {
     for place in 0..holds.helds.as_slice().len() {
         if book_at(holds, place).shard().heap() == heap {
@@ -144,8 +146,8 @@ fn index_held(held: &mut Held<LockedHeap>, alloc: Global, key: &[u8])
     kept.book.index(alloc, key, MOST_SCANNED);
 }
 
-/// Makes a site's next operation of an act in a heap that is held, which is the member's, and answers whether the
-/// member stood before. Nothing has changed after an error.
+/// Makes a site's next operation of an act in a heap that is held, which is the member's, and
+/// answers whether the member stood before. Nothing has changed after an error.
 fn make_held(
     held: &mut Held<LockedHeap>,
     alloc: Global,
@@ -160,8 +162,12 @@ fn make_held(
     requires bounded { stamp ≤ LAST_COUNT }
     requires key { length key.now ≤ LONGEST }
     requires member { length member.now ≤ LONGEST }
-    ensures made { OnOk result ((value_of held.new).book ≡ made_in site stamp (record { key = key.now; member = member.now; act = act_of act }) (value_of held.old).book) }
-    ensures stood { IfOk result (λ stood. stood ≡ is_some (get (value_of held.old).book.state.members (key.now, member.now))) }
+    ensures made { OnOk result ((value_of held.new).book
+        ≡ made_in site stamp (record { key = key.now; member = member.now; act = act_of act })
+        (value_of held.old).book) }
+    ensures stood { IfOk result
+        (λ stood. stood ≡ is_some
+        (get (value_of held.old).book.state.members (key.now, member.now))) }
     ensures bounded { OnOk result (IsBoundedBook (value_of held.new).book) }
     ensures held { IsHeldOn held.old held.new }
     ensures worn { IsErrOf result Stopped.Worn ↔ (is_worn site (value_of held.old).book ≡ true) }

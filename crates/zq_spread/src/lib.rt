@@ -1,4 +1,5 @@
-//! A site of several heaps that threads share: each heap under a lock of its own, each thread with a pass of its own.
+//! A site of several heaps that threads share: each heap under a lock of its own, each thread with
+//! a pass of its own.
 #![tactic(auto)]
 
 mod answering;

@@ -2,7 +2,8 @@
 
 use zq_ticketlock::TryFault;
 
-/// The greatest stamp that was found so far, and whether the call may work: one that pops needs a member of its key.
+/// The greatest stamp that was found so far, and whether the call may work: one that pops needs a
+/// member of its key.
 #[derive(Clone, Copy)]
 pub(crate) struct LockScan {
     pub(crate) stamp: u64,

@@ -57,7 +57,8 @@ impl LockedHeap {
         requires bounded { stamp ≤ LAST_STAMP }
         requires of_heap { IsOfHeap (state_of self.old.book) op.now }
         ensures total { self.new.total ≡ self.old.total }
-        ensures worked { (a : Books) → IsWorked self.old.book a stamp [] → HasWorked (IsTaken stamp op.now result) self.new.book a stamp }
+        ensures worked { (a : Books) → IsWorked self.old.book a stamp [] →
+            HasWorked (IsTaken stamp op.now result) self.new.book a stamp }
     {
         self.book.take(alloc, stamp, op)
     }
@@ -74,7 +75,8 @@ impl LockedHeap {
         requires same_heap { IsSameHeap (state_of self.old.book) other.now }
         requires same_rule { self.old.book.rule ≡ other.now.rule }
         ensures total { self.new.total ≡ self.old.total }
-        ensures worked { (a : Books) → IsWorked self.old.book a stamp [] → HasWorked (IsMerged stamp other.now result) self.new.book a stamp }
+        ensures worked { (a : Books) → IsWorked self.old.book a stamp [] →
+            HasWorked (IsMerged stamp other.now result) self.new.book a stamp }
     {
         self.book.merge(alloc, stamp, other)
     }

@@ -22,7 +22,8 @@ impl Site {
     fn seat_out(&self, pass: &mut Pass, heap: usize) -> Seat<LockedHeap>
         requires seats { HasSeatsIn self.now (heap ∷ []) pass.old }
         requires heap { heap < heaps_of self.now }
-        ensures seat { (slot : Rooms) → slice_get self.now.slots.items heap ≡ Some slot → IsSeatOf slot (Some (Some result)) }
+        ensures seat { (slot : Rooms) → slice_get self.now.slots.items heap ≡ Some slot →
+            IsSeatOf slot (Some (Some result)) }
         ensures seen { seen result ≡ seen_at pass.old heap }
         ensures turns { logged result ≡ turns_at pass.old heap }
         ensures outside { IsSameOutside (heap ∷ []) pass.old pass.new }
@@ -37,7 +38,8 @@ impl Site {
     fn seat_in(&self, pass: &mut Pass, heap: usize, seat: Seat<LockedHeap>)
         requires number { length pass.old.seats.items ≡ heaps_of self.now }
         requires heap { heap < heaps_of self.now }
-        requires seat { (slot : Rooms) → slice_get self.now.slots.items heap ≡ Some slot → IsSeatOf slot (Some (Some seat)) }
+        requires seat { (slot : Rooms) → slice_get self.now.slots.items heap ≡ Some slot →
+            IsSeatOf slot (Some (Some seat)) }
         ensures seats { HasSeatsIn self.now (heap ∷ []) pass.new }
         ensures seen { seen_at pass.new heap ≡ seen seat }
         ensures turns { turns_at pass.new heap ≡ logged seat }
@@ -48,8 +50,8 @@ impl Site {
         pass.seats[heap] = Some(seat);
     }
 
-    /// Locks a heap, and waits for it. The pass has no seat there until the heap is put home. Where the lock is exhausted
-    /// the pass has its seat again.
+    /// Locks a heap, and waits for it. The pass has no seat there until the heap is put home. Where
+    /// the lock is exhausted the pass has its seat again.
     pub(crate) fn lock_in<R: Wait>(
         &self,
         rt: &R,
@@ -59,11 +61,13 @@ impl Site {
         requires seats { HasSeatsIn self.now (heap ∷ []) pass.old }
         requires heap { heap < heaps_of self.now }
         ensures held { IfOk result (IsHeldAt self.now heap) }
-        ensures follows { IfOk result (λ held. FollowsSeen Follows (value_of held) (seen_at pass.old heap)) }
+        ensures follows { IfOk result
+            (λ held. FollowsSeen Follows (value_of held) (seen_at pass.old heap)) }
         ensures turns { IfOk result (λ held. held_logged held ≡ turns_at pass.old heap) }
         ensures outside { IsSameOutside (heap ∷ []) pass.old pass.new }
         ensures back { OnErr result (AreBack self.now (heap ∷ []) pass.old pass.new) }
-        ensures why { IfErr result (λ stop. IsUnlocked stop (served_at pass.new heap) (reached_at pass.new heap)) }
+        ensures why { IfErr result
+            (λ stop. IsUnlocked stop (served_at pass.new heap) (reached_at pass.new heap)) }
         ensures waits { IsErrOf result Stop.Busy → ⊥ }
     {
         let seat = self.seat_out(pass, heap);
@@ -82,11 +86,13 @@ impl Site {
         requires seats { HasSeatsIn self.now (heap ∷ []) pass.old }
         requires heap { heap < heaps_of self.now }
         ensures held { IfOk result (IsHeldAt self.now heap) }
-        ensures follows { IfOk result (λ held. FollowsSeen Follows (value_of held) (seen_at pass.old heap)) }
+        ensures follows { IfOk result
+            (λ held. FollowsSeen Follows (value_of held) (seen_at pass.old heap)) }
         ensures turns { IfOk result (λ held. held_logged held ≡ turns_at pass.old heap) }
         ensures outside { IsSameOutside (heap ∷ []) pass.old pass.new }
         ensures back { OnErr result (AreBack self.now (heap ∷ []) pass.old pass.new) }
-        ensures why { IfErr result (λ stop. IsUnlocked stop (served_at pass.new heap) (reached_at pass.new heap)) }
+        ensures why { IfErr result
+            (λ stop. IsUnlocked stop (served_at pass.new heap) (reached_at pass.new heap)) }
     {
         let seat = self.seat_out(pass, heap);
         seat.has_seen();
@@ -106,7 +112,8 @@ impl Site {
         requires held { IsHeldAt self.now heap held }
         ensures seats { HasSeatsIn self.now (heap ∷ []) pass.new }
         ensures seen { seen_at pass.new heap ≡ Some (value_of held) }
-        ensures turn { HasTurn (value_of held) (value_of held) (turns_at pass.new heap) (held_logged held) }
+        ensures turn { HasTurn (value_of held) (value_of held) (turns_at pass.new heap)
+            (held_logged held) }
         ensures outside { IsSameOutside (heap ∷ []) pass.old pass.new }
     {
         let seat = self.slots[heap].lock.unlock(held);

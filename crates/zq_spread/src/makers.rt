@@ -49,11 +49,12 @@ fn empty_books(
 }
 
 impl Site {
-    /// A site of this number that has done nothing, of 2 to 16 heaps, with 1 to 128 passes. A score is the greatest of the
-    /// values. Keys and members are hashed from a fixed seed: where strangers choose them, take [`Site::new_ruled`] and a
-    /// seed that they do not know.
+    /// A site of this number that has done nothing, of 2 to 16 heaps, with 1 to 128 passes. A score
+    /// is the greatest of the values. Keys and members are hashed from a fixed seed: where
+    /// strangers choose them, take [`Site::new_ruled`] and a seed that they do not know.
     ///
-    /// `Bounds` where the number of heaps or of passes is another. Else `NoMemory` where memory was refused.
+    /// `Bounds` where the number of heaps or of passes is another. Else `NoMemory` where memory was
+    /// refused.
     pub fn new(
         alloc: Global,
         number: SiteNo,
@@ -61,7 +62,8 @@ impl Site {
         passes: usize,
     ) -> Result<(Site, Vec<Pass>), SiteFault>
         ensures bounds { IsErrOf result SiteFault.Bounds ↔ (IsInBounds heaps passes → ⊥) }
-        ensures made { IfOk result (λ made. (books : List Books) × AreEmptyBooks heaps Greatest books × IsMade number books passes made.0 made.1.items) }
+        ensures made { IfOk result (λ made. (books : List Books)
+            × AreEmptyBooks heaps Greatest books × IsMade number books passes made.0 made.1.items) }
     {
         Site::new_ruled(alloc, number, heaps, passes, Rule::High, Seeded::new(0))
     }
@@ -76,7 +78,9 @@ impl Site {
         hasher: Seeded,
     ) -> Result<(Site, Vec<Pass>), SiteFault>
         ensures bounds { IsErrOf result SiteFault.Bounds ↔ (IsInBounds heaps passes → ⊥) }
-        ensures made { IfOk result (λ made. (books : List Books) × AreEmptyBooks heaps (rule_of rule) books × IsMade number books passes made.0 made.1.items) }
+        ensures made { IfOk result (λ made. (books : List Books)
+            × AreEmptyBooks heaps (rule_of rule) books
+            × IsMade number books passes made.0 made.1.items) }
     {
         if !are_in_bounds(usize::from(heaps), passes) {
             return Err(SiteFault::Bounds);
@@ -90,11 +94,12 @@ impl Site {
         }
     }
 
-    /// A site of this number over these books, 2 to 16, with 1 to 128 passes. Each book is that of the heap of its place,
-    /// and all have one rule. The counts that they have are those that the site's tally begins with.
+    /// A site of this number over these books, 2 to 16, with 1 to 128 passes. Each book is that of
+    /// the heap of its place, and all have one rule. The counts that they have are those that the
+    /// site's tally begins with.
     ///
-    /// `Bounds` where the number of books or of passes is another. Else `NoMemory` where memory was refused. Both give the
-    /// books back.
+    /// `Bounds` where the number of books or of passes is another. Else `NoMemory` where memory was
+    /// refused. Both give the books back.
     pub fn of_books(
         alloc: Global,
         number: SiteNo,
@@ -102,7 +107,8 @@ impl Site {
         passes: usize,
     ) -> Result<(Site, Vec<Pass>), (SiteFault, Vec<Book>)>
         requires books { AreOfHeaps books.items }
-        ensures bounds { IsErrAnd result (λ e. e.0 ≡ SiteFault.Bounds) ↔ (IsInBounds (length books.items) passes → ⊥) }
+        ensures bounds { IsErrAnd result (λ e. e.0 ≡ SiteFault.Bounds)
+            ↔ (IsInBounds (length books.items) passes → ⊥) }
         ensures back { IfErr result (λ e. e.1.items ≡ books.items) }
         ensures made { IfOk result (λ made. IsMade number books.items passes made.0 made.1.items) }
     {

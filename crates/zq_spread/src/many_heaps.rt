@@ -26,8 +26,10 @@ impl LockScan {
     /// What is found with one heap more.
     fn with(self, kept: &LockedHeap, key: &[u8]) -> LockScan
         ensures stamp { result.stamp ≡ max self.stamp kept.now.book.stamp }
-        ensures enough { result.is_enough ≡ true → (self.is_enough ≡ true) ⊎ (1 ≤ length (queue_at (state_of kept.now.book) key.now)) }
-        ensures none { result.is_enough ≡ false → (self.is_enough ≡ false) × (length (queue_at (state_of kept.now.book) key.now) ≡ 0) }
+        ensures enough { result.is_enough ≡ true → (self.is_enough ≡ true)
+            ⊎ (1 ≤ length (queue_at (state_of kept.now.book) key.now)) }
+        ensures none { result.is_enough ≡ false → (self.is_enough ≡ false)
+            × (length (queue_at (state_of kept.now.book) key.now) ≡ 0) }
     {
         let book = &kept.book;
         LockScan {
@@ -57,8 +59,8 @@ impl LockScan {
 }
 
 impl Site {
-    /// Goes on with a heap, as the call went on in those after it: begins the call there too, and puts the heap onto the
-    /// stack, or puts it home.
+    /// Goes on with a heap, as the call went on in those after it: begins the call there too, and
+    /// puts the heap onto the stack, or puts it home.
     fn go_on(
         &self,
         pass: &mut Pass,
@@ -75,9 +77,13 @@ impl Site {
         requires last { IfOk begins (λ stamp. stamp ≤ LAST_STAMP) }
         ensures same { result ≡ begins }
         ensures outside { IsSameOutside (heap ∷ []) pass.old pass.new }
-        ensures begun { IfOk begins (λ stamp. HasPushed stamp held (helds_of holds.old) (helds_of holds.new)) }
+        ensures begun { IfOk begins
+            (λ stamp. HasPushed stamp held (helds_of holds.old) (helds_of holds.new)) }
         ensures left { OnOk begins (pass.new ≡ pass.old) }
-        ensures home { OnErr begins ((helds_of holds.new ≡ helds_of holds.old) × HasSeatsIn self.now (heap ∷ []) pass.new × (seen_at pass.new heap ≡ Some (value_of held)) × HasTurn (value_of held) (value_of held) (turns_at pass.new heap) (held_logged held)) }
+        ensures home { OnErr begins ((helds_of holds.new ≡ helds_of holds.old)
+            × HasSeatsIn self.now (heap ∷ []) pass.new
+            × (seen_at pass.new heap ≡ Some (value_of held))
+            × HasTurn (value_of held) (value_of held) (turns_at pass.new heap) (held_logged held)) }
         ensures stays { vec_capacity holds.new.helds ≡ vec_capacity holds.old.helds }
     {
         match begins {
@@ -92,8 +98,9 @@ impl Site {
         }
     }
 
-    /// Locks heaps, the lowest first, and begins a call in them once all are locked, at the stamp after the greatest that
-    /// was found: the tails are cut where they are long, and the stamps raised. Or else all are put home as they were.
+    /// Locks heaps, the lowest first, and begins a call in them once all are locked, at the stamp
+    /// after the greatest that was found: the tails are cut where they are long, and the stamps
+    /// raised. Or else all are put home as they were.
     pub(crate) fn begin_all<R: Wait>(
         &self,
         rt: &R,
@@ -108,9 +115,12 @@ impl Site {
         requires empty { helds_of holds.old ≡ [] }
         requires slot { length heaps.now ≤ vec_capacity holds.old.helds }
         ensures outside { IsSameOutside heaps.now pass.old pass.new }
-        ensures begun { IfOk result (λ stamp. HasBegun self.now pass.old heaps.now key.now scan stamp (helds_of holds.new)) }
+        ensures begun { IfOk result
+            (λ stamp. HasBegun self.now pass.old heaps.now key.now scan stamp
+            (helds_of holds.new)) }
         ensures back { OnErr result (AreBack self.now heaps.now pass.old pass.new) }
-        ensures why { IfErr result (IsStopOf scan.stamp scan.is_enough heaps.now key.now pass.old pass.new) }
+        ensures why { IfErr result
+            (IsStopOf scan.stamp scan.is_enough heaps.now key.now pass.old pass.new) }
         ensures waits { IsErrOf result Stop.Busy → ⊥ }
         ensures none { OnErr result (helds_of holds.new ≡ []) }
         ensures stays { vec_capacity holds.new.helds ≡ vec_capacity holds.old.helds }
@@ -139,9 +149,12 @@ impl Site {
         requires empty { helds_of holds.old ≡ [] }
         requires slot { length heaps.now ≤ vec_capacity holds.old.helds }
         ensures outside { IsSameOutside heaps.now pass.old pass.new }
-        ensures begun { IfOk result (λ stamp. HasBegun self.now pass.old heaps.now key.now scan stamp (helds_of holds.new)) }
+        ensures begun { IfOk result
+            (λ stamp. HasBegun self.now pass.old heaps.now key.now scan stamp
+            (helds_of holds.new)) }
         ensures back { OnErr result (AreBack self.now heaps.now pass.old pass.new) }
-        ensures why { IfErr result (IsStopOf scan.stamp scan.is_enough heaps.now key.now pass.old pass.new) }
+        ensures why { IfErr result
+            (IsStopOf scan.stamp scan.is_enough heaps.now key.now pass.old pass.new) }
         ensures none { OnErr result (helds_of holds.new ≡ []) }
         ensures stays { vec_capacity holds.new.helds ≡ vec_capacity holds.old.helds }
     {
@@ -164,7 +177,9 @@ impl Site {
         ensures pass { IsPassOf self.now pass.new }
         ensures stamp { pass.new.stamp ≡ stamp }
         ensures ended { HasEndedIn pass.old pass.new heaps.now (helds_of holds.old) }
-        ensures others { (k : ℕ) → (IsIn k heaps.now → ⊥) → (seen_at pass.new k ≡ seen_at pass.old k) × (steps_at pass.new k ≡ steps_at pass.old k) × (turns_at pass.new k ≡ turns_at pass.old k) }
+        ensures others { (k : ℕ) → (IsIn k heaps.now → ⊥) →
+            (seen_at pass.new k ≡ seen_at pass.old k) × (steps_at pass.new k ≡ steps_at pass.old k)
+            × (turns_at pass.new k ≡ turns_at pass.old k) }
         ensures empty { helds_of holds.new ≡ [] }
     {
         let Some((first, others)) = heaps.split_first() else {

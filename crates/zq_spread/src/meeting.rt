@@ -17,7 +17,8 @@ use std::sync::Wait;
 use zq_ticketlock::{Seat, Worn};
 
 impl HeapSlot {
-    /// Locks the heap with the first seat after both have met, and unlocks it. Both seats come back in either case.
+    /// Locks the heap with the first seat after both have met, and unlocks it. Both seats come back
+    /// in either case.
     fn meet<R: Wait>(
         &self,
         rt: &R,
@@ -26,12 +27,18 @@ impl HeapSlot {
     ) -> Result<(Seat<LockedHeap>, Seat<LockedHeap>), (Seat<LockedHeap>, Seat<LockedHeap>)>
         requires first { IsSeatOf self.now (Some (Some first)) }
         requires second { IsSeatOf self.now (Some (Some second)) }
-        ensures seats { IfOk result (λ seats. IsSeatOf self.now (Some (Some seats.0)) × IsSeatOf self.now (Some (Some seats.1))) }
-        ensures met { IfOk result (λ seats. HaveMet (seen first) (seen second) (seen seats.0) (seen seats.1)) }
-        ensures left { IfOk result (λ seats. HaveLeft (logged first) (logged second) (logged seats.0) (logged seats.1)) }
-        ensures worn_seats { IfErr result (λ seats. IsSeatOf self.now (Some (Some seats.0)) × IsSeatOf self.now (Some (Some seats.1))) }
-        ensures worn { IfErr result (λ seats. HaveParted (seen first) (seen second) (seen seats.0) (seen seats.1)) }
-        ensures worn_left { IfErr result (λ seats. HaveLeft (logged first) (logged second) (logged seats.0) (logged seats.1)) }
+        ensures seats { IfOk result (λ seats. IsSeatOf self.now (Some (Some seats.0))
+            × IsSeatOf self.now (Some (Some seats.1))) }
+        ensures met { IfOk result
+            (λ seats. HaveMet (seen first) (seen second) (seen seats.0) (seen seats.1)) }
+        ensures left { IfOk result
+            (λ seats. HaveLeft (logged first) (logged second) (logged seats.0) (logged seats.1)) }
+        ensures worn_seats { IfErr result (λ seats. IsSeatOf self.now (Some (Some seats.0))
+            × IsSeatOf self.now (Some (Some seats.1))) }
+        ensures worn { IfErr result
+            (λ seats. HaveParted (seen first) (seen second) (seen seats.0) (seen seats.1)) }
+        ensures worn_left { IfErr result
+            (λ seats. HaveLeft (logged first) (logged second) (logged seats.0) (logged seats.1)) }
         ensures last { IfErr result (λ seats. last_ticket ≤ reached seats.0) }
     {
         first.has_seen();
@@ -44,9 +51,9 @@ impl HeapSlot {
 }
 
 impl Site {
-    /// Lets two passes meet in a heap: the first then has seen what either had seen there. No image, book or stamp has
-    /// changed: the heap is let go as it was given. `Worn` where the heap's lock is at its last ticket, which the first pass
-    /// has then found.
+    /// Lets two passes meet in a heap: the first then has seen what either had seen there. No
+    /// image, book or stamp has changed: the heap is let go as it was given. `Worn` where the
+    /// heap's lock is at its last ticket, which the first pass has then found.
     pub fn meet<R: Wait>(
         &self,
         rt: &R,
@@ -59,9 +66,14 @@ impl Site {
         requires heap { heap < length self.now.slots.items }
         ensures first { IsPassOf self.now first.new × IsSameBut heap first.old first.new }
         ensures second { IsPassOf self.now second.new × IsSameBut heap second.old second.new }
-        ensures met { OnOk result (HaveMet (seen_at first.old heap) (seen_at second.old heap) (seen_at first.new heap) (seen_at second.new heap)) }
-        ensures worn { OnErr result (HaveParted (seen_at first.old heap) (seen_at second.old heap) (seen_at first.new heap) (seen_at second.new heap)) }
-        ensures left { HaveLeft (turns_at first.old heap) (turns_at second.old heap) (turns_at first.new heap) (turns_at second.new heap) }
+        ensures met { OnOk result
+            (HaveMet (seen_at first.old heap) (seen_at second.old heap) (seen_at first.new heap)
+            (seen_at second.new heap)) }
+        ensures worn { OnErr result
+            (HaveParted (seen_at first.old heap) (seen_at second.old heap) (seen_at first.new heap)
+            (seen_at second.new heap)) }
+        ensures left { HaveLeft (turns_at first.old heap) (turns_at second.old heap)
+            (turns_at first.new heap) (turns_at second.new heap) }
         ensures last { OnErr result (last_ticket ≤ reached_at first.new heap) }
     {
         let heap = usize::from(heap);

@@ -14,13 +14,14 @@ use zq_journal::MergeFault;
 use zq_shard::Shard;
 
 impl Site {
-    /// Takes all that another site's heap has. No record is left there, since a peer that lacks any of it needs the whole
-    /// state.
+    /// Takes all that another site's heap has. No record is left there, since a peer that lacks any
+    /// of it needs the whole state.
     ///
-    /// `WrongHeap` where the heap is one of another number of heaps, else `WrongRule` where its rule is another: then no
-    /// lock is taken. Else `Worn` where the heap's lock or the stamp is at its last value, and then no image, book or stamp
-    /// has changed. Else the call stands at its stamp, and is refused with `Worn` where the book's count is at its last
-    /// value, or with `NoMemory`; then the image is as it was.
+    /// `WrongHeap` where the heap is one of another number of heaps, else `WrongRule` where its
+    /// rule is another: then no lock is taken. Else `Worn` where the heap's lock or the stamp is at
+    /// its last value, and then no image, book or stamp has changed. Else the call stands at its
+    /// stamp, and is refused with `Worn` where the book's count is at its last value, or with
+    /// `NoMemory`; then the image is as it was.
     pub fn merge<R: Wait>(
         &self,
         rt: &R,
@@ -30,11 +31,16 @@ impl Site {
     ) -> Result<(), MergeFault>
         requires pass { IsPassOf self.now pass.old }
         ensures pass { IsPassOf self.now pass.new }
-        ensures wrong_heap { IsErrOf result MergeFault.WrongHeap ↔ (other.now.heaps ≢ heaps_of self.now) }
-        ensures wrong_rule { IsErrOf result MergeFault.WrongRule ↔ ((other.now.heaps ≡ heaps_of self.now) × (other.now.rule ≢ rule_of self.now.rule)) }
+        ensures wrong_heap { IsErrOf result MergeFault.WrongHeap
+            ↔ (other.now.heaps ≢ heaps_of self.now) }
+        ensures wrong_rule { IsErrOf result MergeFault.WrongRule
+            ↔ ((other.now.heaps ≡ heaps_of self.now) × (other.now.rule ≢ rule_of self.now.rule)) }
         ensures unlocked { (IsLikeSite self.now other.now → ⊥) → pass.new ≡ pass.old }
         ensures called { IsLikeSite self.now other.now →
-            IsCall (IsMerged pass.new.stamp other.now result) pass.old pass.new (other.now.heap ∷ []) ⊎ (IsErrOf result MergeFault.Worn × IsWornIn (other.now.heap ∷ []) pass.old pass.new) }
+            IsCall (IsMerged pass.new.stamp other.now result) pass.old pass.new
+            (other.now.heap ∷ [])
+            ⊎ (IsErrOf result MergeFault.Worn
+            × IsWornIn (other.now.heap ∷ []) pass.old pass.new) }
     {
         if usize::from(other.heaps()) != self.slots.len() {
             return Err(MergeFault::WrongHeap);

@@ -39,13 +39,14 @@ impl Site {
         self.rule
     }
 
-    /// Which operations of a heap the site has taken. `Worn` where the heap's lock or the stamp is at its last value, and
-    /// then no image, book or stamp has changed.
+    /// Which operations of a heap the site has taken. `Worn` where the heap's lock or the stamp is
+    /// at its last value, and then no image, book or stamp has changed.
     pub fn vector<R: Wait>(&self, rt: &R, pass: &mut Pass, heap: u8) -> Result<Vector, Worn>
         requires pass { IsPassOf self.now pass.old }
         requires heap { heap < heaps_of self.now }
         ensures pass { IsPassOf self.now pass.new }
-        ensures called { IfOk result (λ vector. IsCall (IsShown vector) pass.old pass.new (heap ∷ [])) }
+        ensures called { IfOk result
+            (λ vector. IsCall (IsShown vector) pass.old pass.new (heap ∷ [])) }
         ensures refused { OnErr result (IsWornIn (heap ∷ []) pass.old pass.new) }
     {
         let heap = usize::from(heap);
@@ -58,9 +59,9 @@ impl Site {
         Ok(vector)
     }
 
-    /// A copy of a heap, as it is at the call's stamp. `Worn` where the heap's lock or the stamp is at its last value, and
-    /// then no image, book or stamp has changed. Else `NoMemory` where the copy was refused: then the call stands at its
-    /// stamp, and has made no step.
+    /// A copy of a heap, as it is at the call's stamp. `Worn` where the heap's lock or the stamp is
+    /// at its last value, and then no image, book or stamp has changed. Else `NoMemory` where the
+    /// copy was refused: then the call stands at its stamp, and has made no step.
     pub fn state<R: Wait>(
         &self,
         rt: &R,
@@ -71,7 +72,8 @@ impl Site {
         requires pass { IsPassOf self.now pass.old }
         requires heap { heap < heaps_of self.now }
         ensures pass { IsPassOf self.now pass.new }
-        ensures called { IsCall (IsCopied result) pass.old pass.new (heap ∷ []) ⊎ (IsErrOf result ReadFault.Worn × IsWornIn (heap ∷ []) pass.old pass.new) }
+        ensures called { IsCall (IsCopied result) pass.old pass.new (heap ∷ [])
+            ⊎ (IsErrOf result ReadFault.Worn × IsWornIn (heap ∷ []) pass.old pass.new) }
     {
         let heap = usize::from(heap);
         let Ok((held, stamp)) = self.begin_in(rt, pass, heap) else {
@@ -83,12 +85,14 @@ impl Site {
         copy
     }
 
-    /// What a peer of this vector lacks of a heap, as its book says: `TooOld` exactly where the vector does not cover that
-    /// of the book's base, else those operations of the records that the vector lacks, oldest first. The book is the one
-    /// that the pass has then seen, after the cut with which a call begins.
+    /// What a peer of this vector lacks of a heap, as its book says: `TooOld` exactly where the
+    /// vector does not cover that of the book's base, else those operations of the records that the
+    /// vector lacks, oldest first. The book is the one that the pass has then seen, after the cut
+    /// with which a call begins.
     ///
-    /// `Worn` where the heap's lock or the stamp is at its last value, and then no image, book or stamp has changed. Else
-    /// `NoMemory` where a growth was refused: then the call stands at its stamp, and has made no step.
+    /// `Worn` where the heap's lock or the stamp is at its last value, and then no image, book or
+    /// stamp has changed. Else `NoMemory` where a growth was refused: then the call stands at its
+    /// stamp, and has made no step.
     pub fn since<R: Wait>(
         &self,
         rt: &R,
@@ -100,8 +104,10 @@ impl Site {
         requires pass { IsPassOf self.now pass.old }
         requires heap { heap < heaps_of self.now }
         ensures pass { IsPassOf self.now pass.new }
-        ensures called { IsCall (IsAsked result) pass.old pass.new (heap ∷ []) ⊎ (IsErrOf result ReadFault.Worn × IsWornIn (heap ∷ []) pass.old pass.new) }
-        ensures answered { IfOk result (λ since. HasSeenBook pass.new heap (IsSince vector.now since)) }
+        ensures called { IsCall (IsAsked result) pass.old pass.new (heap ∷ [])
+            ⊎ (IsErrOf result ReadFault.Worn × IsWornIn (heap ∷ []) pass.old pass.new) }
+        ensures answered { IfOk result
+            (λ since. HasSeenBook pass.new heap (IsSince vector.now since)) }
     {
         let heap = usize::from(heap);
         let Ok((held, stamp)) = self.begin_in(rt, pass, heap) else {

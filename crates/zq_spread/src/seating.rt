@@ -18,7 +18,8 @@ impl Site {
         requires pass { IsPassOf self.now pass.old }
         requires heap { heap < length self.now.slots.items }
         ensures pass { IsPassBut self.now (heap ∷ []) pass.new }
-        ensures seat { (slot : HeapSlot) → slice_get self.now.slots.items heap ≡ Some slot → IsSeatOf slot (Some (Some result)) }
+        ensures seat { (slot : HeapSlot) → slice_get self.now.slots.items heap ≡ Some slot →
+            IsSeatOf slot (Some (Some result)) }
         ensures seen { seen result ≡ seen_at pass.old heap }
         ensures turns { logged result ≡ turns_at pass.old heap }
         ensures stays { IsSameBut heap pass.old pass.new }
@@ -34,7 +35,8 @@ impl Site {
     pub(crate) fn put_seat(&self, pass: &mut Pass, heap: usize, seat: Seat<LockedHeap>)
         requires pass { IsPassBut self.now (heap ∷ []) pass.old }
         requires heap { heap < length self.now.slots.items }
-        requires seat { (slot : HeapSlot) → slice_get self.now.slots.items heap ≡ Some slot → IsSeatOf slot (Some (Some seat)) }
+        requires seat { (slot : HeapSlot) → slice_get self.now.slots.items heap ≡ Some slot →
+            IsSeatOf slot (Some (Some seat)) }
         ensures pass { IsPassOf self.now pass.new }
         ensures seen { seen_at pass.new heap ≡ seen seat }
         ensures turns { turns_at pass.new heap ≡ logged seat }

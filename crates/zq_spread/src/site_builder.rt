@@ -1,4 +1,5 @@
-//! The memory of a site. It is taken before any book is moved, so that want of memory can give the books back.
+//! The memory of a site. It is taken before any book is moved, so that want of memory can give the
+//! books back.
 use crate::empty_slot::EmptySlot;
 use crate::heap_slot::HeapSlot;
 use crate::pass::Pass;

@@ -24,9 +24,10 @@ impl Site {
 
     /// Takes an operation of another site where it is New; what is Known or Early changes nothing.
     ///
-    /// `WrongHeap` where the number of heaps or the member's heap is another: then no lock is taken. Else `Worn` where the
-    /// heap's lock or the stamp is at its last value, and then no image, book or stamp has changed. Else a New one is
-    /// refused with `Worn` where the book's count is at its last value, or with `NoMemory`.
+    /// `WrongHeap` where the number of heaps or the member's heap is another: then no lock is
+    /// taken. Else `Worn` where the heap's lock or the stamp is at its last value, and then no
+    /// image, book or stamp has changed. Else a New one is refused with `Worn` where the book's
+    /// count is at its last value, or with `NoMemory`.
     pub fn take<R: Wait>(
         &self,
         rt: &R,
@@ -39,7 +40,10 @@ impl Site {
         ensures wrong_heap { IsErrOf result TakeFault.WrongHeap ↔ (IsOfSite self.now op.now → ⊥) }
         ensures unlocked { (IsOfSite self.now op.now → ⊥) → pass.new ≡ pass.old }
         ensures called { IsOfSite self.now op.now →
-            IsCall (IsTaken pass.new.stamp op.now result) pass.old pass.new (op.now.operation.heap ∷ []) ⊎ (IsErrOf result TakeFault.Worn × IsWornIn (op.now.operation.heap ∷ []) pass.old pass.new) }
+            IsCall (IsTaken pass.new.stamp op.now result) pass.old pass.new
+            (op.now.operation.heap ∷ [])
+            ⊎ (IsErrOf result TakeFault.Worn
+            × IsWornIn (op.now.operation.heap ∷ []) pass.old pass.new) }
     {
         if !self.has_place(op) {
             return Err(TakeFault::WrongHeap);

@@ -19,9 +19,11 @@ impl HeapSlot {
     fn gather(&self, total: &mut Total, first: &mut Pass, others: &mut [Pass], heap: usize)
         requires own { total_table total.old ≡ id_of self.now.tally }
         requires first { IsCountOf self.now (slice_get first.old.counts.items heap) }
-        requires others { All (λ pass. IsCountOf self.now (slice_get pass.counts.items heap)) others.old }
+        requires others { All (λ pass. IsCountOf self.now (slice_get pass.counts.items heap))
+            others.old }
         requires all { 1 + length others.old + parts_of total.old ≡ ALL_PARTS }
-        ensures sum { total_of total.old ≡ steps_at first.old heap + steps_of_all heap others.old + sum (passes_of total.old) }
+        ensures sum { total_of total.old ≡ steps_at first.old heap + steps_of_all heap others.old
+            + sum (passes_of total.old) }
         ensures first { IsCountBack self.now heap first.old first.new }
         ensures others { AllZip (IsCountBack self.now heap) others.old others.new }
         ensures stays { IsSameTotal total.new total.old }
@@ -40,9 +42,11 @@ impl HeapSlot {
 }
 
 impl Site {
-    /// Makes sure that what was recorded and merged in a heap is what these passes have made there. The first pass then has
-    /// seen a book there whose count is that of the opening book with the steps of all of them. No image, book or stamp has
-    /// changed: the book is let go as it was given. `Worn` where the heap's lock is at its last ticket, which the first pass has then found.
+    /// Makes sure that what was recorded and merged in a heap is what these passes have made there.
+    /// The first pass then has seen a book there whose count is that of the opening book with the
+    /// steps of all of them. No image, book or stamp has changed: the book is let go as it was
+    /// given. `Worn` where the heap's lock is at its last ticket, which the first pass has then
+    /// found.
     pub fn tally<R: Wait>(&self, rt: &R, passes: &mut [Pass], heap: u8) -> Result<(), Worn>
         requires all { AreAllPasses self.now passes.old }
         requires heap { heap < length self.now.slots.items }

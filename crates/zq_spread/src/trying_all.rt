@@ -38,13 +38,17 @@ impl Site {
         requires pass { IsPassOf self.now pass.old }
         requires some { 0 < length heaps.now }
         requires heaps { AreHeapsOf self.now heaps.now }
-        requires homes { (books : List Books) → AreBooksAt self.now heaps.now books → HasBooks command.now (lending_of books) }
+        requires homes { (books : List Books) → AreBooksAt self.now heaps.now books →
+            HasBooks command.now (lending_of books) }
         requires empty { helds_of holds.old ≡ [] }
         requires slot { length heaps.now ≤ vec_capacity holds.old.helds }
         ensures pass { IsPassOf self.now pass.new }
-        ensures called { IfOk result (λ reply. HasAnswered self.now command.now key.now is_enough (reply_bytes reply) pass.old pass.new heaps.now) }
+        ensures called { IfOk result
+            (λ reply. HasAnswered self.now command.now key.now is_enough
+            (reply_bytes reply) pass.old pass.new heaps.now) }
         ensures stopped { OnErr result (IsStopped pass.old pass.new) }
-        ensures why { IfErr result (IsStopOf pass.old.stamp is_enough heaps.now key.now pass.old pass.new) }
+        ensures why { IfErr result
+            (IsStopOf pass.old.stamp is_enough heaps.now key.now pass.old pass.new) }
         ensures writable { IfOk result (λ reply. IsTrue (is_writable reply)) }
         ensures empty { helds_of holds.new ≡ [] }
         ensures stays { OnErr result (vec_capacity holds.new.helds ≡ vec_capacity holds.old.helds) }
@@ -71,7 +75,9 @@ impl Site {
         requires empty { helds_of holds.old ≡ [] }
         requires slot { heaps_of self.now ≤ vec_capacity holds.old.helds }
         ensures pass { IsPassOf self.now pass.new }
-        ensures called { IfOk result (λ reply. (IsCommand self.now command.now (reply_bytes reply) pass.old pass.new (all_heaps self.now) × HasHeldEach pass.old pass.new (all_heaps self.now))
+        ensures called { IfOk result
+            (λ reply. (IsCommand self.now command.now (reply_bytes reply) pass.old pass.new
+            (all_heaps self.now) × HasHeldEach pass.old pass.new (all_heaps self.now))
             ⊎ IsWornOut (all_heaps self.now) (reply_bytes reply) pass.old pass.new) }
         ensures busy { OnErr result (IsBusyIn (all_heaps self.now) pass.old pass.new) }
         ensures writable { IfOk result (λ reply. IsTrue (is_writable reply)) }
@@ -87,8 +93,8 @@ impl Site {
         }
     }
 
-    /// Runs ZPOPNEAR in two heaps that were drawn, the lower one first, where one of them has a member of the key, and
-    /// else in all heaps.
+    /// Runs ZPOPNEAR in two heaps that were drawn, the lower one first, where one of them has a
+    /// member of the key, and else in all heaps.
     fn try_answer_near(
         &self,
         alloc: Global,
@@ -106,7 +112,8 @@ impl Site {
         requires empty { helds_of holds.old ≡ [] }
         requires slot { heaps_of self.now ≤ vec_capacity holds.old.helds }
         ensures pass { IsPassOf self.now pass.new }
-        ensures called { IfOk result (λ reply. IsNear self.now command.now (reply_bytes reply) pass.old pass.new drawn.now) }
+        ensures called { IfOk result
+            (λ reply. IsNear self.now command.now (reply_bytes reply) pass.old pass.new drawn.now) }
         ensures busy { OnErr result (IsBusyIn (all_heaps self.now) pass.old pass.new) }
         ensures writable { IfOk result (λ reply. IsTrue (is_writable reply)) }
         ensures empty { helds_of holds.new ≡ [] }
@@ -119,8 +126,8 @@ impl Site {
         }
     }
 
-    /// Runs a command in all heaps, which it locks in rising order. Where memory to hold them was refused, it answers `OOM
-    /// after 0`, and no lock was taken.
+    /// Runs a command in all heaps, which it locks in rising order. Where memory to hold them was
+    /// refused, it answers `OOM after 0`, and no lock was taken.
     pub(crate) fn try_call_all(
         &self,
         alloc: Global,
@@ -129,7 +136,10 @@ impl Site {
     ) -> Result<Reply, Busy>
         requires pass { IsPassOf self.now pass.old }
         ensures pass { IsPassOf self.now pass.new }
-        ensures called { IfOk result (λ reply. IsCommand self.now command.now (reply_bytes reply) pass.old pass.new (all_heaps self.now) ⊎ IsTurnedAway (all_heaps self.now) (reply_bytes reply) pass.old pass.new) }
+        ensures called { IfOk result
+            (λ reply. IsCommand self.now command.now (reply_bytes reply) pass.old pass.new
+            (all_heaps self.now) ⊎ IsTurnedAway (all_heaps self.now)
+            (reply_bytes reply) pass.old pass.new) }
         ensures busy { OnErr result (IsBusyIn (all_heaps self.now) pass.old pass.new) }
         ensures writable { IfOk result (λ reply. IsTrue (is_writable reply)) }
     {
@@ -154,7 +164,9 @@ impl Site {
         requires pass { IsPassOf self.now pass.old }
         requires near { command.now ≡ Zpopnear key.now }
         ensures pass { IsPassOf self.now pass.new }
-        ensures called { IfOk result (λ reply. IsNear self.now command.now (reply_bytes reply) pass.old pass.new (drawn (heaps_of self.now) w1 w2)) }
+        ensures called { IfOk result
+            (λ reply. IsNear self.now command.now (reply_bytes reply) pass.old pass.new
+            (drawn (heaps_of self.now) w1 w2)) }
         ensures busy { OnErr result (IsBusyIn (all_heaps self.now) pass.old pass.new) }
         ensures writable { IfOk result (λ reply. IsTrue (is_writable reply)) }
     {

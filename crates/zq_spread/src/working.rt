@@ -35,11 +35,16 @@ impl Site {
         requires heaps { AreHeapsOf self.now heaps.now }
         requires pass { IsPassBut self.now heaps.now pass.old }
         requires last { stamp ≤ LAST_STAMP }
-        requires begun { (before : Passes) × (found : List Value) × AreBegunAt self.now before stamp heaps.now (helds_of holds.old) found }
+        requires begun { (before : Passes) × (found : List Value)
+            × AreBegunAt self.now before stamp heaps.now (helds_of holds.old) found }
         requires homes { HasBooks command.now (lending_of (books_of (helds_of holds.old))) }
         ensures pass { IsPassOf self.now pass.new }
-        ensures called { (before : Passes) (found : List Value) → AreBegunAt self.now before stamp heaps.now (helds_of holds.old) found → IsSameOutside heaps.now before pass.old →
-            stamp ≡ max before.stamp (greatest_stamp found) + 1 → IsCommandOver self.now command.now (reply_bytes result) before pass.new heaps.now found }
+        ensures called { (before : Passes) (found : List Value) →
+            AreBegunAt self.now before stamp heaps.now (helds_of holds.old) found →
+            IsSameOutside heaps.now before pass.old →
+            stamp ≡ max before.stamp (greatest_stamp found) + 1 →
+            IsCommandOver self.now command.now
+            (reply_bytes result) before pass.new heaps.now found }
         ensures writable { IsTrue (is_writable result) }
         ensures empty { helds_of holds.new ≡ [] }
     {

@@ -30,7 +30,8 @@ no_steps v = view (0 ∷ []) 0 None
 abbrev pub one_less : View → View
 one_less v = view v.steps (v.kept - 1) v.total
 
--- the total is no less than the steps of these passes, and it is their sum where no part is elsewhere
+-- the total is no less than the steps of these passes, and it is their sum where no part is
+-- elsewhere
 abbrev pub IsBound : View → ℕ → Type 0
 IsBound v total = (sum v.steps ≤ total) × (parts v ≡ ALL_PARTS → total ≡ sum v.steps)
 

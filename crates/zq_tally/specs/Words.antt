@@ -41,7 +41,8 @@ parts_of total = parts total.place.me.0
 -- nothing that clauses say of a total has changed
 abbrev pub IsSameTotal : Total → Total → Type 0
 IsSameTotal new old =
-    (total_table new ≡ total_table old) × (total_of new ≡ total_of old) × (kept_of new ≡ kept_of old) × (passes_of new ≡ passes_of old)
+    (total_table new ≡ total_table old) × (total_of new ≡ total_of old)
+    × (kept_of new ≡ kept_of old) × (passes_of new ≡ passes_of old)
 
 -- all these counts are of one table
 abbrev pub AreOf : TableId → List Count → Type 0
@@ -53,4 +54,5 @@ all_steps counts = sum (map steps_of counts)
 
 -- nothing that clauses say of these counts has changed
 abbrev pub AreSameCounts : List Count → List Count → Type 0
-AreSameCounts new old = (map steps_of new ≡ map steps_of old) × (map count_table new ≡ map count_table old)
+AreSameCounts new old = (map steps_of new ≡ map steps_of old)
+    × (map count_table new ≡ map count_table old)

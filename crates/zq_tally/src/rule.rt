@@ -50,7 +50,8 @@ impl Split<View> for First {
     ghost right = { first_of };
 }
 
-/// The new seat gets the pass that was joined last, which has made one more step, and the total counts it.
+/// The new seat gets the pass that was joined last, which has made one more step, and the total
+/// counts it.
 pub struct Advance;
 
 impl Split<View> for Advance {

@@ -30,7 +30,8 @@ impl Tally {
         ensures table { IfOk result (λ made. total_table made.1 ≡ id_of made.0) }
         ensures zero { IfOk result (λ made. total_of made.1 ≡ 0) }
         ensures number { PARTS ≡ ALL_PARTS }
-        ensures parts { IfOk result (λ made. (kept_of made.1 ≡ ALL_PARTS) × (passes_of made.1 ≡ [])) }
+        ensures parts { IfOk result (λ made. (kept_of made.1 ≡ ALL_PARTS)
+            × (passes_of made.1 ≡ [])) }
     {
         match Table::of_words(alloc, &[0], &()) {
             Ok((table, place)) => Ok((Tally { table }, Total { place, steps: 0 })),

@@ -23,10 +23,12 @@ fn opened(alloc: Global) -> Result<(Tally, Total), Fail>
 /// As many passes as a table has.
 fn all_passes(alloc: Global, tally: &Tally, total: &mut Total) -> Result<Vec<Count>, Fail>
     requires own { total_table total.old ≡ id_of tally.now }
-    requires new { (kept_of total.old ≡ ALL_PARTS) × (passes_of total.old ≡ []) × (total_of total.old ≡ 0) }
+    requires new { (kept_of total.old ≡ ALL_PARTS) × (passes_of total.old ≡ [])
+        × (total_of total.old ≡ 0) }
     ensures table { total_table total.new ≡ id_of tally.now }
     ensures own { IfOk result (λ counts. AreOf (id_of tally.now) counts.items) }
-    ensures all { IfOk result (λ counts. (vec_len counts ≡ 128) × (kept_of total.new ≡ 1) × (passes_of total.new ≡ []) × (total_of total.new ≡ 0)) }
+    ensures all { IfOk result (λ counts. (vec_len counts ≡ 128) × (kept_of total.new ≡ 1)
+        × (passes_of total.new ≡ []) × (total_of total.new ≡ 0)) }
 {
     let mut counts = Vec::with_capacity(alloc, 128)?;
     while counts.len() < 128 {
@@ -40,7 +42,8 @@ fn walk(tally: &Tally, total: &mut Total, counts: &mut [Count], passes: &[u8])
     requires own { (total_table total.old ≡ id_of tally.now) × AreOf (id_of tally.now) counts.old }
     requires short { (total_of total.old ≡ 0) × (length passes.now ≤ 1000) }
     ensures own { (total_table total.new ≡ id_of tally.now) × AreOf (id_of tally.now) counts.new }
-    ensures stays { (kept_of total.new ≡ kept_of total.old) × (passes_of total.new ≡ passes_of total.old) }
+    ensures stays { (kept_of total.new ≡ kept_of total.old)
+        × (passes_of total.new ≡ passes_of total.old) }
 {
     for pass in passes {
         let place = usize::from(*pass);

@@ -4,7 +4,8 @@ ghost use Rattle.std.specs.Prelude.{◌≡◌, Some, []};
 
 use crate::view::View;
 
-/// How many steps all passes of a table have made, with the parts that no pass has. Counts can be joined in it.
+/// How many steps all passes of a table have made, with the parts that no pass has. Counts can be
+/// joined in it.
 #[derive(Drop)]
 pub struct Total {
     pub(crate) place: atomic_table::Seat<(), View>,

@@ -1,4 +1,5 @@
--- The rule of a ticket lock. Word 0 is `serving`, the ticket that is served, and word 1 is `next`, the ticket that is drawn next. Slot 0 is the value's.
+-- The rule of a ticket lock. Word 0 is `serving`, the ticket that is served, and word 1 is `next`,
+-- the ticket that is drawn next. Slot 0 is the value's.
 use Rattle.std.specs.Prelude.{◌≡◌, ℕ, ◌<◌, ◌≤◌, ◌⊎◌, Bool, true, false, Option, Some, None, List, [], ◌∷◌}
 use mathlib.Core.Option as maybe
 use lib.ListN.{get_elem?}
@@ -9,7 +10,9 @@ use Rattle.zq_ticketlock.specs.Views.{turns_by}
 use Rattle.zq_ticketlock.specs.declared.view.View.{View}
 use Rattle.zq_ticketlock.specs.declared.view.View.TheVariants.{Vacant, Idle, Met, Waiting, Holding, Spent}
 
--- Where a lock stands: the value at home, or the one with which the holder began; whether somebody holds it; which seat drew each ticket; the two words; the turns that the holder has had; the log of all turns
+-- Where a lock stands: the value at home, or the one with which the holder began; whether somebody
+-- holds it; which seat drew each ticket; the two words; the turns that the holder has had; the log
+-- of all turns
 pub record Standing (T : Type 0) : Type 0 where
   pub value : T
   pub out : Bool
@@ -41,9 +44,11 @@ module _ {T : Type 0} (holds : T → Type 0) (follows : T → T → Type 0) wher
   -- What a seat's view says is so. No two seats have one ticket, since each ticket has one owner
   abbrev pub Knows : Standing T → ℕ → View T → Type 0
   Knows at seat (Vacant n out) = ⊥
-  Knows at seat (Idle low reached x turns) = (low ≤ at.serving) × (reached ≤ at.next) × follows at.value x
+  Knows at seat (Idle low reached x turns) = (low ≤ at.serving) × (reached ≤ at.next)
+      × follows at.value x
   Knows at seat (Met low x y turns) = (low ≤ at.serving) × follows at.value x × follows at.value y
-  Knows at seat (Waiting n x turns) = (at.serving ≤ n) × (n < at.next) × (at.owner n ≡ seat) × follows at.value x
+  Knows at seat (Waiting n x turns) = (at.serving ≤ n) × (n < at.next) × (at.owner n ≡ seat)
+      × follows at.value x
   Knows at seat (Holding n x turns) =
       (n ≡ at.serving) × (n < at.next) × (at.owner n ≡ seat) × (at.out ≡ true) × (at.value ≡ x)
   Knows at seat Spent = Unit {0}
@@ -51,9 +56,12 @@ module _ {T : Type 0} (holds : T → Type 0) (follows : T → T → Type 0) wher
   pub record Stands (at : Standing T) (views : List (View T)) : Type 0 where
     pub order : at.serving ≤ at.next
     pub sound : holds at.value
-    pub held : at.out ≡ true → get_elem? views (at.owner at.serving) ≡ maybe.some (Holding at.serving at.value at.turns)
-    pub knows : (seat : ℕ) (view : View T) → get_elem? views seat ≡ maybe.some view → Knows at seat view
-    pub logged : (seat : ℕ) (view : View T) → get_elem? views seat ≡ maybe.some view → AreLogged at.log at.serving (turns_by view)
+    pub held : at.out ≡ true → get_elem? views (at.owner at.serving)
+        ≡ maybe.some (Holding at.serving at.value at.turns)
+    pub knows : (seat : ℕ) (view : View T) → get_elem? views seat ≡ maybe.some view →
+        Knows at seat view
+    pub logged : (seat : ℕ) (view : View T) → get_elem? views seat ≡ maybe.some view →
+        AreLogged at.log at.serving (turns_by view)
     pub chain : IsChain at.log at.serving at.value
     pub opened : at.log.first ≤ at.serving
 

@@ -23,11 +23,13 @@ module _ {T : Type 0} where
   abbrev pub turns_of : List (Entry T) → List (Turn T)
   turns_of entries = map (λ e. e.turn) entries
 
-  -- the holds of the seat, and of those from which it was split or joined, the latest first, each by its ticket
+  -- the holds of the seat, and of those from which it was split or joined, the latest first, each
+  -- by its ticket
   abbrev pub logged : Seat T → List (Entry T)
   logged seat = turns_by seat.place.me.0
 
-  -- the holds of the seat, and of those from which it was split or joined, the latest first: what was given and what was put home at each
+  -- the holds of the seat, and of those from which it was split or joined, the latest first: what
+  -- was given and what was put home at each
   abbrev pub turns : Seat T → List (Turn T)
   turns seat = turns_of (logged seat)
 

@@ -27,7 +27,8 @@ module _ {T : Type 0} where
 
   -- and once it has put this value home
   abbrev pub turns_with : T → View T → List (Entry T)
-  turns_with y (Holding n x turns) = record { ticket = n; turn = record { given = x; home = y } } ∷ turns
+  turns_with y (Holding n x turns) = record { ticket = n; turn = record { given = x; home = y } }
+      ∷ turns
   turns_with y view = turns_by view
 
   -- the number that an idle seat has last read in `serving`

@@ -9,7 +9,8 @@ use crate::errors::NoMemory;
 use std::alloc::{AllocFailed, Global};
 use std::marker::Model;
 
-/// A value in memory of its own: what moves is a pointer, however large the value is. Contracts see the value.
+/// A value in memory of its own: what moves is a pointer, however large the value is. Contracts see
+/// the value.
 #[derive(Drop)]
 pub struct Boxed<T> {
     room: Box<Option<T>>,

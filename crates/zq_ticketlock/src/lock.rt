@@ -23,12 +23,13 @@ pub(crate) const SERVING: usize = 0;
 /// The word that says which ticket is drawn next.
 pub(crate) const NEXT: usize = 1;
 
-/// A lock that serves its seats in the order in which they drew their tickets. Before it draws one, a thread may wait
-/// at the door, where no order is kept.
+/// A lock that serves its seats in the order in which they drew their tickets. Before it draws one,
+/// a thread may wait at the door, where no order is kept.
 #[derive(Drop)]
 pub struct TicketLock<T: Keeps> {
     pub(crate) table: Table<Option<Boxed<T>>, View<T>, u64, TicketOrder, Global>,
-    // How many threads with a ticket may be asleep. It saves a lock that nobody waits for the call that wakes.
+    // How many threads with a ticket may be asleep. It saves a lock that nobody waits for the call
+    // that wakes.
     pub(crate) sleepers: AtomicU64,
     // Where threads wait that have no ticket yet.
     pub(crate) door: Door,
@@ -40,7 +41,8 @@ impl<T: Keeps> TicketLock<T> {
     ghost use Rattle.zq_ticketlock.specs.Limits.{last_ticket};
     ghost use Rattle.zq_ticketlock.specs.Seats.{id_of, lock_of, seen, served, turns};
 
-    /// A lock over the value, with its first seat, which has seen the value. Where there is no memory, the value is given back.
+    /// A lock over the value, with its first seat, which has seen the value. Where there is no
+    /// memory, the value is given back.
     pub fn new(alloc: Global, value: T) -> Result<(TicketLock<T>, Seat<T>), (NoMemory, T)>
         requires { T.holds value }
         ensures lock { IfOk result (λ made. lock_of made.1 ≡ id_of made.0) }
@@ -52,7 +54,8 @@ impl<T: Keeps> TicketLock<T> {
         TicketLock::new_at(alloc, value, 0)
     }
 
-    /// The same, and the first ticket that is drawn has this number. At [`LAST_TICKET`] none is drawn.
+    /// The same, and the first ticket that is drawn has this number. At [`LAST_TICKET`] none is
+    /// drawn.
     pub fn new_at(
         alloc: Global,
         value: T,

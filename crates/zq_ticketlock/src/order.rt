@@ -1,4 +1,5 @@
-//! The rule of the lock's words, its slot and all seats, and what each step tells the seat that steps.
+//! The rule of the lock's words, its slot and all seats, and what each step tells the seat that
+//! steps.
 
 ghost use Rattle.std.specs.Prelude.{false};
 ghost use Rattle.zq_ticketlock.specs.Order.{IsRuled};

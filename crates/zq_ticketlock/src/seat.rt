@@ -7,14 +7,16 @@ ghost use Rattle.zq_ticketlock.specs.Views.{is_idle, is_waiting};
 use crate::boxed::Boxed;
 use crate::view::View;
 
-/// A token of no bytes with which a thread uses a lock. It remembers the last value that it saw under the lock.
+/// A token of no bytes with which a thread uses a lock. It remembers the last value that it saw
+/// under the lock.
 #[derive(Drop)]
 pub struct Seat<T> {
     pub(crate) place: atomic_table::Seat<Option<Boxed<T>>, View<T>>,
     ghost idle: { is_idle place.me ≡ true },
 }
 
-/// A seat that has drawn a ticket. It has no `Drop`: a ticket that nobody redeems would stop the lock.
+/// A seat that has drawn a ticket. It has no `Drop`: a ticket that nobody redeems would stop the
+/// lock.
 pub(crate) struct Ticket<T> {
     pub(crate) place: atomic_table::Seat<Option<Boxed<T>>, View<T>>,
     pub(crate) number: u64,

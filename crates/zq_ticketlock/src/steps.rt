@@ -1,5 +1,5 @@
-//! The steps. Each is one load, store or compare-exchange on one of the two words. One that takes the value out of its
-//! slot, or puts it home, also moves it.
+//! The steps. Each is one load, store or compare-exchange on one of the two words. One that takes
+//! the value out of its slot, or puts it home, also moves it.
 ghost use Rattle.std.specs.Prelude.{◌≡◌, ◌<◌, ◌++◌, ◌∷◌, Some, IfOk, IfErr, IfSome, MatchResult};
 ghost use Rattle.zq_ticketlock.specs.Limits.{last_ticket};
 ghost use Rattle.zq_ticketlock.specs.Seats.{id_of, lock_of, seen, HasSeen, turn, turns, served, reached, ticket_lock, ticket_seen, ticket_turns, held_lock, held_turns, given, logged, value_of, entry, held_logged, ticket_logged};
@@ -30,7 +30,8 @@ impl<T: Keeps> TicketLock<T> {
     pub(crate) fn draw(&self, seat: Seat<T>, number: u64) -> Result<Ticket<T>, (u64, Seat<T>)>
         requires own { lock_of seat ≡ id_of self.now }
         requires in_range { number < last_ticket }
-        ensures drawn { IfOk result (λ ticket. (ticket_lock ticket ≡ lock_of seat) × (ticket_seen ticket ≡ seen seat)) }
+        ensures drawn { IfOk result (λ ticket. (ticket_lock ticket ≡ lock_of seat)
+            × (ticket_seen ticket ≡ seen seat)) }
         ensures drawn_turns { IfOk result (λ ticket. ticket_turns ticket ≡ turns seat) }
         ensures drawn_logged { IfOk result (λ ticket. ticket_logged ticket ≡ logged seat) }
         ensures missed { IfErr result (λ e. (lock_of e.1 ≡ lock_of seat) × (seen e.1 ≡ seen seat)) }
@@ -55,11 +56,13 @@ impl<T: Keeps> TicketLock<T> {
         requires own { ticket_lock ticket ≡ id_of self.now }
         ensures lock { IfOk result (λ held. held_lock held ≡ ticket_lock ticket) }
         ensures holds { IfOk result (λ held. T.holds (value_of held)) }
-        ensures follows { IfOk result (λ held. FollowsSeen T.follows (value_of held) (ticket_seen ticket)) }
+        ensures follows { IfOk result
+            (λ held. FollowsSeen T.follows (value_of held) (ticket_seen ticket)) }
         ensures given { IfOk result (λ held. given held ≡ Some (value_of held)) }
         ensures turns { IfOk result (λ held. held_turns held ≡ ticket_turns ticket) }
         ensures logged { IfOk result (λ held. held_logged held ≡ ticket_logged ticket) }
-        ensures missed { IfErr result (λ e. (ticket_lock e.1 ≡ ticket_lock ticket) × (ticket_seen e.1 ≡ ticket_seen ticket)) }
+        ensures missed { IfErr result (λ e. (ticket_lock e.1 ≡ ticket_lock ticket)
+            × (ticket_seen e.1 ≡ ticket_seen ticket)) }
         ensures missed_turns { IfErr result (λ e. ticket_turns e.1 ≡ ticket_turns ticket) }
         ensures missed_logged { IfErr result (λ e. ticket_logged e.1 ≡ ticket_logged ticket) }
     {
@@ -88,7 +91,8 @@ impl<T: Keeps> TicketLock<T> {
         ensures given { IfOk result (λ held. given held ≡ Some (value_of held)) }
         ensures turns { IfOk result (λ held. held_turns held ≡ turns seat) }
         ensures logged { IfOk result (λ held. held_logged held ≡ logged seat) }
-        ensures missed { IfErr result (λ back. (lock_of back ≡ lock_of seat) × (seen back ≡ seen seat)) }
+        ensures missed { IfErr result (λ back. (lock_of back ≡ lock_of seat)
+            × (seen back ≡ seen seat)) }
         ensures missed_turns { IfErr result (λ back. turns back ≡ turns seat) }
         ensures missed_logged { IfErr result (λ back. logged back ≡ logged seat) }
         ensures drawn { IfErr result (λ back. (served back ≡ number) × (number < reached back)) }
@@ -114,8 +118,10 @@ impl<T: Keeps> TicketLock<T> {
         requires follows { FollowsSeen T.follows (value_of held) (given held) }
         ensures lock { lock_of result ≡ held_lock held }
         ensures seen { seen result ≡ Some (value_of held) }
-        ensures turns { IfSome (given held) (λ found. turns result ≡ turn found (value_of held) ∷ held_turns held) }
-        ensures logged { IfSome (given held) (λ found. logged result ≡ entry held.ticket found (value_of held) ∷ held_logged held) }
+        ensures turns { IfSome (given held)
+            (λ found. turns result ≡ turn found (value_of held) ∷ held_turns held) }
+        ensures logged { IfSome (given held)
+            (λ found. logged result ≡ entry held.ticket found (value_of held) ∷ held_logged held) }
     {
         let Held {
             mut place,
@@ -144,12 +150,14 @@ impl<T: Keeps> TicketLock<T> {
         (Seat { place }, Seat { place: other })
     }
 
-    /// Makes one seat of two. It has seen a value that follows what either had, and has the turns of both, which are those of one
-    /// history: a hold was given what the hold by the ticket before it put home.
+    /// Makes one seat of two. It has seen a value that follows what either had, and has the turns
+    /// of both, which are those of one history: a hold was given what the hold by the ticket before
+    /// it put home.
     pub fn join(&self, first: Seat<T>, second: Seat<T>) -> Seat<T>
         requires own { (lock_of first ≡ id_of self.now) × (lock_of second ≡ id_of self.now) }
         ensures lock { lock_of result ≡ lock_of first }
-        ensures seen { HasSeen result (λ x. FollowsSeen T.follows x (seen first) × FollowsSeen T.follows x (seen second)) }
+        ensures seen { HasSeen result (λ x. FollowsSeen T.follows x (seen first)
+            × FollowsSeen T.follows x (seen second)) }
         ensures turns { turns result ≡ turns first ++ turns second }
         ensures logged { logged result ≡ logged first ++ logged second }
         ensures chained { AreChained (logged result) }

@@ -2,8 +2,8 @@
 
 use std::marker::Model;
 
-/// A hold of the lock by a seat: the value that it was given, and the one that it put home. Proofs alone speak of it: no
-/// value of it is ever made.
+/// A hold of the lock by a seat: the value that it was given, and the one that it put home. Proofs
+/// alone speak of it: no value of it is ever made.
 pub struct Turn<T> {
     given: T,
     home: T,

@@ -32,8 +32,8 @@ impl<T: Keeps> Vacant<T> {
     ghost use Rattle.zq_ticketlock.specs.Limits.{last_ticket};
     ghost use Rattle.zq_ticketlock.specs.Seats.{id_of, lock_of, opens_at, seen, served, turns};
 
-    /// The memory of a lock, whose first ticket will have this number. At [`LAST_TICKET`](crate::LAST_TICKET) none will be
-    /// drawn.
+    /// The memory of a lock, whose first ticket will have this number. At
+    /// [`LAST_TICKET`](crate::LAST_TICKET) none will be drawn.
     pub fn new(alloc: Global, ticket: u64) -> Result<Vacant<T>, NoMemory>
         requires in_range { ticket ≤ last_ticket }
         ensures opens { IfOk result (λ vacant. opens_at vacant ≡ ticket) }

@@ -9,15 +9,16 @@ pub enum View<T> {
         ticket: u64,
         out: bool,
     },
-    /// The seat neither waits nor holds. It has read `low` in `serving`, knows that `next` has come to `reached`, has seen
-    /// this value, and has held the lock for these turns.
+    /// The seat neither waits nor holds. It has read `low` in `serving`, knows that `next` has come
+    /// to `reached`, has seen this value, and has held the lock for these turns.
     Idle {
         low: u64,
         reached: u64,
         seen: T,
         turns: Turns<T>,
     },
-    /// Two seats that were joined, with what each had seen, and the turns of both. The next load of `serving` settles it.
+    /// Two seats that were joined, with what each had seen, and the turns of both. The next load of
+    /// `serving` settles it.
     Met {
         low: u64,
         first: T,

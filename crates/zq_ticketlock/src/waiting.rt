@@ -1,4 +1,5 @@
-//! How a thread waits for its turn: before it draws a ticket, and with one. No clause speaks of who waits for how long.
+//! How a thread waits for its turn: before it draws a ticket, and with one. No clause speaks of who
+//! waits for how long.
 ghost use Rattle.std.specs.Prelude.{◌≡◌, Some};
 ghost use Rattle.zq_ticketlock.specs.Seats.{id_of, ticket_lock, ticket_seen, ticket_turns, held_lock, held_turns, given, value_of, held_logged, ticket_logged};
 ghost use Rattle.zq_ticketlock.specs.Steps.{FollowsSeen};
@@ -11,21 +12,26 @@ use std::hint::spin_loop;
 use std::sync::Wait;
 use std::sync::atomic::Ordering::SeqCst;
 
-// With so many tickets out, those who come wait at the door: one thread holds the lock, and one looks out for its turn.
+// With so many tickets out, those who come wait at the door: one thread holds the lock, and one
+// looks out for its turn.
 const CROWD: u64 = 2;
 
-// At every so many turns a release calls one in, also where tickets are out, so that nobody stays at the door for long.
+// At every so many turns a release calls one in, also where tickets are out, so that nobody stays
+// at the door for long.
 const TURNS: u64 = 64;
 
-// How often a thread looks before each sleep, with a ticket or at the door. That takes a few times as long as a sleeper
-// takes to wake up: with far fewer looks, one that sleeps has all behind it asleep before it is served.
+// How often a thread looks before each sleep, with a ticket or at the door. That takes a few times
+// as long as a sleeper takes to wake up: with far fewer looks, one that sleeps has all behind it
+// asleep before it is served.
 const SPINS: u32 = 2000;
 
-// So many at the door look whether the crowd is gone. Where more are there, who comes sleeps at once.
+// So many at the door look whether the crowd is gone. Where more are there, who comes sleeps at
+// once.
 const LOOKERS: u64 = 1;
 
 impl<T: Keeps> TicketLock<T> {
-    /// Waits at the door until the crowd is gone or the thread is called in. Then it goes on, crowded or not.
+    /// Waits at the door until the crowd is gone or the thread is called in. Then it goes on,
+    /// crowded or not.
     pub(crate) fn wait_at_door<R: Wait>(&self, rt: &R) {
         self.door.come();
         if self.stays_crowded() {
@@ -34,8 +40,8 @@ impl<T: Keeps> TicketLock<T> {
         self.door.leave();
     }
 
-    /// Whether the crowd that the thread found on its way in is still there after so many looks, or at the first one where
-    /// more than [`LOOKERS`] are at the door.
+    /// Whether the crowd that the thread found on its way in is still there after so many looks, or
+    /// at the first one where more than [`LOOKERS`] are at the door.
     fn stays_crowded(&self) -> bool {
         for _look in 0..SPINS {
             let serving = self.table.shared.peek(SERVING);
@@ -50,13 +56,15 @@ impl<T: Keeps> TicketLock<T> {
         true
     }
 
-    /// Whether a crowd has tickets, by the ticket that was just found to be served. Where a release comes in between, the
-    /// answer may be of a crowd that is gone: a caller that was counted before is then found by that release.
+    /// Whether a crowd has tickets, by the ticket that was just found to be served. Where a release
+    /// comes in between, the answer may be of a crowd that is gone: a caller that was counted
+    /// before is then found by that release.
     pub(crate) fn is_crowded(&self, serving: u64) -> bool {
         self.table.shared.peek(NEXT).saturating_sub(serving) >= CROWD
     }
 
-    /// After a release, by which this ticket is served: calls one in where no ticket is out, and at every [`TURNS`]th turn.
+    /// After a release, by which this ticket is served: calls one in where no ticket is out, and at
+    /// every [`TURNS`]th turn.
     pub(crate) fn look_at_door(&self, serving: u64) {
         if self.door.waiting() > 0
             && (serving % TURNS == 0 || self.table.shared.peek(NEXT) == serving)

@@ -8,8 +8,8 @@ use crate::{books, careless, feeding, making, merging};
 use std::alloc::Global;
 use std::sync::Wait;
 
-/// How the case of this name ends, `None` where memory was refused before or after its call. There is nothing right of one
-/// that is not there.
+/// How the case of this name ends, `None` where memory was refused before or after its call. There
+/// is nothing right of one that is not there.
 pub fn case<R: Wait>(rt: &R, alloc: Global, name: &str) -> Option<Ended> {
     match name {
         "merge-shard" => merging::shard(alloc),

@@ -1,4 +1,5 @@
-//! Commands of which a growth is refused, at a site of two heaps. Of key q the members a and c lie in heap 0 and b in heap 1.
+//! Commands of which a growth is refused, at a site of two heaps. Of key q the members a and c lie
+//! in heap 0 and b in heap 1.
 ghost use Rattle.std.specs.Prelude.{◌≡◌, ◌<◌, length};
 ghost use Rattle.zq_spread.specs.Calls.{heaps_of};
 ghost use Rattle.zq_spread.specs.Passes.{IsPassOf};
@@ -9,16 +10,17 @@ use std::alloc::Global;
 use std::sync::Wait;
 use zq_spread::{Pass, Site};
 
-/// A call that had no memory: what it says, what ZCARD says then, and what the same call says once more. Its place in a
-/// list is how many of its operations stand.
+/// A call that had no memory: what it says, what ZCARD says then, and what the same call says once
+/// more. Its place in a list is how many of its operations stand.
 struct Cut {
     told: &'static str,
     left: &'static str,
     again: &'static str,
 }
 
-/// A command: the line that is asked before it, or none, and how many operations that makes; the command, what it says
-/// with memory, what it says where it is cut, and what ZRANGE says in the end.
+/// A command: the line that is asked before it, or none, and how many operations that makes; the
+/// command, what it says with memory, what it says where it is cut, and what ZRANGE says in the
+/// end.
 pub struct Row {
     pub name: &'static str,
     before: &'static str,
@@ -31,7 +33,8 @@ pub struct Row {
 
 const FILL: &str = "ZADD q 1 a 2 b 3 c";
 
-/// The same with members that are too long to lie in a reply: a pop, and a DEL, takes memory for each. They lie in the same heaps.
+/// The same with members that are too long to lie in a reply: a pop, and a DEL, takes memory for
+/// each. They lie in the same heaps.
 const FILL_LONG: &str = "ZADD q 1 long-member-name-a 2 long-member-name-b 3 long-member-name-c";
 
 const ALL: &str = "*6\r\n$1\r\na\r\n$1\r\n1\r\n$1\r\nb\r\n$1\r\n2\r\n$1\r\nc\r\n$1\r\n3\r\n";
@@ -196,7 +199,8 @@ pub const ROWS: [Row; 8] = [
     },
 ];
 
-/// Whether a call stands as its cut says: by ZCARD, by the operations of the records, and by the same call once more.
+/// Whether a call stands as its cut says: by ZCARD, by the operations of the records, and by the
+/// same call once more.
 fn stands<R: Wait>(
     rt: &R,
     alloc: Global,
@@ -267,7 +271,8 @@ fn asked<R: Wait>(rt: &R, alloc: Global, site: &Site, pass: &mut Pass, row: &Row
     judged(rt, alloc, site, pass, row, &told)
 }
 
-/// How a command ends after which ZRANGE says this. Where it had its memory and ZRANGE had none, there is nothing to say of it.
+/// How a command ends after which ZRANGE says this. Where it had its memory and ZRANGE had none,
+/// there is nothing to say of it.
 fn in_the_end(row: &Row, ended: Ended, last: &[u8]) -> Option<Ended> {
     match ended {
         Ended::Owed(_) if last == REFUSED.as_bytes() => None,

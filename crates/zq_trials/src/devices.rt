@@ -17,8 +17,8 @@ struct Mark {
     written: usize,
 }
 
-/// A stream, what a site that has done nothing writes for it, and how its session ends. `breaks` is after how many bytes it
-/// breaks the protocol.
+/// A stream, what a site that has done nothing writes for it, and how its session ends. `breaks` is
+/// after how many bytes it breaks the protocol.
 struct Stream {
     bytes: &'static [u8],
     owed: &'static [u8],
@@ -93,8 +93,8 @@ pub enum Trial {
     Writes,
 }
 
-/// A session that is tried: its reader, what its writer takes and where that fails, how it has to end, and what it has to
-/// write.
+/// A session that is tried: its reader, what its writer takes and where that fails, how it has to
+/// end, and what it has to write.
 struct Attempt<'a> {
     reader: Pieces<'a>,
     most: usize,
@@ -220,8 +220,8 @@ fn is_owed<R: Wait>(rt: &R, alloc: Global, attempt: Attempt) -> Option<bool> {
     Some(ended == end && bytes.as_slice() == owed)
 }
 
-/// How many tries of a stream go as they are owed, and whether all do: nothing more is tried after one that does not.
-/// `None` where memory was refused.
+/// How many tries of a stream go as they are owed, and whether all do: nothing more is tried after
+/// one that does not. `None` where memory was refused.
 fn tried<R: Wait>(rt: &R, alloc: Global, stream: &Stream, trial: Trial) -> Option<(usize, bool)> {
     let most = trial.most(stream);
     for at in 0..most {

@@ -44,8 +44,8 @@ fn front(requests: &[Request]) -> Option<usize> {
     Some(requests.len())
 }
 
-/// What a reader said to a piece: the fault, and how many requests it hands out, `None` where these are not the first of
-/// the stream's.
+/// What a reader said to a piece: the fault, and how many requests it hands out, `None` where these
+/// are not the first of the stream's.
 #[derive(Clone, Copy)]
 struct Said {
     fault: Option<FeedFault>,
@@ -149,7 +149,8 @@ fn writes_all(alloc: Global) -> Option<bool> {
     Some(end == Ok(End::Clean) && bytes.as_slice() == OWED)
 }
 
-/// How it ends where a session had no memory that has written this: the first of what is owed, in whole replies.
+/// How it ends where a session had no memory that has written this: the first of what is owed, in
+/// whole replies.
 fn cut_short(alloc: Global, written: &[u8]) -> Option<Ended> {
     let kept = OWED.starts_with(written) && written.len() % REPLY == 0;
     Some(if writes_all(alloc)? && kept {
@@ -159,8 +160,8 @@ fn cut_short(alloc: Global, written: &[u8]) -> Option<Ended> {
     })
 }
 
-/// A session over the stream. After want of memory the first of what is owed is written, in whole replies, and another
-/// session writes all.
+/// A session over the stream. After want of memory the first of what is owed is written, in whole
+/// replies, and another session writes all.
 pub fn hold(alloc: Global) -> Option<Ended> {
     let mut bytes = Vec::with_capacity(alloc, MOST_TAKEN).ok()?;
     match held(alloc, &mut bytes) {

@@ -1,5 +1,5 @@
-//! A book with a key of so many members that an ordered index is made of it, of which a growth is refused when it is made, and
-//! when it is kept. No command is refused for it.
+//! A book with a key of so many members that an ordered index is made of it, of which a growth is
+//! refused when it is made, and when it is kept. No command is refused for it.
 ghost use Rattle.std.specs.Prelude.{IfSome};
 ghost use Rattle.zq_trials.specs.Books.{IsEven};
 
@@ -10,13 +10,13 @@ use zq_dots::{Act, Score, SiteNo};
 use zq_journal::Book;
 use zq_shard::MakeFault;
 
-/// So many names of two bytes are tried. Of key q every second one lies in heap 0, 300 in all: more than are read without an
-/// index.
+/// So many names of two bytes are tried. Of key q every second one lies in heap 0, 300 in all: more
+/// than are read without an index.
 const NAMES: u16 = 600;
 
-/// What is asked, and what is answered. The members a, m and y, and the one whose name is too long to lie in the index
-/// itself, are of heap 0 and not among those of two bytes. The first line makes the index, the last ones read by it, or
-/// make it anew.
+/// What is asked, and what is answered. The members a, m and y, and the one whose name is too long
+/// to lie in the index itself, are of heap 0 and not among those of two bytes. The first line makes
+/// the index, the last ones read by it, or make it anew.
 pub const LINES: [Line; 12] = [
     ("ZCOUNT q 1 100", ":100\r\n"),
     ("ZADD q 100 a", ":1\r\n"),
@@ -41,8 +41,8 @@ fn next_score(book: &Book) -> Option<Score> {
     Score::new(place.checked_add(1)?)
 }
 
-/// Puts the member of that name at the score of the next place, where it lies in the book's heap. `None` where it had no
-/// memory.
+/// Puts the member of that name at the score of the next place, where it lies in the book's heap.
+/// `None` where it had no memory.
 fn put(alloc: Global, book: &mut Book, site: SiteNo, number: u16) -> Option<()>
     requires { IsEven book.old }
     ensures { IsEven book.new }

@@ -1,4 +1,5 @@
-//! Cases of hostile use that need no node: calls of which a growth is refused, and streams that are cut or fail anywhere.
+//! Cases of hostile use that need no node: calls of which a growth is refused, and streams that are
+//! cut or fail anywhere.
 //!
 //! The program `zq_hostile` runs them beside its own, which need nodes, links and worlds.
 #![tactic(auto)]

@@ -11,7 +11,8 @@ use zq_spread::{Pass, Site};
 /// What is asked, and what is answered.
 pub type Line = (&'static str, &'static str);
 
-/// What a line says. One that had no memory is asked once more, and has to be answered as it is owed then.
+/// What a line says. One that had no memory is asked once more, and has to be answered as it is
+/// owed then.
 fn asked<R: Wait>(
     rt: &R,
     alloc: Global,
@@ -31,7 +32,8 @@ fn asked<R: Wait>(
     Some(if again { Tried::Refused } else { Tried::Other })
 }
 
-/// What a line says: what is owed, that it had no memory for its first operation, or something else.
+/// What a line says: what is owed, that it had no memory for its first operation, or something
+/// else.
 fn told<R: Wait>(
     rt: &R,
     alloc: Global,

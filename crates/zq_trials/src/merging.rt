@@ -57,7 +57,8 @@ fn merged_in_book(alloc: Global, ours: &mut Book, theirs: &Shard) -> Tried {
     }
 }
 
-/// How a merge ends of a book whose state has these bytes, which has those that are owed, and no records, in the end.
+/// How a merge ends of a book whose state has these bytes, which has those that are owed, and no
+/// records, in the end.
 fn book_merges(
     alloc: Global,
     ours: &mut Book,
@@ -115,7 +116,8 @@ pub fn is_at_site<R: Wait>(
     is_written(alloc, &shard, bytes)
 }
 
-/// How a merge ends at a site whose heap 0 has these bytes, which has those that are owed in the end.
+/// How a merge ends at a site whose heap 0 has these bytes, which has those that are owed in the
+/// end.
 fn site_merges<R: Wait>(
     rt: &R,
     alloc: Global,

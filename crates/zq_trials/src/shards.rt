@@ -57,7 +57,8 @@ pub fn put_by(alloc: Global, site: u8, members: &[(u8, i64)]) -> Option<Shard> {
     taken(alloc, &ops)
 }
 
-/// The bytes of the heap of one that has taken what both sites have made there. No merge has a part in it.
+/// The bytes of the heap of one that has taken what both sites have made there. No merge has a part
+/// in it.
 pub fn together(alloc: Global) -> Option<Vec<u8>> {
     let mut shard = put_by(alloc, 0, &OURS)?;
     let theirs = operations(alloc, 1, &THEIRS)?;

@@ -79,8 +79,8 @@ fn reply_of<R: Wait>(
     }
 }
 
-/// The bytes that the site answers a line by. The line and the bytes have their memory before the site is called, so that
-/// `None` says that it was not called.
+/// The bytes that the site answers a line by. The line and the bytes have their memory before the
+/// site is called, so that `None` says that it was not called.
 pub fn answer<R: Wait>(
     rt: &R,
     alloc: Global,

@@ -5,8 +5,8 @@ ghost use Rattle.std.specs.Prelude.{IfOk, ◌≤◌, length};
 use std::io;
 use std::io::{ErrorKind, Read, Write};
 
-/// A reader that gives two pieces one after the other, each in reads of at most so many bytes, and then the end. Its read
-/// of the number `fails`, counted from 0, fails.
+/// A reader that gives two pieces one after the other, each in reads of at most so many bytes, and
+/// then the end. Its read of the number `fails`, counted from 0, fails.
 #[derive(Drop)]
 pub struct Pieces<'a> {
     pub first: &'a [u8],
@@ -50,7 +50,8 @@ impl Read for Pieces<'_> {
 /// A writer of these cases takes at most so many bytes, and has memory for them before.
 pub const MOST_TAKEN: usize = 256;
 
-/// A writer that takes at most so many bytes a write. Its write of the number `fails`, counted from 0, fails.
+/// A writer that takes at most so many bytes a write. Its write of the number `fails`, counted from
+/// 0, fails.
 #[derive(Drop)]
 pub struct Taken<'a> {
     pub bytes: &'a mut Vec<u8>,

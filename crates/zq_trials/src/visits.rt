@@ -80,7 +80,8 @@ fn made_at<R: Wait>(
     }
 }
 
-/// How a visit of a new site ends, after which the records of both heaps have to give what these have.
+/// How a visit of a new site ends, after which the records of both heaps have to give what these
+/// have.
 pub fn visited<R: Wait>(rt: &R, alloc: Global, visit: Visit) -> Option<Ended> {
     let (site, mut passes) = opened(alloc, visit)?;
     let mut pass = last_pass(&site, &mut passes)?;

@@ -9,8 +9,8 @@ use zq_journal::Book;
 use zq_merge::read_state;
 use zq_posheap::Seeded;
 
-/// A state of version 1: heap 0 of two, of which site 0 has made as many operations as it ever can; the first of them put the
-/// member a of key q at 3.
+/// A state of version 1: heap 0 of two, of which site 0 has made as many operations as it ever can;
+/// the first of them put the member a of key q at 3.
 const STATE: &str =
     "0102000000ffffffffffff00000000000000000000000000000000000000000000000000000000000000000000000000\
     000000000000000000000000000000000000000000000000000001000000017100000000000000010000000161010000\

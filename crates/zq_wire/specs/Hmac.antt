@@ -16,4 +16,5 @@ masked mask block = map (λ byte. bit_xor byte mask) block
 
 -- the tag of a message by a key
 abbrev pub hmac : List ℕ → List ℕ → List ℕ
-hmac key message = sha256 (masked 0x5C (key_block key) ++ sha256 (masked 0x36 (key_block key) ++ message))
+hmac key message = sha256
+    (masked 0x5C (key_block key) ++ sha256 (masked 0x36 (key_block key) ++ message))

@@ -18,8 +18,8 @@ answer_in Waits = None
 answer_in (Answers answer) = Some answer
 answer_in (Welcome peer answer used) = answer
 
--- An answer is written where it is due and was not written before: whether it was owed and is owed still, and what the
--- writer held and holds.
+-- An answer is written where it is due and was not written before: whether it was owed and is owed
+-- still, and what the writer held and holds.
 abbrev pub Pays : Bool → Bool → Option (List ℕ) → Option (List ℕ) → Option (List ℕ) → Type 0
 Pays true owes held holds None = (owes ≡ true) × (holds ≡ held)
 Pays true owes held holds (Some answer) = (owes ≡ false) × Appends held holds answer
@@ -30,9 +30,10 @@ abbrev pub answer_bytes : Option (List ℕ) → List ℕ
 answer_bytes None = []
 answer_bytes (Some answer) = answer
 
--- The peer is welcome for all that was read. Its frames begin behind its opening. What was written are these bytes and
--- then, where one is owed, the answer.
-pub record IsWelcomed (side : Side) (had has held holds : Option (List ℕ)) (front : List ℕ) (opened : Opened) : Type 0 where
+-- The peer is welcome for all that was read. Its frames begin behind its opening. What was written
+-- are these bytes and then, where one is owed, the answer.
+pub record IsWelcomed (side : Side) (had has held holds : Option (List ℕ)) (front : List ℕ)
+    (opened : Opened) : Type 0 where
   pub text : List ℕ
   pub read : Consumes had has text
   pub own : Option (List ℕ)
@@ -47,16 +48,20 @@ pub record IsTurnedAway (side : Side) (had has : Option (List ℕ)) (refusal : R
   pub read : Consumes had has text
   pub refused : opening_of side text ≡ Err refusal
 
--- what comes of a link: what the reader had and has, what the writer held and holds, and what is written first
-abbrev pub ComesTo : Side → Option (List ℕ) → Option (List ℕ) → Option (List ℕ) → Option (List ℕ) → List ℕ → Result Opened Unopened → Type 0
+-- what comes of a link: what the reader had and has, what the writer held and holds, and what is
+-- written first
+abbrev pub ComesTo : Side → Option (List ℕ) → Option (List ℕ) → Option (List ℕ) → Option (List ℕ) →
+    List ℕ → Result Opened Unopened → Type 0
 ComesTo side had has held holds front (Ok opened) = IsWelcomed side had has held holds front opened
 ComesTo side had has held holds front (Err (Refused refusal)) = IsTurnedAway side had has refusal
 ComesTo side had has held holds front (Err Lost) = Unit {0}
 
 -- the same after the greeting was written
-abbrev pub Hears : Side → Option (List ℕ) → Option (List ℕ) → Option (List ℕ) → Option (List ℕ) → Result Opened Unopened → Type 0
+abbrev pub Hears : Side → Option (List ℕ) → Option (List ℕ) → Option (List ℕ) → Option (List ℕ) →
+    Result Opened Unopened → Type 0
 Hears side had has held holds result = ComesTo side had has held holds [] result
 
 -- and with the greeting
-abbrev pub Opens : Side → Option (List ℕ) → Option (List ℕ) → Option (List ℕ) → Option (List ℕ) → Result Opened Unopened → Type 0
+abbrev pub Opens : Side → Option (List ℕ) → Option (List ℕ) → Option (List ℕ) → Option (List ℕ) →
+    Result Opened Unopened → Type 0
 Opens side had has held holds result = ComesTo side had has held holds (said_by side) result

@@ -3,13 +3,14 @@ use Rattle.std.specs.Prelude.{◌≡◌, ◌≢◌, ℕ, List, [], ◌∷◌, �
 use Rattle.zq_wire.specs.Framed.{IsTooLong}
 use Rattle.zq_wire.specs.Stream.{Frames, Reaches}
 
--- what is kept of a frame after these: what there was before the piece, until the first one is whole
+-- what is kept of a frame after these: what there was before the piece, until the first one is
+-- whole
 abbrev pub kept_after : Frames → List ℕ → List ℕ
 kept_after [] had = had
 kept_after (frame ∷ frames) had = []
 
--- Memory is asked for bytes that have come, beside those that are kept of their frame. Where none are kept, they do not
--- begin with a length above the most.
+-- Memory is asked for bytes that have come, beside those that are kept of their frame. Where none
+-- are kept, they do not begin with a length above the most.
 pub record AsksFor (most : ℕ) (kept more : List ℕ) : Type 0 where
   pub some : more ≢ []
   pub within : kept ≡ [] → IsTooLong most more → ⊥

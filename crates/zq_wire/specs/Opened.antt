@@ -25,10 +25,12 @@ openly peer whole bytes = open_at bytes >>= λ rest. Ok (Welcome peer None (whol
 abbrev pub secret_at : Option Secret → ℕ → ℕ → ℕ → List ℕ → Result Opening Stop
 secret_at None site peer whole bytes = openly peer whole bytes
 secret_at (Some secret) site peer whole bytes = nonce_at bytes >>= λ nonce.
-    answered peer (answer secret.key.now site peer secret.nonce nonce.0) whole (answer_at (answer secret.key.now peer site nonce.0 secret.nonce) nonce.1)
+    answered peer (answer secret.key.now site peer secret.nonce nonce.0) whole
+    (answer_at (answer secret.key.now peer site nonce.0 secret.nonce) nonce.1)
 
 unfoldable pub opened_at : Side → List ℕ → Result Opening Stop
-opened_at side bytes = peer_at side bytes >>= λ peer. secret_at side.secret side.site peer.0 (length bytes) peer.1
+opened_at side bytes = peer_at side bytes >>= λ peer.
+    secret_at side.secret side.site peer.0 (length bytes) peer.1
 
 -- where a greeting has not come whole, more is waited for
 abbrev pub told : Result Opening Stop → Result Opening Refusal

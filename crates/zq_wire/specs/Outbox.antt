@@ -16,7 +16,8 @@ pub record Waiting : Type 0 where
 -- a frame of this topic takes the place of the older one, or waits last
 abbrev pub put_in : Topic → List ℕ → Parcels → Parcels
 put_in topic frame [] = (topic, frame) ∷ []
-put_in topic frame (p ∷ parcels) = if same_topic p.0 topic then (topic, frame) ∷ parcels else p ∷ put_in topic frame parcels
+put_in topic frame (p ∷ parcels) = if same_topic p.0 topic then (topic, frame) ∷ parcels else p
+    ∷ put_in topic frame parcels
 
 -- whether a frame of this topic waits
 abbrev pub waits : Topic → Parcels → Bool
@@ -26,7 +27,8 @@ waits topic (p ∷ parcels) = same_topic p.0 topic || waits topic parcels
 -- of each topic of these heaps one frame at most
 abbrev pub AreParcels : ℕ → Parcels → Type 0
 AreParcels heaps [] = Unit {0}
-AreParcels heaps (p ∷ parcels) = (heap_of p.0 < heaps) × (waits p.0 parcels ≡ false) × AreParcels heaps parcels
+AreParcels heaps (p ∷ parcels) = (heap_of p.0 < heaps) × (waits p.0 parcels ≡ false)
+    × AreParcels heaps parcels
 
 -- as contracts see it
 abbrev pub parcel_of : Parcel → Topic × List ℕ

@@ -1,4 +1,5 @@
--- Reading what a peer says, from left to right, up to the first thing that has not come yet or does not agree.
+-- Reading what a peer says, from left to right, up to the first thing that has not come yet or does
+-- not agree.
 
 use Rattle.std.specs.List.{find}
 use Rattle.std.specs.Option.{ok_or}
@@ -46,7 +47,8 @@ version_at bytes = do
 
 -- the site of this number among those that are expected
 abbrev pub expected : ℕ → List ℕ → Result ℕ Stop
-expected number peers = ok_or (find (λ peer. peer == number) peers) (Refused (refusal.Unexpected number))
+expected number peers = ok_or (find (λ peer. peer == number) peers)
+    (Refused (refusal.Unexpected number))
 
 -- a site that is not this one and is expected
 unfoldable pub site_at : ℕ → List ℕ → List ℕ → Result (ℕ × List ℕ) Stop

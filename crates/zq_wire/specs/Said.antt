@@ -21,13 +21,16 @@ nonce_bytes (Some nonce) = 1 ∷ nonce
 
 -- the greeting of a site with so many heaps and this rule
 abbrev pub greeting : ℕ → ℕ → Rule → Option (List ℕ) → List ℕ
-greeting site heaps rule nonce = magic ++ version ∷ site ∷ heaps ∷ rule_byte (rule_of rule) ∷ nonce_bytes nonce
+greeting site heaps rule nonce = magic ++ version ∷ site ∷ heaps ∷ rule_byte (rule_of rule)
+    ∷ nonce_bytes nonce
 
 -- the greeting of this site, with its nonce where it has a secret
 abbrev pub said_by : Side → List ℕ
-said_by side = greeting side.site side.heaps side.rule (option_map (λ secret. secret.nonce) side.secret)
+said_by side = greeting side.site side.heaps side.rule
+    (option_map (λ secret. secret.nonce) side.secret)
 
--- what is answered for: the version, the number of the site that answers, the other's, and their nonces in this order
+-- what is answered for: the version, the number of the site that answers, the other's, and their
+-- nonces in this order
 abbrev pub claim : ℕ → ℕ → List ℕ → List ℕ → List ℕ
 claim own other own_nonce other_nonce = version ∷ own ∷ other ∷ own_nonce ++ other_nonce
 

@@ -12,7 +12,8 @@ use Rattle.zq_wire.specs.Framed.{IsTooLong, IsUnfinished, framed}
 abbrev pub Frames : Type 0
 Frames = List (List ℕ)
 
--- what callers see of a reader: the most bytes of a frame, and those of an unfinished frame that have come, None after a fault
+-- what callers see of a reader: the most bytes of a frame, and those of an unfinished frame that
+-- have come, None after a fault
 pub record Reading : Type 0 where
   pub most : ℕ
   pub had : Option (List ℕ)
@@ -33,14 +34,17 @@ pub record Breaks (most : ℕ) (bytes : List ℕ) (frames : Frames) : Type 0 whe
   pub reaches : Reaches most bytes frames rest
   pub long : IsTooLong most rest
 
--- The frames before a fault: all up to a length above the most. Where memory was refused, the first of them.
+-- The frames before a fault: all up to a length above the most. Where memory was refused, the first
+-- of them.
 abbrev pub Stops : ℕ → List ℕ → StreamFault → Frames → Type 0
 Stops most bytes fault.TooLong before = Breaks most bytes before
 Stops most bytes fault.NoMemory before = (rest : List ℕ) × Reaches most bytes before rest
 Stops most bytes fault.Over before = ⊥
 
--- What a reader that has some bytes of an unfinished frame answers to a piece, and what it has then: None after a fault.
-abbrev pub Feeds : ℕ → Option (List ℕ) → List ℕ → Result Frames (StreamFault × Frames) → Option (List ℕ) → Type 0
+-- What a reader that has some bytes of an unfinished frame answers to a piece, and what it has
+-- then: None after a fault.
+abbrev pub Feeds : ℕ → Option (List ℕ) → List ℕ → Result Frames (StreamFault × Frames) →
+    Option (List ℕ) → Type 0
 Feeds most (Some had) piece (Ok frames) (Some has) = Splits most (had ++ piece) frames has
 Feeds most (Some had) piece (Err (why, before)) None = Stops most (had ++ piece) why before
 Feeds most None piece (Err (fault.Over, before)) None = before ≡ []
@@ -65,6 +69,7 @@ abbrev pub frames_in : Vec (Vec ℕ Global) Global → Frames
 frames_in frames = map (λ frame. frame.items) frames.items
 
 -- an answer as lists
-abbrev pub answered : Result (Vec (Vec ℕ Global) Global) StreamError → Result Frames (StreamFault × Frames)
+abbrev pub answered : Result (Vec (Vec ℕ Global) Global) StreamError →
+    Result Frames (StreamFault × Frames)
 answered (Ok frames) = Ok (frames_in frames)
 answered (Err error) = Err (error.fault, frames_in error.before)

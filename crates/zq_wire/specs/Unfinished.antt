@@ -26,8 +26,10 @@ IsStep bytes x = (0 < x.1) × (x.1 ≤ length bytes)
 
 -- what bytes make of a text so far: more of it, or the whole frame
 abbrev pub FrameStep : ℕ → List ℕ → List ℕ → Result (Progress × ℕ) StreamFault → Type 0
-FrameStep most text bytes (Ok (More new, taken)) = Stands most new × (text_so_far new ≡ text ++ take taken bytes)
-FrameStep most text bytes (Ok (Whole frame, taken)) = (length frame.items ≤ most) × (framed frame.items ≡ text ++ take taken bytes)
+FrameStep most text bytes (Ok (More new, taken)) = Stands most new
+    × (text_so_far new ≡ text ++ take taken bytes)
+FrameStep most text bytes (Ok (Whole frame, taken)) = (length frame.items ≤ most)
+    × (framed frame.items ≡ text ++ take taken bytes)
 FrameStep most text bytes (Err TooLong) = IsTooLong most (text ++ bytes)
 FrameStep most text bytes (Err NoMemory) = Unit {0}
 FrameStep most text bytes (Err Over) = ⊥
@@ -42,7 +44,8 @@ Begins most size (Err Over) = ⊥
 
 -- What a piece gives: the frames up to what is kept, or up to a fault.
 abbrev pub PieceGives : ℕ → List ℕ → Result Unfinished StreamFault → Frames → Type 0
-PieceGives most bytes (Ok new) frames = Stands most new × Reaches most bytes frames (text_so_far new)
+PieceGives most bytes (Ok new) frames = Stands most new
+    × Reaches most bytes frames (text_so_far new)
 PieceGives most bytes (Err e) frames = Stops most bytes e frames
 
 -- ---- the reader's

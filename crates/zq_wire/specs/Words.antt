@@ -6,7 +6,8 @@ use Rattle.zq_wire.specs.declared.refusal.Refusal.TheVariants as refusal
 
 abbrev pub words_of : Refusal → List ℕ
 words_of refusal.Magic = codes "it does not greet as a site does"
-words_of (refusal.Version number) = codes "it speaks version " ++ decimal number ++ codes " of the protocol"
+words_of (refusal.Version number) = codes "it speaks version " ++ decimal number
+    ++ codes " of the protocol"
 words_of refusal.SameSite = codes "it has the number of this site"
 words_of (refusal.Unexpected number) = codes "site " ++ decimal number ++ codes " is not expected"
 words_of (refusal.Heaps number) = codes "it has " ++ decimal number ++ codes " heaps"

@@ -2,8 +2,8 @@
 
 ghost use Rattle.std.specs.Prelude.{◌≡◌, ◌↔◌, IsTrue};
 
-/// Whether two tags are the same. All bytes are looked at, whatever they are, so that the time that it takes says nothing
-/// of the place of a difference.
+/// Whether two tags are the same. All bytes are looked at, whatever they are, so that the time that
+/// it takes says nothing of the place of a difference.
 pub fn is_same_tag(one: &[u8; 32], other: &[u8; 32]) -> bool
     ensures { IsTrue result ↔ (one.now ≡ other.now) }
 {

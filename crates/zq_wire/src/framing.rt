@@ -6,8 +6,8 @@ ghost use Rattle.zq_wire.specs.Framed.{framed};
 use std::alloc::AllocError;
 use zq_fields::{write_bytes, write_u32};
 
-/// Appends a frame behind its length. Where memory is refused nothing is written; it is refused only where room was
-/// missing.
+/// Appends a frame behind its length. Where memory is refused nothing is written; it is refused
+/// only where room was missing.
 pub fn write_framed(out: &mut Vec<u8>, frame: &[u8]) -> Result<(), AllocError>
     requires { length frame.now < 2 ^ 32 }
     ensures written { OnOk result (out.new.items ≡ out.old.items ++ framed frame.now) }

@@ -8,11 +8,12 @@ use crate::side::{MAGIC, Side, VERSION};
 use std::alloc::AllocError;
 use zq_fields::{rule_byte, write_byte, write_bytes};
 
-/// The most bytes of a greeting: the magic word, four terms, a byte that says whether there is a secret, and a nonce.
+/// The most bytes of a greeting: the magic word, four terms, a byte that says whether there is a
+/// secret, and a nonce.
 const MOST_GREETING: usize = 29;
 
-/// Appends the greeting of this site. Where memory is refused nothing is written; it is refused only where there was no
-/// room for the 29 bytes of the longest greeting.
+/// Appends the greeting of this site. Where memory is refused nothing is written; it is refused
+/// only where there was no room for the 29 bytes of the longest greeting.
 pub fn write_greeting(out: &mut Vec<u8>, side: &Side<'_>) -> Result<(), AllocError>
     ensures written { OnOk result (out.new.items ≡ out.old.items ++ said_by side.now) }
     ensures refused { OnErr result (out.new.items ≡ out.old.items) }

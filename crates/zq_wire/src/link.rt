@@ -18,7 +18,8 @@ use zq_dots::SiteNo;
 pub enum Unopened {
     /// The peer is not welcome.
     Refused(Refusal),
-    /// A read or a write failed, what is read ended or came in too many pieces, or there was no memory.
+    /// A read or a write failed, what is read ended or came in too many pieces, or there was no
+    /// memory.
     Lost,
 }
 
@@ -56,11 +57,12 @@ pub struct Opened {
 /// How many bytes an opening is read by at once.
 const SOME: usize = 64;
 
-/// How many reads an opening takes at most: each brings a byte, and a greeting and an answer have fewer.
+/// How many reads an opening takes at most: each brings a byte, and a greeting and an answer have
+/// fewer.
 const MOST_READS: usize = 64;
 
-/// Opens a link: writes the greeting of this site, and hears the peer until it is welcome. The answer that the peer is
-/// owed is written once, as soon as it is due.
+/// Opens a link: writes the greeting of this site, and hears the peer until it is welcome. The
+/// answer that the peer is owed is written once, as soon as it is due.
 ///
 /// # Errors
 ///

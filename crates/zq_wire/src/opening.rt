@@ -16,7 +16,8 @@ use zq_dots::SiteNo;
 pub enum Opening {
     /// More bytes of the peer's greeting have to come.
     Waits,
-    /// The peer's greeting agrees: this answer has to be sent, once, and the peer's answer has to come.
+    /// The peer's greeting agrees: this answer has to be sent, once, and the peer's answer has to
+    /// come.
     Answers {
         /// What this site owes to the peer.
         answer: [u8; 32],
@@ -25,18 +26,21 @@ pub enum Opening {
     Welcome {
         /// The peer's number.
         peer: SiteNo,
-        /// What this site owes to the peer, where they share a secret: it has to be sent unless it was.
+        /// What this site owes to the peer, where they share a secret: it has to be sent unless it
+        /// was.
         answer: Option<[u8; 32]>,
         /// How many of the bytes that were heard belong to the opening. The rest belong to frames.
         used: usize,
     },
 }
 
-/// How far the opening of a link has come, from all bytes that were heard of the peer since the link began.
+/// How far the opening of a link has come, from all bytes that were heard of the peer since the
+/// link began.
 ///
 /// # Errors
 ///
-/// The first thing, from the left, that does not agree. More bytes change nothing of that, nor of a welcome.
+/// The first thing, from the left, that does not agree. More bytes change nothing of that, nor of a
+/// welcome.
 pub fn hear_opening(side: &Side<'_>, heard: &[u8]) -> Result<Opening, Refusal>
     ensures { result ≡ opening_of side.now heard.now }
 {

@@ -10,8 +10,8 @@ use std::alloc::{AllocError, Global};
 use std::collections::VecDeque;
 use std::marker::Model;
 
-/// What waits to be sent to one peer, in the order in which it will be sent: of each topic at most one frame. It has
-/// memory for as many from the beginning, and takes none later.
+/// What waits to be sent to one peer, in the order in which it will be sent: of each topic at most
+/// one frame. It has memory for as many from the beginning, and takes none later.
 #[derive(Drop)]
 pub struct Outbox {
     heaps: u8,
@@ -63,7 +63,8 @@ impl Outbox {
     /// The frame that waits first, which then waits no more, if one does.
     pub fn take(&mut self) -> Option<Parcel>
         ensures heaps { self.new.heaps ≡ self.old.heaps }
-        ensures first { self.old.parcels ≡ option_to_list (option_map parcel_of result) ++ self.new.parcels }
+        ensures first { self.old.parcels ≡ option_to_list (option_map parcel_of result)
+            ++ self.new.parcels }
     {
         self.waiting.pop_front()
     }

@@ -10,7 +10,8 @@ use crate::stop::Stop;
 use zq_dots::{Rule, SiteNo};
 use zq_fields::{read_byte, read_bytes, rule_byte};
 
-/// Takes the greeting of a peer that agrees, up to its rule. After a stop the bytes that are left are of no use.
+/// Takes the greeting of a peer that agrees, up to its rule. After a stop the bytes that are left
+/// are of no use.
 #[tactic(auto, unfolding(crate::specs::Reading::peer_at))]
 pub(crate) fn read_peer(side: &Side<'_>, bytes: &mut &[u8]) -> Result<SiteNo, Stop>
     ensures { Gives (λ peer. (peer, bytes.new.now)) result (peer_at side.now bytes.old.now) }

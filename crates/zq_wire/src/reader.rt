@@ -11,8 +11,8 @@ use crate::unfinished::{Progress, Unfinished};
 use std::alloc::Global;
 use std::marker::Model;
 
-/// Reads frames from a stream of bytes, in whatever pieces it comes. Between two pieces it keeps the bytes that have come
-/// of the frame that is not yet whole, and nothing else.
+/// Reads frames from a stream of bytes, in whatever pieces it comes. Between two pieces it keeps
+/// the bytes that have come of the frame that is not yet whole, and nothing else.
 #[derive(Drop)]
 pub struct Reader {
     most: u32,
@@ -32,7 +32,8 @@ impl Model for Reader {
 }
 
 impl Reader {
-    /// A reader of a stream from its first byte on, of frames of at most this many bytes. It takes no memory.
+    /// A reader of a stream from its first byte on, of frames of at most this many bytes. It takes
+    /// no memory.
     pub fn new(alloc: Global, most: u32) -> Reader
         ensures most { result.most ≡ most }
         ensures nothing { result.had ≡ Some [] }
@@ -55,17 +56,19 @@ impl Reader {
 
     /// Takes the next piece of the stream, and hands out the frames that end in it, in order.
     ///
-    /// The error has the frames that ended in this piece before the fault. Each later call answers `Over`.
+    /// The error has the frames that ended in this piece before the fault. Each later call answers
+    /// `Over`.
     ///
     /// - `TooLong`: a length is above the most.
     /// - `NoMemory`: memory was refused. The piece was read up to the frame that needed it.
     ///
-    /// Memory is taken for bytes that have come, never for a length: a piece of no bytes takes none, nor do bytes that begin
-    /// with a length above the most where nothing of a frame is kept.
+    /// Memory is taken for bytes that have come, never for a length: a piece of no bytes takes
+    /// none, nor do bytes that begin with a length above the most where nothing of a frame is kept.
     pub fn feed(&mut self, alloc: Global, piece: &[u8]) -> Result<Vec<Vec<u8>>, StreamError>
         ensures most { self.new.most ≡ self.old.most }
         ensures feeds { Feeds self.old.most self.old.had piece.now (answered result) self.new.had }
-        ensures memory { IfErr result (λ e. e.fault ≡ StreamFault.NoMemory → ReaderAsks self.old.most self.old.had piece.now (frames_in e.before)) }
+        ensures memory { IfErr result (λ e. e.fault ≡ StreamFault.NoMemory →
+            ReaderAsks self.old.most self.old.had piece.now (frames_in e.before)) }
     {
         let mut frames = Vec::new(alloc);
         let Some(unfinished) = self.unfinished.take() else {
@@ -87,15 +90,17 @@ impl Reader {
     }
 }
 
-/// The frame that stands whole at the front, and the bytes after it. `None` where it is not all there, or some bytes of a
-/// frame are kept before them. `TooLong` where none are, and the length is above the most.
+/// The frame that stands whole at the front, and the bytes after it. `None` where it is not all
+/// there, or some bytes of a frame are kept before them. `TooLong` where none are, and the length
+/// is above the most.
 fn whole_next<'a>(
     most: u32,
     unfinished: &Unfinished,
     bytes: &'a [u8],
 ) -> Result<Option<(&'a [u8], &'a [u8])>, StreamFault>
     ensures none { IfOk result (λ found. IfSome found (λ _. text_so_far unfinished.now ≡ [])) }
-    ensures spelled { IfOk result (λ found. IfSome found (λ x. bytes.now ≡ framed x.0.now ++ x.1.now)) }
+    ensures spelled { IfOk result
+        (λ found. IfSome found (λ x. bytes.now ≡ framed x.0.now ++ x.1.now)) }
     ensures small { IfOk result (λ found. IfSome found (λ x. length x.0.now ≤ most)) }
     ensures fault { IfErr result (λ e. e ≡ StreamFault.TooLong) }
     ensures long { OnErr result (text_so_far unfinished.now ≡ []) }
@@ -108,8 +113,8 @@ fn whole_next<'a>(
     whole_front(most, bytes)
 }
 
-/// Reads a piece. Adds the frames that end in it, and answers the one that does not end in it. A frame that stands whole
-/// in the piece is copied from it at once.
+/// Reads a piece. Adds the frames that end in it, and answers the one that does not end in it. A
+/// frame that stands whole in the piece is copied from it at once.
 fn read_on(
     alloc: Global,
     most: u32,
@@ -119,8 +124,10 @@ fn read_on(
 ) -> Result<Unfinished, StreamFault>
     requires stands { Stands most unfinished }
     requires none { frames.old.items ≡ [] }
-    ensures gives { PieceGives most (text_so_far unfinished ++ piece.now) result (frames_in frames.new) }
-    ensures memory { IfErr result (λ e. e ≡ StreamFault.NoMemory → AsksMemory most (text_so_far unfinished) piece.now (frames_in frames.new)) }
+    ensures gives { PieceGives most (text_so_far unfinished ++ piece.now) result
+        (frames_in frames.new) }
+    ensures memory { IfErr result (λ e. e ≡ StreamFault.NoMemory →
+        AsksMemory most (text_so_far unfinished) piece.now (frames_in frames.new)) }
 {
     let mut unfinished = unfinished;
     let mut rest = piece;

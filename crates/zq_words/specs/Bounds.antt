@@ -19,4 +19,5 @@ bound_at is_out limit = record { is_out = is_out; limit = limit }
 -- a bound is left out itself behind a parenthesis
 abbrev pub bound_of : Word → Option Bound
 bound_of text =
-    if begins text (codes "(") then option_map (bound_at true) (limit_of (drop 1 text)) else option_map (bound_at false) (limit_of text)
+    if begins text (codes "(") then option_map (bound_at true)
+    (limit_of (drop 1 text)) else option_map (bound_at false) (limit_of text)

@@ -41,7 +41,8 @@ or_else why None f = Err why
 or_else why (Some x) f = f x
 
 abbrev pub is_flag : Word → Bool
-is_flag word = is word (codes "NX") || is word (codes "XX") || is word (codes "GT") || is word (codes "LT") || is word (codes "CH") || is word (codes "INCR")
+is_flag word = is word (codes "NX") || is word (codes "XX") || is word (codes "GT") || is word
+    (codes "LT") || is word (codes "CH") || is word (codes "INCR")
 
 abbrev pub flags_of : List Word → Flags
 flags_of words = record {
@@ -70,7 +71,9 @@ pairs_of _ = Some []
 
 -- with INCR there is one pair
 abbrev pub zadd_incr : Word → Flags → List Word → Reading
-zadd_incr key flags (increment ∷ member ∷ []) = or_else refused.Score (written_score increment) (λ amount. Ok (ZaddIncr key flags amount member))
+zadd_incr key flags (increment ∷ member ∷ []) =
+    or_else refused.Score (written_score increment)
+    (λ amount. Ok (ZaddIncr key flags amount member))
 zadd_incr key flags _ = Err refused.OnePair
 
 -- ZADD's words after the key: flags, and then pairs
@@ -83,7 +86,8 @@ zadd key words pairs =
 
 -- the flags stand up to the first word that is none
 abbrev pub zadd_words : Word → List Word → Reading
-zadd_words key words = zadd key (take (prefix_len is_flag words) words) (drop (prefix_len is_flag words) words)
+zadd_words key words = zadd key (take (prefix_len is_flag words) words)
+    (drop (prefix_len is_flag words) words)
 
 abbrev pub by_place : Word → Word → Word → Bool → Bool → Reading
 by_place key start stop is_turned with_scores =
@@ -93,12 +97,16 @@ by_place key start stop is_turned with_scores =
 -- the two words are min and max, and with REV max and min
 abbrev pub by_score : Word → Word → Word → Option (Option Window) → Bool → Bool → Reading
 by_score key a b window is_turned with_scores =
-    or_else refused.Bound (bound_of a) (λ first. or_else refused.Bound (bound_of b) (λ second. or_else refused.Whole window (λ given.
-    Ok (Zrange key (if is_turned then ByScore second first given else ByScore first second given) is_turned with_scores))))
+    or_else refused.Bound (bound_of a)
+    (λ first. or_else refused.Bound (bound_of b)
+    (λ second. or_else refused.Whole window (λ given.
+    Ok (Zrange key (if is_turned then ByScore second first given else ByScore first second given)
+    is_turned with_scores))))
 
 abbrev pub zrange : Word → Word → Word → List RangeOption → Reading
 zrange key a b options =
-    if list_any is_by_scores options then by_score key a b (limit_in (limits_in options) None) (list_any is_rev options) (list_any is_with_scores options) else
+    if list_any is_by_scores options then by_score key a b (limit_in (limits_in options) None)
+    (list_any is_rev options) (list_any is_with_scores options) else
     if nat_le 1 (length (limits_in options)) then Err refused.Syntax else
     by_place key a b (list_any is_rev options) (list_any is_with_scores options)
 
@@ -107,9 +115,12 @@ zpopmin key count = if int_lt count (pos 0) then Err refused.Negative else Ok (Z
 
 abbrev pub names : List (Word × Name)
 names =
-    (codes "PING", name.Ping) ∷ (codes "ZADD", name.Zadd) ∷ (codes "ZINCRBY", name.Zincrby) ∷ (codes "ZREM", name.Zrem)
-    ∷ (codes "ZSCORE", name.Zscore) ∷ (codes "ZCARD", name.Zcard) ∷ (codes "ZCOUNT", name.Zcount) ∷ (codes "ZRANK", name.Zrank)
-    ∷ (codes "ZREVRANK", name.Zrevrank) ∷ (codes "ZRANGE", name.Zrange) ∷ (codes "ZPOPMIN", name.Zpopmin)
+    (codes "PING", name.Ping) ∷ (codes "ZADD", name.Zadd) ∷ (codes "ZINCRBY", name.Zincrby)
+    ∷ (codes "ZREM", name.Zrem)
+    ∷ (codes "ZSCORE", name.Zscore) ∷ (codes "ZCARD", name.Zcard) ∷ (codes "ZCOUNT", name.Zcount)
+    ∷ (codes "ZRANK", name.Zrank)
+    ∷ (codes "ZREVRANK", name.Zrevrank) ∷ (codes "ZRANGE", name.Zrange)
+    ∷ (codes "ZPOPMIN", name.Zpopmin)
     ∷ (codes "ZPOPNEAR", name.Zpopnear) ∷ (codes "DEL", name.Del) ∷ []
 
 abbrev pub name_of : Word → Option Name
@@ -120,15 +131,18 @@ abbrev pub command : Name → List Word → Reading
 command name.Ping [] = Ok (Ping None)
 command name.Ping (message ∷ []) = Ok (Ping (Some message))
 command name.Zadd (key ∷ first ∷ second ∷ words) = zadd_words key (first ∷ second ∷ words)
-command name.Zincrby (key ∷ increment ∷ member ∷ []) = or_else refused.Score (written_score increment) (λ amount. Ok (Zincrby key amount member))
+command name.Zincrby (key ∷ increment ∷ member ∷ []) =
+    or_else refused.Score (written_score increment) (λ amount. Ok (Zincrby key amount member))
 command name.Zrem (key ∷ member ∷ members) = Ok (Zrem key (member ∷ members))
 command name.Zscore (key ∷ member ∷ []) = Ok (Zscore key member)
 command name.Zcard (key ∷ []) = Ok (Zcard key)
 command name.Zcount (key ∷ min ∷ max ∷ []) =
-    or_else refused.Bound (bound_of min) (λ low. or_else refused.Bound (bound_of max) (λ high. Ok (Zcount key low high)))
+    or_else refused.Bound (bound_of min)
+    (λ low. or_else refused.Bound (bound_of max) (λ high. Ok (Zcount key low high)))
 command name.Zrank (key ∷ member ∷ []) = Ok (Zrank key member)
 command name.Zrevrank (key ∷ member ∷ []) = Ok (Zrevrank key member)
-command name.Zrange (key ∷ a ∷ b ∷ words) = or_else refused.Syntax (options_of words) (zrange key a b)
+command name.Zrange (key ∷ a ∷ b ∷ words) =
+    or_else refused.Syntax (options_of words) (zrange key a b)
 command name.Zpopmin (key ∷ []) = Ok (Zpopmin key (pos 1))
 command name.Zpopmin (key ∷ count ∷ []) = or_else refused.Whole (whole_of count) (zpopmin key)
 command name.Zpopnear (key ∷ []) = Ok (Zpopnear key)

@@ -25,7 +25,8 @@ abbrev pub IsRange : Range → Type 0
 IsRange (ByPlace start stop) = Unit {0}
 IsRange (ByScore min max window) = IsLimit min.limit × IsLimit max.limit
 
--- keys and members are short, scores in range, a count to pop is not negative, and there are no more parts than a request has words
+-- keys and members are short, scores in range, a count to pop is not negative, and there are no
+-- more parts than a request has words
 abbrev pub IsWithinLimits : Command → Type 0
 IsWithinLimits (Ping message) = Unit {0}
 IsWithinLimits (Zadd key flags pairs) = IsShort key × All IsPair pairs × (length pairs ≤ 65536)

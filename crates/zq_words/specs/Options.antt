@@ -51,9 +51,12 @@ abbrev pub limits_in : List RangeOption → List (Word × Word)
 limits_in options = filter_map limit_words options
 
 abbrev pub window_of : Word → Word → Option Window
-window_of offset count = option_and_then (λ n. option_and_then (λ m. Some (record { offset = n; count = m })) (whole_of count)) (whole_of offset)
+window_of offset count =
+    option_and_then (λ n. option_and_then (λ m. Some (record { offset = n; count = m }))
+    (whole_of count)) (whole_of offset)
 
 -- the numbers of each LIMIT, from left to right, of which the last count
 abbrev pub limit_in : List (Word × Word) → Option Window → Option (Option Window)
 limit_in [] last = Some last
-limit_in ((offset, count) ∷ limits) last = option_and_then (λ window. limit_in limits (Some window)) (window_of offset count)
+limit_in ((offset, count) ∷ limits) last =
+    option_and_then (λ window. limit_in limits (Some window)) (window_of offset count)

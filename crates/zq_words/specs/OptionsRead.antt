@@ -18,7 +18,12 @@ next_window None next = None
 next_window (Some last) next = option_map Some next
 
 abbrev pub with_limit : Options → Word → Word → Options
-with_limit options offset count = record options { has_limit = true; window = next_window options.window (window_of offset count) }
+with_limit options offset count =
+    record options {
+      has_limit = true;
+      window =
+          next_window options.window (window_of offset count);
+    }
 
 abbrev pub with_option : Options → RangeOption → Options
 with_option options ByScores = record options { by_score = true }
@@ -37,5 +42,7 @@ is_limit words = false
 -- the command of a key, two ends and the options
 abbrev pub ranged : Word → Word → Word → Options → Reading
 ranged key a b options =
-    if options.by_score then by_score key a b options.window options.is_turned options.with_scores else
-    if options.has_limit then Err refused.Syntax else by_place key a b options.is_turned options.with_scores
+    if options.by_score then by_score key a b options.window options.is_turned options.with_scores
+    else
+    if options.has_limit then Err refused.Syntax else by_place key a b options.is_turned
+    options.with_scores

@@ -47,7 +47,8 @@ abbrev pub takes_memory : Reading → Bool
 takes_memory (Ok (Zadd key flags pairs)) = are_several (Some pairs)
 takes_memory _ = false
 
--- A call that refused refused for the first reason, and for want of memory only a command that takes some.
+-- A call that refused refused for the first reason, and for want of memory only a command that
+-- takes some.
 abbrev pub IsRefusal : Refused → Reading → Type 0
 IsRefusal NoMemory reading = IsTrue (takes_memory reading)
 IsRefusal refused reading = reading ≡ Err refused

@@ -49,7 +49,8 @@ signed text n = if begins text (codes "-") then neg_ℤ (pos n) else pos n
 
 -- an optional sign and one or more digits
 abbrev pub integer_of : Word → Option ℤ
-integer_of text = if are_all is_ascii_digit (without_sign text) then Some (signed text (number_of (without_sign text))) else None
+integer_of text = if are_all is_ascii_digit (without_sign text) then Some
+    (signed text (number_of (without_sign text))) else None
 
 abbrev pub is_i64 : ℤ → Bool
 is_i64 z = int_le (neg_ℤ (pos (2 ^ 63))) z && int_le z (pos (2 ^ 63 - 1))
@@ -67,6 +68,9 @@ is_point b = b == 46
 abbrev pub is_zero : ℕ → Bool
 is_zero b = b == 48
 
--- the text of a score or an increment: a point, where there is one, has one or more zeros after it and nothing else
+-- the text of a score or an increment: a point, where there is one, has one or more zeros after it
+-- and nothing else
 abbrev pub written_score : Word → Option ℤ
-written_score text = if list_any is_point text && not (are_all is_zero (after_first is_point text)) then None else if_passes is_in_range (integer_of (before_first is_point text))
+written_score text = if list_any is_point text && not
+    (are_all is_zero (after_first is_point text)) then None else if_passes is_in_range
+    (integer_of (before_first is_point text))

@@ -6,7 +6,8 @@ ghost use Rattle.zq_words.specs.Bounds.{bound_of, limit_of};
 use crate::number::parse_score;
 use crate::word::is_word;
 
-/// Where a bound lies. A score's amount is at most 9007199254740992 in what [`crate::Command::read`] gives.
+/// Where a bound lies. A score's amount is at most 9007199254740992 in what
+/// [`crate::Command::read`] gives.
 #[derive(Clone, Copy, Debug, PartialEq, Eq)]
 pub enum Limit {
     /// Below each score.
@@ -24,8 +25,8 @@ pub struct Bound {
     pub limit: Limit,
 }
 
-/// The bound that a text writes: a parenthesis, which leaves the limit itself out, or none, and then a score's
-/// text, `-inf`, `+inf` or `inf` in any ASCII case. `None` for another text.
+/// The bound that a text writes: a parenthesis, which leaves the limit itself out, or none, and
+/// then a score's text, `-inf`, `+inf` or `inf` in any ASCII case. `None` for another text.
 pub fn parse_bound(text: &[u8]) -> Option<Bound>
     ensures { result ≡ bound_of text.now }
 {

@@ -14,8 +14,8 @@ use std::alloc::Global;
 use std::marker::Model;
 use zq_resp::Request;
 
-/// A command over the words of the request that it was read from. Its keys and members have at most 1,048,576
-/// bytes, its scores an amount of at most 9,007,199,254,740,992.
+/// A command over the words of the request that it was read from. Its keys and members have at most
+/// 1,048,576 bytes, its scores an amount of at most 9,007,199,254,740,992.
 #[derive(Debug, Drop)]
 pub struct Command<'a> {
     kind: Kind<'a>,
@@ -34,10 +34,11 @@ impl<'a> Model for Command<'a> {
 }
 
 impl<'a> Command<'a> {
-    /// The command that the request's words are, or the first reason for which they are none. Only ZADD of
-    /// several pairs takes memory.
+    /// The command that the request's words are, or the first reason for which they are none. Only
+    /// ZADD of several pairs takes memory.
     pub fn read(alloc: Global, request: &'a Request) -> Result<Self, Refused>
-        ensures { MatchResult result (λ c. command_of request.now ≡ Ok c) (λ refused. IsRefusal refused (command_of request.now)) }
+        ensures { MatchResult result (λ c. command_of request.now ≡ Ok c)
+            (λ refused. IsRefusal refused (command_of request.now)) }
     {
         let kind = read_words(alloc, request.words())?;
         Ok(Command { kind })
@@ -51,8 +52,9 @@ impl<'a> Command<'a> {
         &self.kind
     }
 
-    /// The heaps that it works in, of 1 to 16 heaps: one for ZADD and ZREM of one member, ZADD with INCR, ZINCRBY
-    /// and ZSCORE, two that are drawn for ZPOPNEAR, none for PING, and all for the others.
+    /// The heaps that it works in, of 1 to 16 heaps: one for ZADD and ZREM of one member, ZADD with
+    /// INCR, ZINCRBY and ZSCORE, two that are drawn for ZPOPNEAR, none for PING, and all for the
+    /// others.
     pub fn heaps(&self, heaps: u8) -> Heaps
         requires { (1 ≤ heaps) × (heaps ≤ 16) }
         ensures { result ≡ heaps_named self.now heaps }

@@ -1,6 +1,6 @@
-//! Commands of a priority queue, read from the words of a request (Redis command reference: sorted sets, with
-//! PING and DEL): what each asks for, or the first reason for which the words are no command, and the heaps that
-//! it works in.
+//! Commands of a priority queue, read from the words of a request (Redis command reference: sorted
+//! sets, with PING and DEL): what each asks for, or the first reason for which the words are no
+//! command, and the heaps that it works in.
 #![tactic(auto)]
 
 mod bound;

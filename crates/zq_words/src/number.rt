@@ -14,9 +14,9 @@ const LEAST: u64 = 9_223_372_036_854_775_808;
 /// A number of so many digits takes 64 bits at most.
 const FEW_DIGITS: usize = 18;
 
-/// The score that a text writes: a sign or none, one or more digits, and then nothing or a point with
-/// one or more zeros behind it. `None` for another text, and for a number whose amount is above
-/// 9,007,199,254,740,992.
+/// The score that a text writes: a sign or none, one or more digits, and then nothing or a point
+/// with one or more zeros behind it. `None` for another text, and for a number whose amount is
+/// above 9,007,199,254,740,992.
 #[inline(always)]
 pub fn parse_score(text: &[u8]) -> Option<i64>
     ensures { result ≡ written_score text.now }
@@ -27,8 +27,8 @@ pub fn parse_score(text: &[u8]) -> Option<i64>
     }
 }
 
-/// What a text of at most 18 digits, and of nothing else, writes, and `None` for any other text. Most scores are such
-/// texts, and one pass reads them.
+/// What a text of at most 18 digits, and of nothing else, writes, and `None` for any other text.
+/// Most scores are such texts, and one pass reads them.
 fn plain_amount(text: &[u8]) -> Option<u64>
     ensures digits { IfSome result (λ amount. IsTrue (are_all is_ascii_digit text.now)) }
     ensures amount { IfSome result (λ amount. amount ≡ number_of text.now) }
@@ -47,8 +47,8 @@ fn plain_amount(text: &[u8]) -> Option<u64>
     Some(amount)
 }
 
-/// The whole number that a text writes: a sign or none, and one or more digits. `None` for another text,
-/// and for a number that an `i64` does not hold.
+/// The whole number that a text writes: a sign or none, and one or more digits. `None` for another
+/// text, and for a number that an `i64` does not hold.
 pub fn parse_whole(text: &[u8]) -> Option<i64>
     ensures { result ≡ whole_of text.now }
 {
@@ -100,7 +100,9 @@ fn negated(amount: u64) -> Option<i64>
 /// The text before the point, or all of it where there is none.
 fn whole_part(text: &[u8]) -> Option<&[u8]>
     ensures { option_map (λ part. part.now) result ≡
-        (if list_any is_point text.now && not (are_all is_zero (after_first is_point text.now)) then None else Some (before_first is_point text.now)) }
+        (if list_any is_point text.now && not
+        (are_all is_zero (after_first is_point text.now)) then None else Some
+        (before_first is_point text.now)) }
 {
     match point_of(text) {
         None => Some(text),

@@ -65,7 +65,8 @@ impl Options {
     }
 }
 
-/// The options that the words are, and `None` where a word is none, or a LIMIT has no two words behind it.
+/// The options that the words are, and `None` where a word is none, or a LIMIT has no two words
+/// behind it.
 pub fn read_options(words: &[Vec<u8>]) -> Option<Options>
     ensures { result ≡ option_map (read no_options) (options_of (views words.now)) }
 {

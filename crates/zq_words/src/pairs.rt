@@ -31,13 +31,14 @@ impl<'a> Pairs<'a> {
     }
 }
 
-/// The pairs that these words write, a score before each member, and `None` where one is no score. Memory is
-/// asked for only where there are several pairs, and each has a score.
+/// The pairs that these words write, a score before each member, and `None` where one is no score.
+/// Memory is asked for only where there are several pairs, and each has a score.
 #[tactic(auto, using(crate::proofs::PairLists::one_pair))]
 pub fn read_pairs<'a>(alloc: Global, words: &'a [Vec<u8>]) -> Result<Option<Pairs<'a>>, AllocError>
     requires two { 2 ≤ length words.now }
     requires even { length words.now % 2 ≡ 0 }
-    ensures pairs { IfOk result (λ pairs. option_map pairs_shown pairs ≡ pairs_of (views words.now)) }
+    ensures pairs { IfOk result (λ pairs. option_map pairs_shown pairs
+        ≡ pairs_of (views words.now)) }
     ensures refused { OnErr result (IsTrue (are_several (pairs_of (views words.now)))) }
 {
     if words.len() > 2 {
@@ -56,7 +57,8 @@ pub fn read_pairs<'a>(alloc: Global, words: &'a [Vec<u8>]) -> Result<Option<Pair
 fn read_several<'a>(alloc: Global, words: &'a [Vec<u8>]) -> Result<Option<Pairs<'a>>, AllocError>
     requires several { 3 ≤ length words.now }
     requires even { length words.now % 2 ≡ 0 }
-    ensures pairs { IfOk result (λ pairs. option_map pairs_shown pairs ≡ pairs_of (views words.now)) }
+    ensures pairs { IfOk result (λ pairs. option_map pairs_shown pairs
+        ≡ pairs_of (views words.now)) }
     ensures refused { OnErr result (IsTrue (are_several (pairs_of (views words.now)))) }
 {
     if !has_scores(words) {
@@ -82,7 +84,8 @@ fn has_scores(words: &[Vec<u8>]) -> bool
 /// The pairs that these words write. It takes memory for them at once.
 fn read_scored<'a>(alloc: Global, words: &'a [Vec<u8>]) -> Result<Vec<Pair<'a>>, AllocError>
     requires { IsTrue (is_some (pairs_of (views words.now))) }
-    ensures { IfOk result (λ pairs. pairs_of (views words.now) ≡ Some (map pair_shown pairs.items)) }
+    ensures { IfOk result (λ pairs. pairs_of (views words.now)
+        ≡ Some (map pair_shown pairs.items)) }
 {
     let mut pairs = Vec::with_capacity(alloc, words.len() / 2)?;
     let mut rest = words;

@@ -2,8 +2,8 @@
 
 use crate::bound::Bound;
 
-/// The places from `start` to `stop`, both included, or the scores from `min` to `max` and, of those, a window.
-/// A negative place counts from the end.
+/// The places from `start` to `stop`, both included, or the scores from `min` to `max` and, of
+/// those, a window. A negative place counts from the end.
 #[derive(Clone, Copy, Debug, PartialEq, Eq)]
 pub enum Range {
     ByPlace {
@@ -17,8 +17,8 @@ pub enum Range {
     },
 }
 
-/// How many are left out first, and then how many are given. A negative count gives all, and a negative offset
-/// none.
+/// How many are left out first, and then how many are given. A negative count gives all, and a
+/// negative offset none.
 #[derive(Clone, Copy, Debug, PartialEq, Eq)]
 pub struct Window {
     pub offset: i64,

@@ -8,16 +8,16 @@ ghost use Rattle.zq_words.specs.Refused.{refused_text};
 use std::alloc::AllocError;
 use zq_resp::Reply;
 
-/// The first reason for which a request is answered by an error: up to `OnePair` in this order, and then for
-/// numbers and bounds as they stand from left to right, and then for memory.
+/// The first reason for which a request is answered by an error: up to `OnePair` in this order, and
+/// then for numbers and bounds as they stand from left to right, and then for memory.
 #[derive(Clone, Copy, Debug, PartialEq, Eq)]
 pub enum Refused {
     /// No command has this name.
     Unknown,
     /// The command does not take this number of words.
     Words,
-    /// An unknown option, a LIMIT without two words behind it or without BYSCORE, scores without members, or no
-    /// pair at all.
+    /// An unknown option, a LIMIT without two words behind it or without BYSCORE, scores without
+    /// members, or no pair at all.
     Syntax,
     /// Flags of ZADD that exclude each other.
     Flags,

@@ -3,8 +3,8 @@
 ghost use Rattle.std.specs.Prelude.{IsTrue, ◌≡◌};
 ghost use Rattle.zq_words.specs.Words.{has, is, views};
 
-/// Whether a word is this one, without regard to ASCII case. Most clients write names as they are written here, which a
-/// comparison of bytes sees first.
+/// Whether a word is this one, without regard to ASCII case. Most clients write names as they are
+/// written here, which a comparison of bytes sees first.
 #[inline(always)]
 pub fn is_word(word: &[u8], name: &[u8]) -> bool
     ensures { result ≡ is word.now name.now }

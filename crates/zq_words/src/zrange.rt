@@ -33,7 +33,9 @@ fn read_parts<'a>(
     second: &[u8],
     words: &[Vec<u8>],
 ) -> Result<Kind<'a>, Refused>
-    ensures { Reads result (or_else refused.Syntax (options_of (views words.now)) (zrange key.now first.now second.now)) }
+    ensures { Reads result
+        (or_else refused.Syntax (options_of (views words.now))
+        (zrange key.now first.now second.now)) }
 {
     match read_options(words) {
         Some(options) => read_ranged(key, first, second, &options),
@@ -64,7 +66,8 @@ fn read_by_place<'a>(
     stop: &[u8],
     options: &Options,
 ) -> Result<Kind<'a>, Refused>
-    ensures { Reads result (by_place key.now start.now stop.now options.now.is_turned options.now.with_scores) }
+    ensures { Reads result
+        (by_place key.now start.now stop.now options.now.is_turned options.now.with_scores) }
 {
     let start = parse_whole(start).ok_or(Refused::Whole)?;
     let stop = parse_whole(stop).ok_or(Refused::Whole)?;
@@ -83,7 +86,9 @@ fn read_by_score<'a>(
     second: &[u8],
     options: &Options,
 ) -> Result<Kind<'a>, Refused>
-    ensures { Reads result (by_score key.now first.now second.now options.now.window options.now.is_turned options.now.with_scores) }
+    ensures { Reads result
+        (by_score key.now first.now second.now options.now.window options.now.is_turned
+        options.now.with_scores) }
 {
     let first = parse_bound(first).ok_or(Refused::Bound)?;
     let second = parse_bound(second).ok_or(Refused::Bound)?;

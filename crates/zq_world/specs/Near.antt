@@ -12,7 +12,8 @@ use Rattle.zq_semantics.specs.Plan.{is_there}
 -- over two of the books where one of them has a member of the key, and else over all
 abbrev pub near_queue : Rule → Book → Book → List Book → List ℕ → Queue
 near_queue rule low high books key =
-    if is_there (queues_of rule (low ∷ high ∷ []) key) then queues_of rule (low ∷ high ∷ []) key else queues_of rule books key
+    if is_there (queues_of rule (low ∷ high ∷ []) key) then queues_of rule
+    (low ∷ high ∷ []) key else queues_of rule books key
 
 -- the first pair is there, and less than the second, if that is there
 abbrev pub is_least : Option Scored → Option Scored → Bool

@@ -46,19 +46,23 @@ abbrev pub after : Played → runs.Event → Played
 after played e = record played { events = played.events ++ e ∷ [] }
 
 -- the books of each site are those of the state, and the list of what was made is the state's
-pub record Stands (rule : Rule) (K sites : ℕ) (st : State) (books : List (Vec Book Global)) (made : List Placed) : Type 0 where
+pub record Stands (rule : Rule) (K sites : ℕ) (st : State) (books : List (Vec Book Global))
+    (made : List Placed) : Type 0 where
   pub number : length books ≡ sites
-  pub each : (site : ℕ) (its : Vec Book Global) → slice_get books site ≡ Some its → AreBooksOf rule K st site its.items
+  pub each : (site : ℕ) (its : Vec Book Global) → slice_get books site ≡ Some its →
+      AreBooksOf rule K st site its.items
   pub told : made ≡ map (placed K) st.made
 
 -- what was played can be, and left this; there are the two heaps that ZPOPNEAR draws
 pub record Holds (played : Played) (player : Player) : Type 0 where
   pub two : 2 ≤ played.heaps
   pub playable : IsPlayable played.rule played.heaps played.sites played.events
-  pub stands : Stands played.rule played.heaps played.sites (run_of played).now player.sites.items player.made.items
+  pub stands : Stands played.rule played.heaps played.sites
+      (run_of played).now player.sites.items player.made.items
   pub answers : map answer_in player.answers.items ≡ (run_of played).answers
 
 -- what a command made of a site, and its reply
 pub record IsDone (played : Played) (done : Done) (player : Player) (reply : Reply) : Type 0 where
-  pub stands : Stands played.rule played.heaps played.sites done.now player.sites.items player.made.items
+  pub stands : Stands played.rule played.heaps played.sites done.now player.sites.items
+      player.made.items
   pub says : reply_bytes reply ≡ done.reply

@@ -27,4 +27,5 @@ AreAmong K made = (p : Placed) → IsIn p made → p.heaps ≡ K
 
 -- where the books are of so many heaps, and so is what was made, they still are
 abbrev pub KeepsHeaps : List Book → List Placed → List Book → List Placed → Type 0
-KeepsHeaps books made later told = (K : ℕ) → heaps_in books ≡ K → AreAmong K made → (heaps_in later ≡ K) × AreAmong K told
+KeepsHeaps books made later told = (K : ℕ) → heaps_in books ≡ K → AreAmong K made →
+    (heaps_in later ≡ K) × AreAmong K told

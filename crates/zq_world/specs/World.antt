@@ -16,7 +16,8 @@ use Rattle.zq_semantics.specs.Runs.{IsPlayable, run}
 use Rattle.zq_words.specs.Words.{Word}
 use Rattle.zq_world.specs.Frames.{placed}
 
--- the books of each site, by heap, the operations that were made, the oldest first, and what each event was answered
+-- the books of each site, by heap, the operations that were made, the oldest first, and what each
+-- event was answered
 pub record Left : Type 0 where
   pub books : List (List Book)
   pub made : List Placed
@@ -33,7 +34,8 @@ pub record IsSized (sites heaps : ℕ) : Type 0 where
 pub record IsPlayed (rule : Rule) (K sites : ℕ) (events : List Event) (left : Left) : Type 0 where
   pub playable : IsPlayable rule K sites events
   pub number : length left.books ≡ sites
-  pub books : (site : ℕ) (its : List Book) → slice_get left.books site ≡ Some its → AreBooksOf rule K (run rule K events).now site its
+  pub books : (site : ℕ) (its : List Book) → slice_get left.books site ≡ Some its →
+      AreBooksOf rule K (run rule K events).now site its
   pub made : left.made ≡ map (placed K) (run rule K events).now.made
   pub answers : left.answers ≡ (run rule K events).answers
 
@@ -91,12 +93,18 @@ answer-from_sides (Handed taken) = refl
 answer-from_sides Merged = refl
 
 abbrev answer_code : Coded Answer
-answer_code = code_by (Word ⊎ Option (Option Taken)) (coded⊎ bytes_code (coded_option (coded_option taken_code))) sides_of answer_from answer-from_sides
+answer_code = code_by (Word ⊎ Option (Option Taken))
+    (coded⊎ bytes_code (coded_option (coded_option taken_code))) sides_of answer_from
+    answer-from_sides
 
 abbrev placed_code : Coded Placed
-placed_code = code_by (ℕ × Operation) (coded× coded_ℕ operation_code) (λ p. (p.heaps, p.operation)) (λ p. record { heaps = p.0; operation = p.1 }) (λ _. refl)
+placed_code = code_by (ℕ × Operation) (coded× coded_ℕ operation_code) (λ p. (p.heaps, p.operation))
+    (λ p. record { heaps = p.0; operation = p.1 }) (λ _. refl)
 
 abbrev pub left_code : Coded Left
 left_code =
-    code_by (List (List Book) × (List Placed × List Answer)) (coded× (coded_list (coded_list book_code)) (coded× (coded_list placed_code) (coded_list answer_code)))
-    (λ l. (l.books, (l.made, l.answers))) (λ p. record { books = p.0; made = p.1.0; answers = p.1.1 }) (λ _. refl)
+    code_by (List (List Book) × (List Placed × List Answer))
+    (coded× (coded_list (coded_list book_code))
+    (coded× (coded_list placed_code) (coded_list answer_code)))
+    (λ l. (l.books, (l.made, l.answers)))
+    (λ p. record { books = p.0; made = p.1.0; answers = p.1.1 }) (λ _. refl)

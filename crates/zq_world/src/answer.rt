@@ -7,7 +7,8 @@ use zq_shard::Taken;
 pub(crate) enum Answer {
     /// A request, by the bytes of its reply.
     Replied(Vec<u8>),
-    /// An operation that was handed over. There is nothing where a number that the site needs is at its last value.
+    /// An operation that was handed over. There is nothing where a number that the site needs is at
+    /// its last value.
     Handed(Option<Taken>),
     /// A merge, which answers nothing.
     Merged,

@@ -32,7 +32,8 @@ pub(crate) fn ask(
     requires held { (played : Played) × Holds played player.old }
     requires inside { site < length player.old.sites.items }
     ensures memory { IfErr result (λ fault. fault ≡ PlayFault.NoMemory) }
-    ensures held { OnOk result ((played : Played) → Holds played player.old → Holds (after played (runs.Do site request.now words.0 words.1)) player.new) }
+    ensures held { OnOk result ((played : Played) → Holds played player.old →
+        Holds (after played (runs.Do site request.now words.0 words.1)) player.new) }
 {
     // The words are those of a request, as its type says.
     let _words = request.words();
@@ -56,7 +57,8 @@ fn reply_to(
     requires inside { site < length player.old.sites.items }
     ensures memory { IfErr result (λ fault. fault ≡ PlayFault.NoMemory) }
     ensures done { IfOk result (λ reply. (played : Played) → Holds played player.old →
-        IsDone played (done played.rule played.heaps site words.0 words.1 (run_of played).now (command_of request.now)) player.new reply) }
+        IsDone played (done played.rule played.heaps site words.0 words.1 (run_of played).now
+        (command_of request.now)) player.new reply) }
     ensures answers { OnOk result (player.new.answers.items ≡ player.old.answers.items) }
     ensures writable { IfOk result (λ reply. IsTrue (is_writable reply)) }
 {
@@ -79,8 +81,10 @@ fn do_command(
     requires inside { site < length player.old.sites.items }
     ensures memory { IfErr result (λ fault. fault ≡ PlayFault.NoMemory) }
     ensures done { IfOk result (λ reply. (played : Played) → Holds played player.old →
-        IsDone played (done_command played.rule played.heaps site words.0 words.1 (run_of played).now command.now
-        (queues_for played.rule played.heaps ((run_of played).now.sets site) words.0 words.1 command.now)) player.new reply) }
+        IsDone played (done_command played.rule played.heaps site words.0 words.1
+        (run_of played).now command.now
+        (queues_for played.rule played.heaps
+        ((run_of played).now.sets site) words.0 words.1 command.now)) player.new reply) }
     ensures answers { OnOk result (player.new.answers.items ≡ player.old.answers.items) }
     ensures writable { IfOk result (λ reply. IsTrue (is_writable reply)) }
 {

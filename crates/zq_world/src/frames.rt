@@ -23,18 +23,25 @@ use zq_merge::read_state;
 use zq_posheap::Seeded;
 use zq_shard::Shard;
 
-/// The operations of a world, and the images that its sites had, are unchanged where they are written and read in between.
+/// The operations of a world, and the images that its sites had, are unchanged where they are
+/// written and read in between.
 pub fn carrying()
-    ensures operations { (rule : Rule) (K sites : ℕ) (events : List Event) → IsPlayable rule K sites events → (o : Operation) → IsIn o (run rule K events).now.made →
-        found_at (op_spelling delta.Two (placed K o)) ≡ Ok (placed K o, length (op_spelling delta.Two (placed K o))) }
-    ensures images { (rule : Rule) (K sites : ℕ) (events : List Event) → IsPlayable rule K sites events → (moment site heap : ℕ) → heap < K →
-        state_at (state_spelling merge.Three (heap_at rule K (set_at (run rule K events) moment site) heap)) ≡ Ok (heap_at rule K (set_at (run rule K events) moment site) heap) }
+    ensures operations { (rule : Rule) (K sites : ℕ) (events : List Event) →
+        IsPlayable rule K sites events → (o : Operation) → IsIn o (run rule K events).now.made →
+        found_at (op_spelling delta.Two (placed K o))
+        ≡ Ok (placed K o, length (op_spelling delta.Two (placed K o))) }
+    ensures images { (rule : Rule) (K sites : ℕ) (events : List Event) →
+        IsPlayable rule K sites events → (moment site heap : ℕ) → heap < K →
+        state_at (state_spelling merge.Three
+        (heap_at rule K (set_at (run rule K events) moment site) heap))
+        ≡ Ok (heap_at rule K (set_at (run rule K events) moment site) heap) }
 {}
 
-/// An operation as another site reads it, by way of its bytes: an equal one, as those of a world are. It fails only where
-/// memory is refused.
+/// An operation as another site reads it, by way of its bytes: an equal one, as those of a world
+/// are. It fails only where memory is refused.
 pub(crate) fn carry(alloc: Global, op: &Op) -> Result<Op, PlayFault>
-    ensures same { found_at (op_spelling delta.Two op.now) ≡ Ok (op.now, length (op_spelling delta.Two op.now)) → IfOk result (λ x. x ≡ op.now) }
+    ensures same { found_at (op_spelling delta.Two op.now)
+        ≡ Ok (op.now, length (op_spelling delta.Two op.now)) → IfOk result (λ x. x ≡ op.now) }
     ensures refused { IfErr result (λ why. why ≡ fault.NoMemory) }
 {
     let bytes = write_op(alloc, op)?;
@@ -44,7 +51,8 @@ pub(crate) fn carry(alloc: Global, op: &Op) -> Result<Op, PlayFault>
     }
 }
 
-/// A state as another site reads it, where the bytes are those of one. It fails only where memory is refused.
+/// A state as another site reads it, where the bytes are those of one. It fails only where memory
+/// is refused.
 pub(crate) fn receive(alloc: Global, bytes: &[u8], hasher: Seeded) -> Result<Shard, PlayFault>
     ensures same { (s : HeapImage) → state_at bytes.now ≡ Ok s → IfOk result (λ x. x ≡ s) }
     ensures refused { IfErr result (λ why. why ≡ fault.NoMemory) }

@@ -31,7 +31,8 @@ impl Books for Holder {
 
     ghost lent = { λ holder. lending_told holder.books.items holder.made.items };
 
-    ghost keeps = { λ old new. KeepsHeaps old.books.items old.made.items new.books.items new.made.items };
+    ghost keeps = { λ old new.
+        KeepsHeaps old.books.items old.made.items new.books.items new.made.items };
 
     fn len(&self) -> usize {
         self.books.as_slice().len()
@@ -105,11 +106,12 @@ impl Books for Holder {
 
     ghost keeps_itself = { λ holder. λ K heaps are. (heaps, are) };
 
-    ghost keeps_through = { λ x y z first second. λ K heaps are. second K (first K heaps are).0 (first K heaps are).1 };
+    ghost keeps_through = { λ x y z first second. λ K heaps are.
+        second K (first K heaps are).0 (first K heaps are).1 };
 }
 
-/// Makes a site's next operation of an act in the book of its heap, and lists it. It answers whether the
-/// member stood before. Nothing has changed after an error.
+/// Makes a site's next operation of an act in the book of its heap, and lists it. It answers
+/// whether the member stood before. Nothing has changed after an error.
 fn make_in(
     book: &mut Book,
     made: &mut Vec<Op>,
@@ -125,9 +127,14 @@ fn make_in(
     requires bounded { stamp ≤ LAST_COUNT }
     requires key { length key.now ≤ LONGEST }
     requires member { length member.now ≤ LONGEST }
-    ensures made { OnOk result (book.new ≡ made_in site stamp (record { key = key.now; member = member.now; act = act_of act }) book.old) }
-    ensures listed { OnOk result (made.new.items ≡ made.old.items ++ told_in site (record { key = key.now; member = member.now; act = act_of act }) book.old ∷ []) }
-    ensures stood { IfOk result (λ stood. stood ≡ is_some (get book.old.state.members (key.now, member.now))) }
+    ensures made { OnOk result
+        (book.new ≡ made_in site stamp
+        (record { key = key.now; member = member.now; act = act_of act }) book.old) }
+    ensures listed { OnOk result
+        (made.new.items ≡ made.old.items ++ told_in site
+        (record { key = key.now; member = member.now; act = act_of act }) book.old ∷ []) }
+    ensures stood { IfOk result
+        (λ stood. stood ≡ is_some (get book.old.state.members (key.now, member.now))) }
     ensures bounded { OnOk result (IsBounded book.new.heaps book.new.heap book.new.state) }
     ensures worn { IsErrOf result Stopped.Worn ↔ (is_worn site book.old ≡ true) }
     ensures refused { OnErr result (book.new ≡ book.old) }
@@ -160,7 +167,9 @@ fn draft_in(
     requires home { is_home_of key.now member.now book.now ≡ true }
     requires key { length key.now ≤ LONGEST }
     requires member { length member.now ≤ LONGEST }
-    ensures drafted { IfOk result (λ op. op ≡ told_in site (record { key = key.now; member = member.now; act = act_of act }) book.now) }
+    ensures drafted { IfOk result
+        (λ op. op ≡ told_in site (record { key = key.now; member = member.now; act = act_of act })
+        book.now) }
     ensures worn { IsErrOf result Stopped.Worn ↔ (is_worn site book.now ≡ true) }
 {
     if book.count() == LAST {

@@ -27,7 +27,8 @@ pub(crate) fn no_frames(alloc: Global, events: usize) -> Result<Vec<Vec<u8>>, Pl
     Ok(frames)
 }
 
-/// Writes the frames of the images that the sites have at this moment, which the events of these places merge.
+/// Writes the frames of the images that the sites have at this moment, which the events of these
+/// places merge.
 pub(crate) fn keep(
     alloc: Global,
     player: &Player,
@@ -39,12 +40,17 @@ pub(crate) fn keep(
     requires held { (played : Played) × Holds played player.now × (length played.events ≡ at) }
     requires number { length frames.old.items ≡ length events.now }
     requires inside { (place : ℕ) → IsIn place places.now → place < length events.now }
-    requires wanted { (place site from heap : ℕ) → slice_get (map event_of events.now) place ≡ Some (runs.Merge site from heap at) → IsIn place places.now }
+    requires wanted { (place site from heap : ℕ) →
+        slice_get (map event_of events.now) place ≡ Some (runs.Merge site from heap at) →
+        IsIn place places.now }
     ensures memory { IfErr result (λ fault. fault ≡ PlayFault.NoMemory) }
     ensures number { OnOk result (length frames.new.items ≡ length frames.old.items) }
-    ensures ready { OnOk result ((played : Played) → Holds played player.now → length played.events ≡ at →
-        AreReady played at at (map event_of events.now) (map (λ frame. frame.items) frames.old.items) →
-        AreReady played (at + 1) at (map event_of events.now) (map (λ frame. frame.items) frames.new.items)) }
+    ensures ready { OnOk result ((played : Played) → Holds played player.now →
+        length played.events ≡ at →
+        AreReady played at at (map event_of events.now)
+        (map (λ frame. frame.items) frames.old.items) →
+        AreReady played (at + 1) at (map event_of events.now)
+        (map (λ frame. frame.items) frames.new.items)) }
 {
     for i in 0..places.len() {
         let place = places[i];
@@ -64,7 +70,8 @@ fn frame_for(
 ) -> Result<Option<Vec<u8>>, PlayFault>
     ensures none { result ≡ Ok None → IsElsewhere sites.now at (event_of event.now) }
     ensures memory { IfErr result (λ fault. fault ≡ PlayFault.NoMemory) }
-    ensures some { IfOk result (λ frame. IfSome frame (λ bytes. IsFrame sites.now at (event_of event.now) bytes.items)) }
+    ensures some { IfOk result
+        (λ frame. IfSome frame (λ bytes. IsFrame sites.now at (event_of event.now) bytes.items)) }
 {
     let Event::Merge {
         from,

@@ -1,8 +1,10 @@
-//! Worlds: sites that are asked requests, are handed each other's operations and merge each other's images, in any order.
+//! Worlds: sites that are asked requests, are handed each other's operations and merge each other's
+//! images, in any order.
 //!
-//! A world has up to 64 sites of 2 to 16 heaps each. Operations and images pass from one site to another as the bytes of
-//! their frames. What the sites have after every list of events is the run of these events in `zq_semantics`: so two sites that
-//! have taken the same operations, in whatever order, answer every reading request by the same bytes.
+//! A world has up to 64 sites of 2 to 16 heaps each. Operations and images pass from one site to
+//! another as the bytes of their frames. What the sites have after every list of events is the run
+//! of these events in `zq_semantics`: so two sites that have taken the same operations, in whatever
+//! order, answer every reading request by the same bytes.
 #![tactic(auto)]
 
 mod answer;

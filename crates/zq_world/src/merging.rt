@@ -27,8 +27,11 @@ pub(crate) fn merge(
     site: u8,
     frame: &[u8],
 ) -> Result<(), PlayFault>
-    requires held { (played : Played) × ((from : ℕ) × ((heap : ℕ) × ((moment : ℕ) × IsMergeable played player.old site from heap moment frame.now))) }
-    ensures held { OnOk result ((played : Played) (from heap moment : ℕ) → IsMergeable played player.old site from heap moment frame.now →
+    requires held { (played : Played)
+        × ((from : ℕ) × ((heap : ℕ)
+        × ((moment : ℕ) × IsMergeable played player.old site from heap moment frame.now))) }
+    ensures held { OnOk result ((played : Played) (from heap moment : ℕ) →
+        IsMergeable played player.old site from heap moment frame.now →
         Holds (after played (runs.Merge site from heap moment)) player.new) }
     ensures memory { IfErr result (λ fault. fault ≡ PlayFault.NoMemory) }
 {
@@ -39,9 +42,11 @@ pub(crate) fn merge(
     Ok(())
 }
 
-/// Merges an image into the book of its heap, unless one of the books' stamps, or its count, is at its last value.
+/// Merges an image into the book of its heap, unless one of the books' stamps, or its count, is at
+/// its last value.
 fn merge_in(alloc: Global, books: &mut Vec<Book>, shard: &Shard) -> Result<(), PlayFault>
-    requires placed { (book : history.Book) × (slice_get books.old.items shard.now.heap ≡ Some book) × IsSameHeap (state_of book) shard.now × (book.rule ≡ shard.now.rule) }
+    requires placed { (book : history.Book) × (slice_get books.old.items shard.now.heap ≡ Some book)
+        × IsSameHeap (state_of book) shard.now × (book.rule ≡ shard.now.rule) }
     ensures merged { OnOk result (IsMerged shard.now books.old.items books.new.items) }
     ensures memory { IfErr result (λ fault. fault ≡ PlayFault.NoMemory) }
 {

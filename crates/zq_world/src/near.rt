@@ -16,18 +16,24 @@ use zq_commands::Books;
 use zq_journal::Book;
 use zq_model::heading;
 
-/// The place of the book that ZPOPNEAR pops by two words: of the two that they draw, the one whose first pair of the key is
-/// less, and where both have none, the one of all whose first pair is the least.
+/// The place of the book that ZPOPNEAR pops by two words: of the two that they draw, the one whose
+/// first pair of the key is less, and where both have none, the one of all whose first pair is the
+/// least.
 pub(crate) fn nearest(books: &Vec<Book>, key: &[u8], w1: u64, w2: u64) -> usize
     requires lent { IsLending (lending_of books.now.items) }
     requires some { 2 ≤ length books.now.items }
     requires few { length books.now.items ≤ 16 }
     ensures inside { result < length books.now.items }
     ensures first { (low high near : history.Book) →
-        slice_get books.now.items (min (first_drawn (length books.now.items) w1) (second_drawn (length books.now.items) w1 w2)) ≡ Some low →
-        slice_get books.now.items (max (first_drawn (length books.now.items) w1) (second_drawn (length books.now.items) w1 w2)) ≡ Some high →
+        slice_get books.now.items
+        (min (first_drawn (length books.now.items) w1)
+        (second_drawn (length books.now.items) w1 w2)) ≡ Some low →
+        slice_get books.now.items
+        (max (first_drawn (length books.now.items) w1)
+        (second_drawn (length books.now.items) w1 w2)) ≡ Some high →
         slice_get books.now.items result ≡ Some near →
-        slice_get (queues_of (rule_in books.now.items) (near ∷ []) key.now) 0 ≡ slice_get (near_queue (rule_in books.now.items) low high books.now.items key.now) 0 }
+        slice_get (queues_of (rule_in books.now.items) (near ∷ []) key.now) 0
+        ≡ slice_get (near_queue (rule_in books.now.items) low high books.now.items key.now) 0 }
 {
     // The first pair of two books is the lesser of theirs.
     heading();
@@ -47,16 +53,19 @@ pub(crate) fn nearest(books: &Vec<Book>, key: &[u8], w1: u64, w2: u64) -> usize
     }
 }
 
-/// Of two books the place of the one whose first pair of a key is less, and of the second where neither has one.
+/// Of two books the place of the one whose first pair of a key is less, and of the second where
+/// neither has one.
 fn lesser(books: &Vec<Book>, key: &[u8], one: usize, other: usize) -> usize
     requires lent { IsLending (lending_of books.now.items) }
     requires one { one < length books.now.items }
     requires other { other < length books.now.items }
     ensures inside { result < length books.now.items }
-    ensures first { (first second near : history.Book) → slice_get books.now.items one ≡ Some first → slice_get books.now.items other ≡ Some second →
+    ensures first { (first second near : history.Book) →
+        slice_get books.now.items one ≡ Some first → slice_get books.now.items other ≡ Some second →
         slice_get books.now.items result ≡ Some near →
         slice_get (queues_of (rule_in books.now.items) (near ∷ []) key.now) 0
-        ≡ least (slice_get (queues_of (rule_in books.now.items) (first ∷ []) key.now) 0) (slice_get (queues_of (rule_in books.now.items) (second ∷ []) key.now) 0) }
+        ≡ least (slice_get (queues_of (rule_in books.now.items) (first ∷ []) key.now) 0)
+        (slice_get (queues_of (rule_in books.now.items) (second ∷ []) key.now) 0) }
 {
     if is_first(books.top(one, key), books.top(other, key)) {
         one
@@ -67,7 +76,8 @@ fn lesser(books: &Vec<Book>, key: &[u8], one: usize, other: usize) -> usize
 
 /// Whether the first pair is there, and less than the second, if that is there.
 fn is_first(first: Option<(i128, &[u8])>, second: Option<(i128, &[u8])>) -> bool
-    ensures { result ≡ is_least (option_map lent_pair first.entry) (option_map lent_pair second.entry) }
+    ensures { result ≡ is_least (option_map lent_pair first.entry)
+        (option_map lent_pair second.entry) }
 {
     match (first, second) {
         (None, _) => false,
@@ -86,15 +96,18 @@ fn order(pair: &(i128, &[u8]), other: &(i128, &[u8])) -> Ordering
     }
 }
 
-/// The place of the book whose first pair of a key is the least of all, and of the last where no book has one.
+/// The place of the book whose first pair of a key is the least of all, and of the last where no
+/// book has one.
 fn least_of(books: &Vec<Book>, key: &[u8]) -> usize
     requires lent { IsLending (lending_of books.now.items) }
     requires some { 1 ≤ length books.now.items }
     ensures inside { result < length books.now.items }
     ensures first { (near : history.Book) → slice_get books.now.items result ≡ Some near →
-        slice_get (queues_of (rule_in books.now.items) (near ∷ []) key.now) 0 ≡ slice_get (queues_of (rule_in books.now.items) books.now.items key.now) 0 }
+        slice_get (queues_of (rule_in books.now.items) (near ∷ []) key.now) 0
+        ≡ slice_get (queues_of (rule_in books.now.items) books.now.items key.now) 0 }
 {
-    // The first pair of the books from a place on is the least of that book's and of those behind it.
+    // The first pair of the books from a place on is the least of that book's and of those behind
+    // it.
     heading();
     let mut place = books.as_slice().len() - 1;
     let mut near = place;

@@ -21,7 +21,9 @@ pub(crate) fn opening(alloc: Global, sites: u8, heaps: u8, rule: Rule) -> Result
     requires two { 2 ≤ heaps }
     requires sites { sites ≤ 64 }
     ensures memory { IfErr result (λ fault. fault ≡ PlayFault.NoMemory) }
-    ensures held { IfOk result (λ player. Holds (record { rule = rule_of rule; heaps = heaps; sites = sites; events = [] }) player) }
+    ensures held { IfOk result
+        (λ player. Holds (record { rule = rule_of rule; heaps = heaps; sites = sites; events = [] })
+        player) }
 {
     let mut all = Vec::new(alloc);
     for _site in 0..sites {
@@ -39,7 +41,8 @@ pub(crate) fn opening(alloc: Global, sites: u8, heaps: u8, rule: Rule) -> Result
 /// The books of a site that has done nothing.
 fn empty_books(alloc: Global, heaps: u8, rule: Rule) -> Result<Vec<Book>, AllocError>
     requires heaps { IsHeaps heaps }
-    ensures { IfOk result (λ books. (site : ℕ) → AreBooksOf (rule_of rule) heaps runs.opening site books.items) }
+    ensures { IfOk result (λ books. (site : ℕ) →
+        AreBooksOf (rule_of rule) heaps runs.opening site books.items) }
 {
     let mut books = Vec::new(alloc);
     for heap in 0..heaps {

@@ -4,8 +4,8 @@ use crate::answer::Answer;
 use zq_dots::Op;
 use zq_journal::Book;
 
-/// What the events so far left: the books of each site, by heap, the operations that were made, the oldest first, and what
-/// each event was answered.
+/// What the events so far left: the books of each site, by heap, the operations that were made, the
+/// oldest first, and what each event was answered.
 #[derive(Drop)]
 pub(crate) struct Player {
     pub(crate) sites: Vec<Vec<Book>>,

@@ -23,20 +23,24 @@ use std::alloc::Global;
 use std::mem;
 use zq_dots::Rule;
 
-/// Plays events in a world of so many sites, of so many heaps each, whose members have the greatest of their values as
-/// their scores. See [`play_ruled`].
+/// Plays events in a world of so many sites, of so many heaps each, whose members have the greatest
+/// of their values as their scores. See [`play_ruled`].
 pub fn play(alloc: Global, sites: u8, heaps: u8, events: &[Event]) -> Result<World, PlayFault>
     ensures bounds { IsErrOf result PlayFault.Bounds ↔ (IsSized sites heaps → ⊥) }
-    ensures missing { (place : ℕ) → IsErrOf result (PlayFault.NoSuch place) → first_missing model.Greatest heaps sites (map event_of events.now) ≡ Some place }
-    ensures played { IfOk result (λ world. IsPlayed model.Greatest heaps sites (map event_of events.now) world) }
+    ensures missing { (place : ℕ) → IsErrOf result (PlayFault.NoSuch place) →
+        first_missing model.Greatest heaps sites (map event_of events.now) ≡ Some place }
+    ensures played { IfOk result
+        (λ world. IsPlayed model.Greatest heaps sites (map event_of events.now) world) }
 {
     play_ruled(alloc, sites, heaps, Rule::High, events)
 }
 
-/// Plays events in a world of so many sites, of so many heaps each, whose scores follow the rule. All is empty at first.
+/// Plays events in a world of so many sites, of so many heaps each, whose scores follow the rule.
+/// All is empty at first.
 ///
-/// `Bounds` where the number of sites is not 1 to 64 or that of heaps not 2 to 16, else `NoSuch` of the place of the first
-/// event that names what does not exist then, unless memory was refused before it: `NoMemory`.
+/// `Bounds` where the number of sites is not 1 to 64 or that of heaps not 2 to 16, else `NoSuch` of
+/// the place of the first event that names what does not exist then, unless memory was refused
+/// before it: `NoMemory`.
 pub fn play_ruled(
     alloc: Global,
     sites: u8,
@@ -45,8 +49,10 @@ pub fn play_ruled(
     events: &[Event],
 ) -> Result<World, PlayFault>
     ensures bounds { IsErrOf result PlayFault.Bounds ↔ (IsSized sites heaps → ⊥) }
-    ensures missing { (place : ℕ) → IsErrOf result (PlayFault.NoSuch place) → first_missing (rule_of rule) heaps sites (map event_of events.now) ≡ Some place }
-    ensures played { IfOk result (λ world. IsPlayed (rule_of rule) heaps sites (map event_of events.now) world) }
+    ensures missing { (place : ℕ) → IsErrOf result (PlayFault.NoSuch place) →
+        first_missing (rule_of rule) heaps sites (map event_of events.now) ≡ Some place }
+    ensures played { IfOk result
+        (λ world. IsPlayed (rule_of rule) heaps sites (map event_of events.now) world) }
 {
     if sites < 1 || 64 < sites || heaps < 2 || 16 < heaps {
         return Err(PlayFault::Bounds);
@@ -68,7 +74,8 @@ pub fn play_ruled(
 
 /// Whether what an event names exists, after so many events that made so many operations.
 fn is_there(event: &Event, sites: u8, heaps: u8, made: usize, events: usize) -> bool
-    ensures { (r : Run) → length r.now.made ≡ made → length r.past ≡ events + 1 → result ≡ is_possible heaps sites r (event_of event.now) }
+    ensures { (r : Run) → length r.now.made ≡ made → length r.past ≡ events + 1 →
+        result ≡ is_possible heaps sites r (event_of event.now) }
 {
     match event {
         Event::Do { site, .. } => *site < sites,
@@ -84,9 +91,13 @@ fn is_there(event: &Event, sites: u8, heaps: u8, made: usize, events: usize) -> 
 
 /// Plays an event. It fails only where memory is refused.
 fn step(alloc: Global, player: &mut Player, event: &Event, frame: &[u8]) -> Result<(), PlayFault>
-    requires held { (played : Played) × Holds played player.old × (is_possible played.heaps played.sites (run_of played) (event_of event.now) ≡ true) × IsReady played (length (run_of played).past) (event_of event.now) frame.now }
-    ensures held { OnOk result ((played : Played) → Holds played player.old → is_possible played.heaps played.sites (run_of played) (event_of event.now) ≡ true →
-        IsReady played (length (run_of played).past) (event_of event.now) frame.now → Holds (after played (event_of event.now)) player.new) }
+    requires held { (played : Played) × Holds played player.old
+        × (is_possible played.heaps played.sites (run_of played) (event_of event.now) ≡ true)
+        × IsReady played (length (run_of played).past) (event_of event.now) frame.now }
+    ensures held { OnOk result ((played : Played) → Holds played player.old →
+        is_possible played.heaps played.sites (run_of played) (event_of event.now) ≡ true →
+        IsReady played (length (run_of played).past) (event_of event.now) frame.now →
+        Holds (after played (event_of event.now)) player.new) }
     ensures memory { IfErr result (λ fault. fault ≡ PlayFault.NoMemory) }
 {
     match event {
@@ -104,7 +115,8 @@ fn step(alloc: Global, player: &mut Player, event: &Event, frame: &[u8]) -> Resu
 /// The world where the events end.
 fn ended(player: Player) -> World
     requires held { (played : Played) × Holds played player }
-    ensures played { (played : Played) → Holds played player → IsPlayed played.rule played.heaps played.sites played.events result }
+    ensures played { (played : Played) → Holds played player →
+        IsPlayed played.rule played.heaps played.sites played.events result }
 {
     let Player {
         sites,

@@ -25,8 +25,9 @@ use zq_resp::Reply;
 use zq_shard::Shard;
 use zq_words::{Command, Kind};
 
-/// Runs a command over the books of a site, and lists what it makes: ZPOPNEAR over the one book that it pops by two words,
-/// and any other command over all. It fails only where memory is refused.
+/// Runs a command over the books of a site, and lists what it makes: ZPOPNEAR over the one book
+/// that it pops by two words, and any other command over all. It fails only where memory is
+/// refused.
 pub(crate) fn run_by(
     alloc: Global,
     books: Vec<Book>,
@@ -42,7 +43,8 @@ pub(crate) fn run_by(
     requires some { 2 ≤ length books.items }
     requires few { length books.items ≤ 16 }
     ensures memory { IfErr result (λ fault. fault ≡ PlayFault.NoMemory) }
-    ensures ran { IfOk result (λ left. RanBy site stamp command.now drawn.0 drawn.1 books.items made.items left) }
+    ensures ran { IfOk result
+        (λ left. RanBy site stamp command.now drawn.0 drawn.1 books.items made.items left) }
     ensures writable { IfOk result (λ left. IsTrue (is_writable left.reply)) }
 {
     match command.kind() {
@@ -91,7 +93,9 @@ pub(crate) fn read_over(
     requires lent { IsLending (lending_of books.now.items) }
     requires homes { HasBooks command.now (lending_of books.now.items) }
     requires reads { IsTrue (is_reading command.now) }
-    ensures read { IfOk result (λ reply. reply_bytes reply ≡ bytes_of (plan_of command.now (queues_of (rule_in books.now.items) books.now.items)).reply) }
+    ensures read { IfOk result (λ reply. reply_bytes reply
+        ≡ bytes_of (plan_of command.now
+        (queues_of (rule_in books.now.items) books.now.items)).reply) }
     ensures writable { IfOk result (λ reply. IsTrue (is_writable reply)) }
 {
     let ran = read_told(books, alloc, command);
@@ -102,7 +106,8 @@ pub(crate) fn read_over(
     Ok(ran.reply)
 }
 
-/// Runs ZPOPNEAR over the one book that it pops by two words, in place of all. It fails only where memory is refused.
+/// Runs ZPOPNEAR over the one book that it pops by two words, in place of all. It fails only where
+/// memory is refused.
 fn run_near(
     alloc: Global,
     books: Vec<Book>,
@@ -119,7 +124,9 @@ fn run_near(
     requires some { 2 ≤ length books.items }
     requires few { length books.items ≤ 16 }
     ensures memory { IfErr result (λ fault. fault ≡ PlayFault.NoMemory) }
-    ensures ran { IfOk result (λ left. RanNear site stamp command.now key.now drawn.0 drawn.1 books.items made.items left) }
+    ensures ran { IfOk result
+        (λ left. RanNear site stamp command.now key.now drawn.0 drawn.1 books.items made.items
+        left) }
     ensures writable { IfOk result (λ left. IsTrue (is_writable left.reply)) }
 {
     let mut books = books;

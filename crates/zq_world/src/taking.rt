@@ -19,13 +19,15 @@ use zq_dots::Op;
 use zq_journal::{Book, TakeFault};
 use zq_shard::Taken;
 
-/// Hands a site the operation of this place among those that were made. It fails only where memory is refused.
+/// Hands a site the operation of this place among those that were made. It fails only where memory
+/// is refused.
 pub(crate) fn hand(alloc: Global, player: &mut Player, site: u8, op: usize) -> Result<(), PlayFault>
     requires held { (played : Played) × Holds played player.old }
     requires inside { site < length player.old.sites.items }
     requires made { op < length player.old.made.items }
     ensures memory { IfErr result (λ fault. fault ≡ PlayFault.NoMemory) }
-    ensures held { OnOk result ((played : Played) → Holds played player.old → Holds (after played (runs.Take site op)) player.new) }
+    ensures held { OnOk result ((played : Played) → Holds played player.old →
+        Holds (after played (runs.Take site op)) player.new) }
 {
     // What was made is read as it was written.
     carrying();
@@ -36,12 +38,15 @@ pub(crate) fn hand(alloc: Global, player: &mut Player, site: u8, op: usize) -> R
     Ok(())
 }
 
-/// What becomes of an operation that is handed to books, and nothing where one of their stamps, or the count of its heap, is
-/// at its last value.
+/// What becomes of an operation that is handed to books, and nothing where one of their stamps, or
+/// the count of its heap, is at its last value.
 fn take_in(alloc: Global, books: &mut Vec<Book>, op: &Op) -> Result<Option<Taken>, PlayFault>
-    requires placed { (book : history.Book) × (slice_get books.old.items op.now.operation.heap ≡ Some book) × IsOfHeap (state_of book) op.now }
+    requires placed { (book : history.Book)
+        × (slice_get books.old.items op.now.operation.heap ≡ Some book)
+        × IsOfHeap (state_of book) op.now }
     ensures memory { IfErr result (λ fault. fault ≡ PlayFault.NoMemory) }
-    ensures handed { IfOk result (λ taken. IsHanded op.now.operation books.old.items books.new.items taken) }
+    ensures handed { IfOk result
+        (λ taken. IsHanded op.now.operation books.old.items books.new.items taken) }
 {
     look_at(books);
     let stamp = greatest_stamp(books);

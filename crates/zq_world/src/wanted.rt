@@ -13,7 +13,9 @@ use std::alloc::Global;
 pub(crate) fn wanted_at(alloc: Global, events: &[Event]) -> Result<Vec<Vec<usize>>, PlayFault>
     ensures memory { IfErr result (λ fault. fault ≡ PlayFault.NoMemory) }
     ensures number { IfOk result (λ wanted. length wanted.items ≡ length events.now) }
-    ensures wanted { IfOk result (λ wanted. AreWanted (length events.now) (map event_of events.now) (places_in wanted.items)) }
+    ensures wanted { IfOk result
+        (λ wanted. AreWanted (length events.now) (map event_of events.now)
+        (places_in wanted.items)) }
 {
     let mut wanted = no_places(alloc, events.len())?;
     for place in 0..events.len() {
@@ -28,7 +30,8 @@ pub(crate) fn wanted_at(alloc: Global, events: &[Event]) -> Result<Vec<Vec<usize
 fn no_places(alloc: Global, moments: usize) -> Result<Vec<Vec<usize>>, PlayFault>
     ensures memory { IfErr result (λ fault. fault ≡ PlayFault.NoMemory) }
     ensures number { IfOk result (λ wanted. length wanted.items ≡ moments) }
-    ensures none { IfOk result (λ wanted. (moment : ℕ) (places : Vec ℕ allocator.Global) → slice_get wanted.items moment ≡ Some places → places.items ≡ []) }
+    ensures none { IfOk result (λ wanted. (moment : ℕ) (places : Vec ℕ allocator.Global) →
+        slice_get wanted.items moment ≡ Some places → places.items ≡ []) }
 {
     let mut wanted = Vec::new(alloc);
     for _moment in 0..moments {
@@ -41,7 +44,8 @@ fn no_places(alloc: Global, moments: usize) -> Result<Vec<Vec<usize>>, PlayFault
 /// Adds a place to those of a moment, if that is one of them.
 fn want(wanted: &mut Vec<Vec<usize>>, moment: usize, place: usize) -> Result<(), PlayFault>
     ensures memory { IfErr result (λ fault. fault ≡ PlayFault.NoMemory) }
-    ensures with_it { OnOk result (IsWith moment place (places_in wanted.old.items) (places_in wanted.new.items)) }
+    ensures with_it { OnOk result
+        (IsWith moment place (places_in wanted.old.items) (places_in wanted.new.items)) }
 {
     if moment < wanted.len() {
         let places = &mut wanted[moment];

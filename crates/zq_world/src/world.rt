@@ -25,8 +25,8 @@ use zq_resp::{Request, write_reply};
 use zq_shard::Taken;
 use zq_words::{Command, Refused};
 
-/// A world that has played a list of events: what its sites have, which operations they made, and what each event was
-/// answered.
+/// A world that has played a list of events: what its sites have, which operations they made, and
+/// what each event was answered.
 #[derive(Drop)]
 pub struct World {
     pub(crate) sites: Vec<Vec<Book>>,
@@ -48,7 +48,8 @@ impl Model for World {
 
     ghost view = { λ w. record { books = map (λ books. books.items) w.sites.items; made = w.made.items; answers = map answer_in w.answers.items } };
 
-    ghost invariant = { λ w. (site : ℕ) (books : Vec Book Global) → slice_get w.sites.items site ≡ Some books → AreOfSite books.items };
+    ghost invariant = { λ w. (site : ℕ) (books : Vec Book Global) →
+        slice_get w.sites.items site ≡ Some books → AreOfSite books.items };
 }
 
 impl World {
@@ -59,9 +60,11 @@ impl World {
         &self.made
     }
 
-    /// The bytes that the event at this place was answered. `None` where it asked no request, and past the last event.
+    /// The bytes that the event at this place was answered. `None` where it asked no request, and
+    /// past the last event.
     pub fn reply(&self, event: usize) -> Option<&[u8]>
-        ensures { option_map (λ reply. reply.now) result ≡ reply_to (slice_get self.now.answers event) }
+        ensures { option_map (λ reply. reply.now) result
+            ≡ reply_to (slice_get self.now.answers event) }
     {
         match self.answers.get(event) {
             Some(Answer::Replied(reply)) => Some(reply),
@@ -69,8 +72,9 @@ impl World {
         }
     }
 
-    /// What became of the operation that the event at this place handed over. `None` where it handed none over, where a
-    /// number that its site needs was at its last value, and past the last event.
+    /// What became of the operation that the event at this place handed over. `None` where it
+    /// handed none over, where a number that its site needs was at its last value, and past the
+    /// last event.
     pub fn taken(&self, event: usize) -> Option<Taken>
         ensures { option_map answer_of result ≡ taken_by (slice_get self.now.answers event) }
     {
@@ -89,13 +93,17 @@ impl World {
 
     /// The bytes that a site answers to a request that only reads, a refused one too.
     ///
-    /// `NoSuch` where there is no such site, else `NotReading` where the first word names none of ZSCORE, ZCARD, ZCOUNT,
-    /// ZRANK, ZREVRANK and ZRANGE, else `NoMemory` where memory was refused.
+    /// `NoSuch` where there is no such site, else `NotReading` where the first word names none of
+    /// ZSCORE, ZCARD, ZCOUNT, ZRANK, ZREVRANK and ZRANGE, else `NoMemory` where memory was refused.
     pub fn answer(&self, alloc: Global, site: u8, request: &Request) -> Result<Vec<u8>, AnswerFault>
         ensures no_such { IsErrOf result AnswerFault.NoSuch ↔ (length self.now.books ≤ site) }
-        ensures not_reading { IsErrOf result AnswerFault.NotReading ↔ ((site < length self.now.books) × (reading.is_question request.now ≡ false)) }
-        ensures answer { IfOk result (λ bytes. (books : List history) (rule : Rule) (K : ℕ) (st : State) → slice_get self.now.books site ≡ Some books →
-            AreBooksOf rule K st site books → bytes.items ≡ reading.answer_of rule K (st.sets site) request.now) }
+        ensures not_reading { IsErrOf result AnswerFault.NotReading
+            ↔ ((site < length self.now.books) × (reading.is_question request.now ≡ false)) }
+        ensures answer { IfOk result
+            (λ bytes. (books : List history) (rule : Rule) (K : ℕ) (st : State) →
+            slice_get self.now.books site ≡ Some books →
+            AreBooksOf rule K st site books →
+            bytes.items ≡ reading.answer_of rule K (st.sets site) request.now) }
     {
         let Some(books) = self.sites.get(site as usize) else {
             return Err(AnswerFault::NoSuch);
@@ -112,7 +120,9 @@ fn answer_over(alloc: Global, books: &Vec<Book>, request: &Request) -> Result<Ve
     requires site { AreOfSite books.now.items }
     requires question { reading.is_question request.now ≡ true }
     ensures memory { IfErr result (λ fault. fault ≡ AnswerFault.NoMemory) }
-    ensures answer { IfOk result (λ bytes. bytes.items ≡ reading.answer_over (queues_of (rule_in books.now.items) books.now.items) (command_of request.now)) }
+    ensures answer { IfOk result
+        (λ bytes. bytes.items ≡ reading.answer_over
+        (queues_of (rule_in books.now.items) books.now.items) (command_of request.now)) }
 {
     let reply = match Command::read(alloc, request) {
         Ok(command) => read_over(alloc, books, &command)?,

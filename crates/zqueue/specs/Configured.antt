@@ -10,7 +10,8 @@ use Rattle.zqueue.specs.declared.configured.Unsettled.{Unsettled}
 use Rattle.zqueue.specs.declared.refusal.Refusal.TheVariants.{Memory, Settings}
 use Rattle.zqueue.specs.declared.refusal.Refusal.{Refusal}
 
--- they are no UTF-8, or the text that they are breaks this rule first: of the settings of several sites
+-- they are no UTF-8, or the text that they are breaks this rule first: of the settings of several
+-- sites
 abbrev pub IsUnsettled : List ℕ → Unsettled → Type 0
 IsUnsettled bytes NotText = IsUtf8 bytes → ⊥
 IsUnsettled bytes (Fault fault) = IsRefusal bytes fault

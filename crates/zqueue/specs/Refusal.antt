@@ -19,11 +19,14 @@ status_of Settings = 3
 status_of Device = 4
 status_of Memory = 4
 
--- what a writer held before and holds after, and the status, where the refusal was written, or the device failed at that
+-- what a writer held before and holds after, and the status, where the refusal was written, or the
+-- device failed at that
 abbrev pub Refuses : Option (List ℕ) → Option (List ℕ) → Refusal → ℕ → Type 0
-Refuses old new refusal status = (Appends old new (line_of refusal) × (status ≡ status_of refusal)) ⊎ (status ≡ 4)
+Refuses old new refusal status = (Appends old new (line_of refusal) × (status ≡ status_of refusal))
+    ⊎ (status ≡ 4)
 
--- the same of a program that may have done what it was asked: then nothing is written, and the status is 0
+-- the same of a program that may have done what it was asked: then nothing is written, and the
+-- status is 0
 abbrev pub Finishes : Option (List ℕ) → Option (List ℕ) → Result (Unit {0}) Refusal → ℕ → Type 0
 Finishes old new (Ok done) status = (new ≡ old) × (status ≡ 0)
 Finishes old new (Err refusal) status = Refuses old new refusal status

@@ -26,7 +26,8 @@ pub enum Command {
 /// A drill has at most so many rounds.
 const MOST_ROUNDS: u64 = 1_000_000;
 
-/// The command that the command line names: `None` where its words name none, or one of them is not UTF-8.
+/// The command that the command line names: `None` where its words name none, or one of them is not
+/// UTF-8.
 pub fn asked<R: Env + Alloc<A = Global>>(rt: &R) -> Result<Option<Command>, AllocError> {
     let words = match env::args(rt) {
         Ok(words) => words.collect::<Vec<String>>(rt.alloc())?,
@@ -70,7 +71,8 @@ fn named(alloc: Global, name: &str, rest: &[String]) -> Result<Option<Command>, 
 
 /// The drill of these texts.
 fn drill_of(seed: &str, rounds: &str) -> Option<Command>
-    ensures { SomeIff result (IsNumber seed.now SEEDS × IsNumber rounds.now ROUNDS) (Command.Drill (digits_value 10 seed.now) (digits_value 10 rounds.now)) }
+    ensures { SomeIff result (IsNumber seed.now SEEDS × IsNumber rounds.now ROUNDS)
+        (Command.Drill (digits_value 10 seed.now) (digits_value 10 rounds.now)) }
 {
     let seed = read_number(seed, u64::MAX)?;
     let rounds = read_number(rounds, MOST_ROUNDS)?;

@@ -30,7 +30,8 @@ impl fmt::Display for Unsettled {
     }
 }
 
-/// The settings of several sites that the bytes write, or the first reason for which they write none.
+/// The settings of several sites that the bytes write, or the first reason for which they write
+/// none.
 pub fn configured(alloc: Global, bytes: &[u8]) -> Result<Settings, Unsettled>
     ensures given { IfOk result (HasSettings bytes.now) }
     ensures refused { IfErr result (IsUnsettled bytes.now) }

@@ -12,8 +12,9 @@ use std::sync::Wait;
 use std::thread::Threads;
 use zq_server::{DrillFault, drill};
 
-/// Drills three sites, each called so many times, and answers the program's status: 0 whether or not they end equal.
-/// What they end with is written. A fault has a line of its own, and its status.
+/// Drills three sites, each called so many times, and answers the program's status: 0 whether or
+/// not they end equal. What they end with is written. A fault has a line of its own, and its
+/// status.
 pub fn drill_out<R: Threads + Wait + Sync, W: Write>(
     rt: &R,
     alloc: Global,

@@ -8,9 +8,9 @@ use std::alloc::Global;
 use std::io::{Read, Write};
 use zq_server::{Plain, SessionFault, session, status};
 
-/// Serves the books of a site of two heaps, which begins with no keys, to the reader and the writer, and answers the
-/// session's status. One session alone uses them, so that nothing is locked. Where there is no memory for them nothing
-/// is read.
+/// Serves the books of a site of two heaps, which begins with no keys, to the reader and the
+/// writer, and answers the session's status. One session alone uses them, so that nothing is
+/// locked. Where there is no memory for them nothing is read.
 pub fn pipe<R: Read, W: Write>(alloc: Global, reader: &mut R, writer: &mut W) -> u8
     ensures serves { (text written : List ℕ)
         × Consumes (R.remaining reader.old) (R.remaining reader.new) text

@@ -48,7 +48,8 @@ impl Refusal {
     }
 }
 
-/// Writes the line of the refusal, and answers its status; where the line cannot be written, that of a device.
+/// Writes the line of the refusal, and answers its status; where the line cannot be written, that
+/// of a device.
 pub fn refuse<W: Write>(refusal: Refusal, writer: &mut W) -> u8
     ensures { Refuses (W.contents writer.old) (W.contents writer.new) refusal result }
 {
@@ -58,7 +59,8 @@ pub fn refuse<W: Write>(refusal: Refusal, writer: &mut W) -> u8
     }
 }
 
-/// The status of a program that did what it was asked, which is 0, or did not: then the line of the refusal is written.
+/// The status of a program that did what it was asked, which is 0, or did not: then the line of the
+/// refusal is written.
 pub fn finish<W: Write>(ended: Result<(), Refusal>, writer: &mut W) -> u8
     ensures { Finishes (W.contents writer.old) (W.contents writer.new) ended result }
 {

@@ -18,8 +18,8 @@ use std::thread::Threads;
 use std::time::Clock;
 use zq_server::{ServeFault, serve, serve_site};
 
-/// Serves the sites of the settings file of this name, and returns when all connections are done. Warnings go to
-/// standard output. Where the settings break a rule, standard error names the rule.
+/// Serves the sites of the settings file of this name, and returns when all connections are done.
+/// Warnings go to standard output. Where the settings break a rule, standard error names the rule.
 pub fn serve_file<R>(rt: &R, alloc: Global, path: &str) -> Result<(), Refusal>
 where
     R: Files
@@ -38,8 +38,9 @@ where
     ended(serve(&log, alloc, &settings, &mut io::writer(rt)))
 }
 
-/// Serves the one site of the settings file of this name, linked to its peers, and returns when all connections of its
-/// clients are done. Warnings go to standard output. Where the settings break a rule, standard error names the rule.
+/// Serves the one site of the settings file of this name, linked to its peers, and returns when all
+/// connections of its clients are done. Warnings go to standard output. Where the settings break a
+/// rule, standard error names the rule.
 pub fn serve_site_file<R>(rt: &R, alloc: Global, path: &str) -> Result<(), Refusal>
 where
     R: Files

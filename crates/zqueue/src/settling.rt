@@ -35,10 +35,12 @@ fn unread(kind: ErrorKind) -> Refusal
     }
 }
 
-/// The settings that were read; where there are none, the refusal. Standard error names the rule that they break.
+/// The settings that were read; where there are none, the refusal. Standard error names the rule
+/// that they break.
 pub fn settled<S: Drop, R: Eprint>(rt: &R, read: Result<S, Unsettled>) -> Result<S, Refusal>
     ensures given { IfOk result (λ settings. read ≡ Ok settings) }
-    ensures refused { IfErr result (λ refusal. (why : Unsettled) × (read ≡ Err why) × (refusal ≡ refusal_of why)) }
+    ensures refused { IfErr result (λ refusal. (why : Unsettled) × (read ≡ Err why)
+        × (refusal ≡ refusal_of why)) }
 {
     match read {
         Ok(settings) => Ok(settings),

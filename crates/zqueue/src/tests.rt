@@ -131,7 +131,8 @@ fn each_refusal_has_its_line_and_status(rt: HostRuntime) {
 
 #[test]
 fn a_file_that_is_no_settings_is_refused_with_its_status(rt: HostRuntime) {
-    // A file that is not there, a folder, and a file without bytes, which lacks the keys that have to be there.
+    // A file that is not there, a folder, and a file without bytes, which lacks the keys that have
+    // to be there.
     let rows: [(&str, &[u8], u8); 3] = [
         ("no-such-file.toml", b"zqueue: device\n", 4),
         ("/", b"zqueue: device\n", 4),

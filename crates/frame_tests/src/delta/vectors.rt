@@ -1,5 +1,6 @@
-//! Frames and what a reader of the newest form makes of them, as an independent codec told: a name, the bytes in hex, and
-//! the fault, or how many bytes the operation has and the bytes that it is then written as.
+//! Frames and what a reader of the newest form makes of them, as an independent codec told: a name,
+//! the bytes in hex, and the fault, or how many bytes the operation has and the bytes that it is
+//! then written as.
 
 pub const VECTORS: &str = "\
 the documented Put, version 1 | 010200000000000000000000000000000000000000000000000000000000000000000000000000000000000000000000000000000000000000000000000000000000000000000000000000000300000001710000000161 | 87 020200000000000000000000000300000001710000000161

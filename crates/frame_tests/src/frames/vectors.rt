@@ -1,5 +1,5 @@
-//! Frames and what a reader of the newest form makes of them, as an independent codec told: a name, the bytes in hex, and
-//! the fault, or the bytes that the frame is then written as.
+//! Frames and what a reader of the newest form makes of them, as an independent codec told: a name,
+//! the bytes in hex, and the fault, or the bytes that the frame is then written as.
 
 pub const VECTORS: &str = "\
 no bytes |  | Short

@@ -31,7 +31,8 @@ impl Model for Side {
 
 /// The site's next dot.
 fn next(seen: &Vector, site: SiteNo) -> Option<Dot>
-    ensures dot { IfSome result (λ d. (d.site ≡ site) × (d.n ≡ slice_index seen.now site + 1) × (d.n ≤ sets.LAST)) }
+    ensures dot { IfSome result (λ d. (d.site ≡ site) × (d.n ≡ slice_index seen.now site + 1)
+        × (d.n ≤ sets.LAST)) }
 {
     seen.next(site).ok()
 }

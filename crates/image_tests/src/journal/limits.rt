@@ -62,8 +62,9 @@ fn a_long_tail_is_cut(rt: HostRuntime) {
     }
 }
 
-/// From how many records on a tail is cut, and to how many; how many bytes it may have, and how many of the first
-/// operations may be cut; how many Puts of two bytes each are made, and how many records are left of them.
+/// From how many records on a tail is cut, and to how many; how many bytes it may have, and how
+/// many of the first operations may be cut; how many Puts of two bytes each are made, and how many
+/// records are left of them.
 type Tail = (usize, usize, Option<u64>, Option<u64>, i64, usize);
 
 const TAILS: [Tail; 9] = [

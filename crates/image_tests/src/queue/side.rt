@@ -40,7 +40,8 @@ impl Side {
         self.take(alloc, member, Act::Drop).is_some()
     }
 
-    /// Puts a member of one byte at this score, and the member gets back what it had: whether it could.
+    /// Puts a member of one byte at this score, and the member gets back what it had: whether it
+    /// could.
     pub fn undoes(&mut self, alloc: Global, member: u8, value: i64) -> bool {
         let Some(score) = Score::new(value) else {
             return false;
@@ -60,8 +61,8 @@ impl Side {
     }
 }
 
-/// Takes an act on a member of one byte that has seen what the vector has, and answers what the member had. The vector
-/// comes to know it.
+/// Takes an act on a member of one byte that has seen what the vector has, and answers what the
+/// member had. The vector comes to know it.
 fn put(
     queue: &mut Queue,
     seen: &mut Vector,

@@ -155,7 +155,8 @@ fn is_score(score: Option<i128>, expected: Option<i64>) -> bool {
     }
 }
 
-/// Whether the site's heap has the scores, the number of members and the first that the list gives it.
+/// Whether the site's heap has the scores, the number of members and the first that the list gives
+/// it.
 fn is_as_expected(rule: Rule, shard: &Shard, records: &[Record], site: usize) -> bool {
     let mut count: usize = 0;
     let mut first = None;
@@ -272,7 +273,8 @@ fn hands(shard: &mut Shard, alloc: Global, records: &mut [Record], at: usize, si
     answers
 }
 
-/// Draws what happens next, which is made, handed on or merged: whether it could be, with the answer that it should have.
+/// Draws what happens next, which is made, handed on or merged: whether it could be, with the
+/// answer that it should have.
 fn steps(
     heaps: &mut Heaps,
     alloc: Global,
@@ -293,8 +295,8 @@ fn steps(
     hands(heaps.at_mut(site), alloc, records, at, site)
 }
 
-/// Plays a run of three sites, whose heaps have an index past so many members, and compares a site with the list after
-/// each of its steps.
+/// Plays a run of three sites, whose heaps have an index past so many members, and compares a site
+/// with the list after each of its steps.
 fn play(rt: &impl Abort, alloc: Global, rule: Rule, most: usize, draws: &mut Pcg64) {
     let mut heaps = Heaps::new(alloc, rule);
     let mut records: Vec<Record> = Vec::new(alloc);

@@ -59,7 +59,8 @@ pub fn dial_in<N: Net<Listener = TcpListener, Stream = TcpStream>, R: Clock>(
     Ok(read_out(alloc, &stream))
 }
 
-/// How many strangers look at a nonce. That a byte that is drawn is the same for all of them happens once in 2 ^ 56 times.
+/// How many strangers look at a nonce. That a byte that is drawn is the same for all of them
+/// happens once in 2 ^ 56 times.
 const LOOKS: usize = 8;
 
 /// Dials in again and again, and looks whether each of the 16 bytes of the nonce varies.
@@ -114,9 +115,9 @@ pub fn fill(alloc: Global, mut client: &TcpStream) -> Result<(), Fail> {
 const LACKS_ALL: &[u8] =
     b"\x00\x00\x00\x06\x05\x02\x00\x01\x00\x00\x00\x00\x00\x06\x05\x02\x01\x01\x00\x00";
 
-/// Puts a second link in the place of the first, over which the site is writing some mebibytes that nobody reads: a
-/// connection does not hold as much. The site then ends the first. Holds the second until the site ends, which is once its
-/// client has left.
+/// Puts a second link in the place of the first, over which the site is writing some mebibytes that
+/// nobody reads: a connection does not hold as much. The site then ends the first. Holds the second
+/// until the site ends, which is once its client has left.
 pub fn link_twice<N: Net<Listener = TcpListener, Stream = TcpStream>, R: Clock>(
     net: &N,
     rt: &R,
@@ -136,8 +137,9 @@ pub fn link_twice<N: Net<Listener = TcpListener, Stream = TcpStream>, R: Clock>(
     Ok(())
 }
 
-/// Dials in and says nothing after its greeting. The site gives it up after 20 seconds, and not before. In these it says
-/// four times what it has: as the link comes up, and after 5, 10 and 15 seconds, each time with a Have of each of two heaps.
+/// Dials in and says nothing after its greeting. The site gives it up after 20 seconds, and not
+/// before. In these it says four times what it has: as the link comes up, and after 5, 10 and 15
+/// seconds, each time with a Have of each of two heaps.
 pub fn stay_silent<N: Net<Listener = TcpListener, Stream = TcpStream>, R: Clock>(
     net: &N,
     rt: &R,
@@ -158,7 +160,8 @@ pub fn stay_silent<N: Net<Listener = TcpListener, Stream = TcpStream>, R: Clock>
     Ok(())
 }
 
-/// How many Haves follow a greeting of 13 bytes. All have the length of the first one, since the site has nothing.
+/// How many Haves follow a greeting of 13 bytes. All have the length of the first one, since the
+/// site has nothing.
 fn haves_in(heard: &[u8]) -> usize {
     let frames = heard.get(13..).unwrap_or(&[]);
     match frames {
@@ -175,8 +178,8 @@ pub fn greet(listener: &TcpListener, bytes: &[u8]) -> Result<TcpStream, Fail> {
     Ok(stream)
 }
 
-/// What the site says first where it is greeted: its greeting, and the length and the kind of a Have. It also says whether
-/// that came within three seconds.
+/// What the site says first where it is greeted: its greeting, and the length and the kind of a
+/// Have. It also says whether that came within three seconds.
 pub fn heard_of<R: Clock>(rt: &R, listener: &TcpListener) -> Result<([u8; 18], bool), Fail> {
     let mut stream = greet(listener, b"")?;
     let start = Instant::now(rt)?;
@@ -197,9 +200,10 @@ pub fn say(alloc: Global, listener: &TcpListener, bytes: &[u8]) -> Result<(), Fa
 /// How often a shy peer lets the site go.
 const LET_GO: usize = 6;
 
-/// Lets the site go before anything came over a link, so that its pauses grow: they are 6,300 milliseconds from the first
-/// dial to the seventh. Then a frame comes, and the first byte of a frame of a gibibyte. The link ends as no more comes, and
-/// the next pause is 100 milliseconds again, where it would be 5,000 if it grew on.
+/// Lets the site go before anything came over a link, so that its pauses grow: they are 6,300
+/// milliseconds from the first dial to the seventh. Then a frame comes, and the first byte of a
+/// frame of a gibibyte. The link ends as no more comes, and the next pause is 100 milliseconds
+/// again, where it would be 5,000 if it grew on.
 pub fn be_shy<R: Clock>(rt: &R, alloc: Global, listener: &TcpListener) -> Result<(), Fail> {
     let start = Instant::now(rt)?;
     for _dial in 0..LET_GO {
@@ -217,9 +221,9 @@ pub fn be_shy<R: Clock>(rt: &R, alloc: Global, listener: &TcpListener) -> Result
     Ok(())
 }
 
-/// Breaks the link twice, once with a frame that is none and one that is too long, a gibibyte and a byte, and hears what the
-/// site says then. One of the links that are up brings a Have within three seconds: else the site would say what it has after
-/// five, and after five more.
+/// Breaks the link twice, once with a frame that is none and one that is too long, a gibibyte and a
+/// byte, and hears what the site says then. One of the links that are up brings a Have within three
+/// seconds: else the site would say what it has after five, and after five more.
 pub fn break_twice<R: Clock>(rt: &R, alloc: Global, listener: &TcpListener) -> Result<(), Fail> {
     let (_, first_soon) = heard_of(rt, listener)?;
     let stream = greet(listener, b"\x00\x00\x00\x01\x09\x40\x00\x00\x01")?;

@@ -6,8 +6,8 @@ use std::io;
 use std::io::{ErrorKind, Write};
 use std::net::{IpAddr, Ipv4Addr, Net, Shutdown, SocketAddr, TcpListener, TcpStream};
 
-/// Takes a site's line. Before its first bytes a peer dials in and leaves, and a client asks at 127.0.0.2: where one of the
-/// two finds nobody who listens, nothing is taken.
+/// Takes a site's line. Before its first bytes a peer dials in and leaves, and a client asks at
+/// 127.0.0.2: where one of the two finds nobody who listens, nothing is taken.
 #[derive(Drop)]
 pub struct Herald<'a, N: Net<Listener = TcpListener, Stream = TcpStream>> {
     net: &'a N,

@@ -63,7 +63,8 @@ pub fn settings_at(alloc: Global, own: Place, bind: &str) -> Result<SiteSettings
     Ok(site_settings(alloc, text.as_str())?)
 }
 
-/// The settings of one of the sites, of two heaps, which accepts one connection. The other places are its peers.
+/// The settings of one of the sites, of two heaps, which accepts one connection. The other places
+/// are its peers.
 pub fn settings_of(
     alloc: Global,
     own: Place,

@@ -38,7 +38,8 @@ impl<R: Net<Listener = TcpListener, Stream = TcpStream>> Write for Knocking<'_, 
     }
 }
 
-/// How serving a site ends whose line is not written, or not flushed, and whether somebody listens by then.
+/// How serving a site ends whose line is not written, or not flushed, and whether somebody listens
+/// by then.
 fn served_to<R>(
     rt: &R,
     alloc: Global,

@@ -38,7 +38,8 @@ fn long_add(alloc: Global, key: char, size: usize) -> Result<Vec<u8>, Fail> {
     Ok(request)
 }
 
-/// Adds four members of so many bytes at the first port, and waits until the second one's site has them.
+/// Adds four members of so many bytes at the first port, and waits until the second one's site has
+/// them.
 fn add_and_await<R: Net<Listener = TcpListener, Stream = TcpStream> + Clock>(
     rt: &R,
     alloc: Global,
@@ -56,8 +57,9 @@ fn add_and_await<R: Net<Listener = TcpListener, Stream = TcpStream> + Clock>(
 /// The bytes of each member of a long call. A site goes over them before it holds a heap.
 const LONG: usize = 1_000_000;
 
-/// Makes a long call at the first site, and none after it. It says whether the second site has all that was added after so
-/// many milliseconds. A call at the second one comes no earlier, since by that it would itself ask for what it lacks.
+/// Makes a long call at the first site, and none after it. It says whether the second site has all
+/// that was added after so many milliseconds. A call at the second one comes no earlier, since by
+/// that it would itself ask for what it lacks.
 fn is_told_of<R: Clock>(
     rt: &R,
     alloc: Global,
@@ -103,8 +105,8 @@ fn is_added(stream: &mut TcpStream) -> Result<bool, Fail> {
     Ok(reply == *b":1\r\n")
 }
 
-/// Puts a member with score 3 at one site and with score 5 at the other, and only then hears the replies. It says whether
-/// neither site had seen the other's.
+/// Puts a member with score 3 at one site and with score 5 at the other, and only then hears the
+/// replies. It says whether neither site had seen the other's.
 fn put_apart(
     alloc: Global,
     low: &mut TcpStream,
@@ -118,7 +120,8 @@ fn put_apart(
     Ok(one && other)
 }
 
-/// Puts members apart until neither site has seen what the other put, and waits until both have the least score.
+/// Puts members apart until neither site has seen what the other put, and waits until both have the
+/// least score.
 fn put_and_await<R: Net<Listener = TcpListener, Stream = TcpStream> + Clock>(
     rt: &R,
     alloc: Global,

@@ -61,7 +61,8 @@ fn as_many_clients_are_served_at_once_as_there_are_workers(rt: HostRuntime) -> R
     Ok(())
 }
 
-/// Whether a client is answered at 127.0.0.1, while nobody listens at 127.0.0.2. Then lets the site end.
+/// Whether a client is answered at 127.0.0.1, while nobody listens at 127.0.0.2. Then lets the site
+/// end.
 fn is_heard_here_alone<R: Net<Listener = TcpListener, Stream = TcpStream> + Clock>(
     rt: &R,
     port: u16,
@@ -90,7 +91,8 @@ fn clients_are_heard_at_one_address_alone(rt: HostRuntime) -> Result<(), Fail> {
     Ok(())
 }
 
-/// A runtime whose listener does not wait for clients, so that an accept fails, until something is warned of.
+/// A runtime whose listener does not wait for clients, so that an accept fails, until something is
+/// warned of.
 #[derive(Drop)]
 struct Hasty<'a, R: Wait> {
     rt: &'a R,

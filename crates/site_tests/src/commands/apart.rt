@@ -1,5 +1,5 @@
-//! What two sites do apart, and what both have once they have met, by either rule. The rows are those of the tables of
-//! docs/REPLICATION.md. Expected bytes were worked out from the definitions.
+//! What two sites do apart, and what both have once they have met, by either rule. The rows are
+//! those of the tables of docs/REPLICATION.md. Expected bytes were worked out from the definitions.
 
 use super::{Sites, ask};
 use std::alloc::Global;
@@ -7,8 +7,9 @@ use std::process::Abort;
 use std::test::Fail;
 use zq_dots::Rule;
 
-/// What both sites share before, if anything; what the first and what the second one is asked apart; what both are asked
-/// once they have met, and what they answer by the greatest and by the least.
+/// What both sites share before, if anything; what the first and what the second one is asked
+/// apart; what both are asked once they have met, and what they answer by the greatest and by the
+/// least.
 #[derive(Clone, Copy)]
 struct Row(
     &'static str,

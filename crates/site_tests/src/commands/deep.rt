@@ -1,5 +1,5 @@
-//! Ranges deep in a key. Its members stand in the order of their numbers, eight of each score, so that a range is a run of
-//! numbers, up or down.
+//! Ranges deep in a key. Its members stand in the order of their numbers, eight of each score, so
+//! that a range is a run of numbers, up or down.
 
 ghost use Rattle.zq_model.specs.Sets.{IsHeaps};
 

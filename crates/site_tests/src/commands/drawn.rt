@@ -1,6 +1,6 @@
-//! Commands drawn from a seed, against a plain list of scores: at books that have an index of the key from its third member
-//! in a heap on, and at books of which none has. Now and then another site, whose books have older members and an index of
-//! these, merges the heaps and goes on.
+//! Commands drawn from a seed, against a plain list of scores: at books that have an index of the
+//! key from its third member in a heap on, and at books of which none has. Now and then another
+//! site, whose books have older members and an index of these, merges the heaps and goes on.
 
 ghost use Rattle.zq_model.specs.Sets.{IsHeaps};
 
@@ -57,7 +57,8 @@ impl Sites {
     }
 }
 
-/// Draws a command, and asserts what the site answers. Each site makes operations of its own number, by turns.
+/// Draws a command, and asserts what the site answers. Each site makes operations of its own
+/// number, by turns.
 fn step(
     rt: &impl Abort,
     alloc: Global,

@@ -43,7 +43,8 @@ impl Write for Noting {
     }
 }
 
-/// How many requests one read gives, how many bytes the text of each reply has, and how long each write is.
+/// How many requests one read gives, how many bytes the text of each reply has, and how long each
+/// write is.
 type Row = (usize, usize, &'static [usize]);
 
 // A reply is the text with its length, the `$` and two line ends.
@@ -77,7 +78,8 @@ fn bulks(alloc: Global, count: usize, text: &[u8]) -> Result<Vec<u8>, Fail> {
     Ok(bytes)
 }
 
-/// What a session over these bytes writes, which all come with one read. It answers each request with the text.
+/// What a session over these bytes writes, which all come with one read. It answers each request
+/// with the text.
 fn written(alloc: Global, bytes: &[u8], text: &[u8]) -> Result<Noting, Fail> {
     let mut reader = bytes;
     let mut writer = Noting {

@@ -9,7 +9,8 @@ use std::test::Fail;
 use zq_session::{Answers, Passing, Plain};
 use zq_spread::Draws;
 
-/// A request, and its reply. The member stands in the place of each `@`, as a bulk string in a reply.
+/// A request, and its reply. The member stands in the place of each `@`, as a bulk string in a
+/// reply.
 type Line = (&'static str, &'static str);
 
 /// The lengths of members, from those about the most that a reply holds in itself.
@@ -99,7 +100,8 @@ fn long_members_are_answered(rt: HostRuntime) -> Result<(), Fail> {
     follow_site(&rt, rt.alloc())
 }
 
-/// The words of so many members with their scores, which are also the parts of a reply. A member is a number from 1,000 on, and has itself as its score.
+/// The words of so many members with their scores, which are also the parts of a reply. A member is
+/// a number from 1,000 on, and has itself as its score.
 fn pairs(alloc: Global) -> Result<Vec<u8>, Fail> {
     let mut bytes = Vec::new(alloc);
     for number in 1000..4000u32 {

@@ -1,5 +1,5 @@
-//! A server of a site that one session alone uses, by the bytes that it answers. Expected bytes are those of Redis's
-//! reference and of the commands' document.
+//! A server of a site that one session alone uses, by the bytes that it answers. Expected bytes are
+//! those of Redis's reference and of the commands' document.
 
 ghost use Rattle.std.specs.Prelude.{◌≤◌};
 ghost use Rattle.zq_model.specs.Sets.{IsHeaps};

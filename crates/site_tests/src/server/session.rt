@@ -205,8 +205,9 @@ fn a_writer_that_takes_nothing_has_failed(rt: HostRuntime) {
     assert_eq!(rt; end, Err(SessionFault::Write));
 }
 
-/// tools/refused-memory runs this too with the fifth allocation refused, which is for the second request's list of words,
-/// since it has more words than the first one: the first request is answered all the same.
+/// tools/refused-memory runs this too with the fifth allocation refused, which is for the second
+/// request's list of words, since it has more words than the first one: the first request is
+/// answered all the same.
 #[test]
 fn requests_before_want_of_memory_are_answered(rt: HostRuntime) {
     let mut reader = b"*1\r\n$4\r\nPING\r\n*2\r\n$4\r\nPING\r\n$1\r\na\r\n".as_slice();

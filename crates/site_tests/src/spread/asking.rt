@@ -1,4 +1,5 @@
-//! What a site answers to lines. `None` stands for want of memory, and for a line that is no command.
+//! What a site answers to lines. `None` stands for want of memory, and for a line that is no
+//! command.
 ghost use Rattle.std.specs.Prelude.{IsTrue};
 ghost use Rattle.zq_resp.specs.Reply.{is_writable};
 ghost use Rattle.zq_spread.specs.Passes.{IsPassOf};

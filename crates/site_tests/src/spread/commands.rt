@@ -1,5 +1,6 @@
-//! Commands of a site over several heaps. Expected bytes are those of Redis. With key q and 4 heaps the member a lies in heap
-//! 0, b in 1, c in 2 and d in 3; with 2 heaps a and c lie in heap 0, b and d in 1.
+//! Commands of a site over several heaps. Expected bytes are those of Redis. With key q and 4 heaps
+//! the member a lies in heap 0, b in 1, c in 2 and d in 3; with 2 heaps a and c lie in heap 0, b
+//! and d in 1.
 
 use super::asking::{Line, follow, try_follow};
 use super::opened;

@@ -85,7 +85,8 @@ fn read_or_add<R: Wait + Abort>(
     }
 }
 
-/// Calls by each of the passes, in a thread of its own. The places of the passes are the numbers from the first one on.
+/// Calls by each of the passes, in a thread of its own. The places of the passes are the numbers
+/// from the first one on.
 fn call_in_crowd<R: Threads + Wait + Abort + Sync>(
     rt: &R,
     alloc: Global,

@@ -35,8 +35,8 @@ fn put_up_to<R: Wait + Abort>(rt: &R, alloc: Global, site: &Site, pass: &mut Pas
     }
 }
 
-/// The records of heap 0, as a pass sees them that holds it, and whether they are sound, as an audit says. `None` where the
-/// heap was not free.
+/// The records of heap 0, as a pass sees them that holds it, and whether they are sound, as an
+/// audit says. `None` where the heap was not free.
 fn tail_of(alloc: Global, site: &Site, pass: Pass) -> Option<(usize, bool, Pass)>
     requires heaps { 0 < length site.now.slots.items }
     requires pass { IsPassOf site.now pass }

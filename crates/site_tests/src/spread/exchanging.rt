@@ -1,4 +1,5 @@
-//! Two sites of two heaps that exchange what they made. Expected bytes are those of Redis and of the rules for merging.
+//! Two sites of two heaps that exchange what they made. Expected bytes are those of Redis and of
+//! the rules for merging.
 ghost use Rattle.std.specs.Prelude.{◌<◌, ◌≤◌, length};
 ghost use Rattle.zq_spread.specs.Passes.{IsPassOf};
 

@@ -1,4 +1,5 @@
-//! What a pass finds while another one holds a heap. With key q and 2 heaps the member y lies in heap 0 and x in heap 1.
+//! What a pass finds while another one holds a heap. With key q and 2 heaps the member y lies in
+//! heap 0 and x in heap 1.
 ghost use Rattle.std.specs.Prelude.{◌≡◌, ◌<◌, IfSome, length};
 ghost use Rattle.zq_spread.specs.Passes.{IsPassOf};
 

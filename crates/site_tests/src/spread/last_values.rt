@@ -1,4 +1,5 @@
-//! Sites over books at their last values. With key q and 2 heaps the member a lies in heap 0 and b in heap 1.
+//! Sites over books at their last values. With key q and 2 heaps the member a lies in heap 0 and b
+//! in heap 1.
 ghost use Rattle.std.specs.Prelude.{◌≡◌, IfSome, length};
 ghost use Rattle.zq_model.specs.Rule.{Greatest};
 ghost use Rattle.zq_spread.specs.Passes.{IsPassOf};
@@ -15,7 +16,8 @@ use zq_posheap::Seeded;
 use zq_shard::{Shard, Taken};
 use zq_spread::{Pass, Site};
 
-/// The last stamp, as a number of its own: where the code's were less, calls would be refused too early.
+/// The last stamp, as a number of its own: where the code's were less, calls would be refused too
+/// early.
 const LAST: u64 = 4_611_686_018_427_387_904;
 
 /// A site of this number over this book of heap 0, with two passes. Heap 1 is empty.
@@ -85,7 +87,8 @@ fn a_pass_at_the_last_stamp_is_worn_alone(rt: HostRuntime) -> Result<(), Fail> {
 /// Heap 0 with the member a at 3, in which site 0 has used up its counter.
 #[tactic(auto, unfolding(zq_model::specs::Sets::LAST))]
 fn used_up(alloc: Global) -> Option<Shard>
-    ensures { IfSome result (λ shard. (shard.heap ≡ 0) × (shard.heaps ≡ 2) × (shard.rule ≡ Greatest)) }
+    ensures { IfSome result (λ shard. (shard.heap ≡ 0) × (shard.heaps ≡ 2)
+        × (shard.rule ≡ Greatest)) }
 {
     let mut vector = Vector::new();
     vector.set(SiteNo::new(0)?, LAST_COUNTER);
@@ -155,8 +158,8 @@ const COUNTED_OUT: [Line; 5] = [
 /// What becomes of an operation and of a merge.
 type Outcome = (Result<Taken, TakeFault>, Result<(), MergeFault>);
 
-/// What a site over such a book of an empty heap, asked the lines, makes of an operation of site 5, and of a heap that has
-/// taken it.
+/// What a site over such a book of an empty heap, asked the lines, makes of an operation of site 5,
+/// and of a heap that has taken it.
 fn handed<R: Wait + Abort>(rt: &R, alloc: Global) -> Option<Outcome> {
     let mut shard = Shard::new(alloc, 0, 2);
     let op = shard

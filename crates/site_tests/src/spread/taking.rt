@@ -74,8 +74,8 @@ pub fn steps_in(passes: &[Pass], heap: u8) -> u64 {
     steps
 }
 
-/// Takes the operations by the first pass. Says which was the last of site 5 that the second finds in each of two heaps, after
-/// it has met the first there.
+/// Takes the operations by the first pass. Says which was the last of site 5 that the second finds
+/// in each of two heaps, after it has met the first there.
 pub fn both_take<R: Wait>(
     rt: &R,
     alloc: Global,

@@ -32,7 +32,8 @@ fn made(alloc: Global) -> Result<Vec<Event>, Fail> {
     Ok(events)
 }
 
-/// A world in which the sixth site takes all operations, in order or from the last on, once or twice.
+/// A world in which the sixth site takes all operations, in order or from the last on, once or
+/// twice.
 fn taken(alloc: Global, is_turned: bool, times: usize) -> Result<World, Fail> {
     let mut events = made(alloc)?;
     for place in 0..MADE {

@@ -1,5 +1,5 @@
-//! Worked rows. With key q and 2 heaps the members a, c, m and y lie in heap 0 and b, d and x in heap 1; with 4 heaps a lies
-//! in heap 0, b in 1, c in 2 and d in 3.
+//! Worked rows. With key q and 2 heaps the members a, c, m and y lie in heap 0 and b, d and x in
+//! heap 1; with 4 heaps a lies in heap 0, b in 1, c in 2 and d in 3.
 
 use super::Step::{Ask, Draw, Hand, Merge, Read};
 use super::{Step, follow};
@@ -150,7 +150,8 @@ const POPPED: [Step; 8] = [
     Read(1, "ZCARD q", ":0\r\n"),
 ];
 
-/// Operations are made in the order of the moves, and not by heap; what needs a site's first operation comes after it.
+/// Operations are made in the order of the moves, and not by heap; what needs a site's first
+/// operation comes after it.
 const MOVES: [Step; 8] = [
     Ask(0, "ZADD q 1 x 2 a 3 d 4 y", ":4\r\n"),
     Hand(1, 2, Early),

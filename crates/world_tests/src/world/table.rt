@@ -1,5 +1,5 @@
-//! The runs of an independent model: replies, what became of operations, and the frames of what was made and of what the
-//! sites have.
+//! The runs of an independent model: replies, what became of operations, and the frames of what was
+//! made and of what the sites have.
 
 ghost use Rattle.std.specs.Prelude.{IfOk, ◌<◌};
 

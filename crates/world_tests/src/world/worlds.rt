@@ -1,5 +1,5 @@
-//! Runs of worlds, as an independent model told: events with their answers, and then the operations that were made and the
-//! state of each heap of each site, as frames. Made by tools/worlds-table.
+//! Runs of worlds, as an independent model told: events with their answers, and then the operations
+//! that were made and the state of each heap of each site, as frames. Made by tools/worlds-table.
 
 pub const WORLDS: &str = "\
 world | run 0 | 3 | 3 | High

@@ -21,7 +21,8 @@ pub fn set_drawn<V: Copy + Drop>(
     Ok(())
 }
 
-/// Takes the first out and puts it back with a later score, and answers a checksum of what was taken.
+/// Takes the first out and puts it back with a later score, and answers a checksum of what was
+/// taken.
 pub fn take_and_put_back<V: Copy + Drop>(
     heap: &mut PosHeap<V>,
     draws: &mut Pcg64,

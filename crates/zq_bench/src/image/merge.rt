@@ -13,7 +13,8 @@ pub struct MergeTimes {
     pub members: usize,
 }
 
-/// Times over two shards of so many members each: a half that both have, and for each a half of its own.
+/// Times over two shards of so many members each: a half that both have, and for each a half of its
+/// own.
 pub fn time_half_shared(rt: &impl Clock, alloc: Global, members: u32) -> Option<MergeTimes> {
     let mut one = Shard::new(alloc, 0, 1);
     put_half(alloc, &mut one, 0, members / 2);

@@ -9,7 +9,8 @@ use std::time::{Clock, Duration};
 
 /// A thread's part in a lock.
 pub trait Worker: Sized + Drop {
-    /// Takes the lock once, does the work inside and lets it go. `None` where it can be taken no more.
+    /// Takes the lock once, does the work inside and lets it go. `None` where it can be taken no
+    /// more.
     fn lock_once<R: Wait>(self, rt: &R, work: u32) -> Option<Self>;
 
     /// The parts of two threads.
@@ -77,8 +78,8 @@ fn turns<W: Worker, R: Wait>(rt: &R, worker: W, work: u32, over: &AtomicBool) ->
     u64::MAX
 }
 
-/// The work under the lock: so many steps of a generator of pseudo-random numbers (Marsaglia 2003), each of which needs
-/// the one before.
+/// The work under the lock: so many steps of a generator of pseudo-random numbers (Marsaglia 2003),
+/// each of which needs the one before.
 pub fn worked(number: u64, work: u32) -> u64 {
     let mut number = number;
     for _ in 0..work {

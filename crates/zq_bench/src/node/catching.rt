@@ -50,7 +50,8 @@ fn hear_all<R: Wait>(
     Some(())
 }
 
-/// One node says what it has, frame by frame, and hears what the other one sends. Answers whether anything was sent.
+/// One node says what it has, frame by frame, and hears what the other one sends. Answers whether
+/// anything was sent.
 fn ask_once<R: Wait>(
     rt: &R,
     alloc: Global,

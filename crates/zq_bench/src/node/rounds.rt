@@ -37,7 +37,8 @@ pub struct Outcome {
     pub traffic: Traffic,
 }
 
-/// The greater node asks after each round what the lesser one made, and answers the time and the traffic of it all.
+/// The greater node asks after each round what the lesser one made, and answers the time and the
+/// traffic of it all.
 fn run_rounds<R: Wait + Clock>(
     rt: &R,
     alloc: Global,

@@ -29,7 +29,8 @@ fn time_steps<R: Clock + Print + Eprint>(
     println!(rt; "ranks {ranks} tens {tens} popped {popped:016x}").ok()
 }
 
-/// Times what is done while all pairs are there, and answers the checksums of the ranks and of the tens.
+/// Times what is done while all pairs are there, and answers the checksums of the ranks and of the
+/// tens.
 fn time_full<R: Clock + Eprint>(
     rt: &R,
     ranked: &mut Ranked,
@@ -88,7 +89,8 @@ fn time_changes<R: Clock + Eprint>(
     tell(rt, "ranked change", steps, began)
 }
 
-/// Times the removal of one half and then the pops of the other, and answers the checksum of what was popped.
+/// Times the removal of one half and then the pops of the other, and answers the checksum of what
+/// was popped.
 fn time_removals<R: Clock + Eprint>(
     rt: &R,
     ranked: &mut Ranked,

@@ -34,7 +34,8 @@ pub fn read<'a>(alloc: Global, requests: &'a [Request]) -> Option<Vec<Command<'a
     Some(commands)
 }
 
-/// A pass's part of the calls: so many, which go round the commands from a place on, with the draws of a seed.
+/// A pass's part of the calls: so many, which go round the commands from a place on, with the draws
+/// of a seed.
 #[derive(Clone, Copy, Drop)]
 pub struct Turns {
     pub from: usize,
@@ -81,7 +82,8 @@ pub fn call_in_turn<R: Wait>(
     errors
 }
 
-/// Makes so many calls by each of the passes, in a thread of its own, and says how many of them answered an error.
+/// Makes so many calls by each of the passes, in a thread of its own, and says how many of them
+/// answered an error.
 pub fn call_side_by_side<R: Threads + Wait + Sync>(
     rt: &R,
     alloc: Global,

@@ -33,7 +33,8 @@ fn filled(alloc: Global, key: u64) -> Option<String> {
     Some(line)
 }
 
-/// Drawn requests: half of them ZSCORE, a third ZADD, a twelfth ZINCRBY and a twelfth this word's, which pops of a key.
+/// Drawn requests: half of them ZSCORE, a third ZADD, a twelfth ZINCRBY and a twelfth this word's,
+/// which pops of a key.
 pub fn draw<R: Rng>(alloc: Global, draws: &mut R, pop: &str) -> Option<Vec<Request>> {
     let mut requests = Vec::new(alloc);
     for _request in 0..DRAWN {

@@ -40,7 +40,8 @@ fn tell_load<R: Clock + Print + Eprint + Threads + Wait + Sync>(
     time_requests(rt, alloc, fill, drawn, calls)
 }
 
-/// Times calls of the drawn requests by each number of passes, each over a new site that was filled before.
+/// Times calls of the drawn requests by each number of passes, each over a new site that was filled
+/// before.
 fn time_requests<R: Clock + Print + Eprint + Threads + Wait + Sync>(
     rt: &R,
     alloc: Global,
@@ -82,7 +83,8 @@ fn time_passes<R: Clock + Print + Eprint + Threads + Wait + Sync>(
     tell(rt, passes, calls.saturating_mul(passes), errors, time)
 }
 
-/// How many of the calls of a site that is filled first answered an error, and the nanoseconds of all.
+/// How many of the calls of a site that is filled first answered an error, and the nanoseconds of
+/// all.
 fn timed<R: Clock + Threads + Wait + Sync>(
     rt: &R,
     alloc: Global,

@@ -44,8 +44,9 @@ impl Script {
         &self.events
     }
 
-    /// Adds an event of a drawn site. One in 64 merges an image that another had shortly before, one in 8 asks for an
-    /// increment, and the others hand over the oldest operation that the site was not handed yet, if there is one.
+    /// Adds an event of a drawn site. One in 64 merges an image that another had shortly before,
+    /// one in 8 asks for an increment, and the others hand over the oldest operation that the site
+    /// was not handed yet, if there is one.
     pub fn draw<R: Rng>(&mut self, alloc: Global, draws: &mut R) -> Option<()> {
         let site = below(draws, SITES);
         let event = match draws.next_u64() % 64 {
@@ -59,7 +60,8 @@ impl Script {
         self.events.push(event).ok()
     }
 
-    /// Adds merges by which each site has what all had: the first merges the images of the others, and these merge its own.
+    /// Adds merges by which each site has what all had: the first merges the images of the others,
+    /// and these merge its own.
     pub fn gather(&mut self) -> Option<()> {
         let drawn = self.events.len();
         for from in 1..SITES {

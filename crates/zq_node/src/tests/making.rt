@@ -13,8 +13,8 @@ pub const MAKER: u8 = 0;
 /// A frame to be heard.
 #[derive(Clone, Copy)]
 pub enum Heard {
-    /// Operations of the maker in heap 0 of 2, which puts members a and y in turn: from this one on, the first being 0, up
-    /// to before that one, each so many further on.
+    /// Operations of the maker in heap 0 of 2, which puts members a and y in turn: from this one
+    /// on, the first being 0, up to before that one, each so many further on.
     Ops(u32, u32, u32),
     /// The maker's heap 0 of 2 after so many of these.
     Heap(u32),
@@ -31,8 +31,8 @@ pub fn site_of(rt: &impl Abort, number: u8) -> SiteNo {
     SiteNo::new(number).expect(rt, "a site")
 }
 
-/// The removal of member a of queue q, in this heap of so many, which has this dot, and has seen the operations of its site
-/// before it and so many of site 9.
+/// The removal of member a of queue q, in this heap of so many, which has this dot, and has seen
+/// the operations of its site before it and so many of site 9.
 #[tactic(auto, unfolding(zq_model::specs::Sets::LAST))]
 pub fn drop_of(rt: &impl Abort, alloc: Global, at: (u8, u8), dot: (u8, u64), others: u64) -> Op {
     let site = site_of(rt, dot.0);

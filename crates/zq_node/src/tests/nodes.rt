@@ -114,8 +114,8 @@ pub fn hear_all<R: Wait + Abort>(
     sent
 }
 
-/// What a node has: so many operations are parked, queue q has so many members in heap 0, and so many of the maker's
-/// operations are known there.
+/// What a node has: so many operations are parked, queue q has so many members in heap 0, and so
+/// many of the maker's operations are known there.
 #[derive(Clone, Copy, PartialEq, Eq)]
 pub struct Has(pub usize, pub usize, pub u64);
 

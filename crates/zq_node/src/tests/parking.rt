@@ -8,7 +8,8 @@ use zq_dots::{Op, Vector};
 
 /// What is done, and what comes of it.
 enum Step {
-    /// The operation of this site and counter is parked, which has seen so many of site 9: then so many are.
+    /// The operation of this site and counter is parked, which has seen so many of site 9: then so
+    /// many are.
     Park(u8, u64, u64, usize),
     /// So many operations of the site are known.
     Know(u8, u64),

@@ -36,7 +36,8 @@ pub enum Deed {
     Put(u32),
     /// A frame is heard, after which nothing is sent, and it has this.
     Hear(Heard, Has),
-    /// So many operations of the maker are heard in turn, each in a frame of its own, and each so often.
+    /// So many operations of the maker are heard in turn, each in a frame of its own, and each so
+    /// often.
     Each(u32, u32),
     /// It has this.
     Look(Has),
@@ -50,13 +51,15 @@ pub enum Deed {
 #[derive(Clone, Copy)]
 pub enum Step {
     At(Side, Deed),
-    /// What a site has of each heap from this one up to before that one is heard by the other one, which then sends this;
-    /// that is heard, and then this is sent back, which is heard. Nothing is sent after that.
+    /// What a site has of each heap from this one up to before that one is heard by the other one,
+    /// which then sends this; that is heard, and then this is sent back, which is heard. Nothing is
+    /// sent after that.
     Ask(Side, u8, u8, &'static [Told], &'static [Told]),
-    /// What site 0 tells a new site, and then what it tells one that has so many of its operations, after one more; site 1
-    /// hears the latter first, and the former then.
+    /// What site 0 tells a new site, and then what it tells one that has so many of its operations,
+    /// after one more; site 1 hears the latter first, and the former then.
     Late(u32, Has, Has),
-    /// Both have the same in each heap from this one up to before that one, and so many members of queue q there.
+    /// Both have the same in each heap from this one up to before that one, and so many members of
+    /// queue q there.
     Same(u8, u8, usize),
 }
 
@@ -147,7 +150,8 @@ fn fault_of<R: Wait + Abort>(
     node.hear(rt, alloc, &frame).err()
 }
 
-/// Whether a frame is refused with this fault, after which what the site has and what is parked are as before.
+/// Whether a frame is refused with this fault, after which what the site has and what is parked are
+/// as before.
 fn refuses<R: Wait + Abort>(
     rt: &R,
     alloc: Global,
@@ -203,7 +207,8 @@ fn does<R: Wait + Abort>(rt: &R, alloc: Global, node: &mut Node, deed: Deed) -> 
     }
 }
 
-/// One node says what it has of a heap to the other one. Whether this is sent then, and this sent back, and nothing more.
+/// One node says what it has of a heap to the other one. Whether this is sent then, and this sent
+/// back, and nothing more.
 fn asks<R: Wait + Abort>(
     rt: &R,
     alloc: Global,
@@ -249,7 +254,8 @@ fn asks_each<R: Wait + Abort>(
     each
 }
 
-/// A heap as it was is heard after an operation that follows it. Whether the one that hears them has this then.
+/// A heap as it was is heard after an operation that follows it. Whether the one that hears them
+/// has this then.
 fn hears_late<R: Wait + Abort>(
     rt: &R,
     alloc: Global,

@@ -1,5 +1,5 @@
-//! What nodes do, step by step. Members a and y of queue q lie in heap 0 of 2, and b in heap 1. Of 16 heaps each has one of
-//! the members a to p.
+//! What nodes do, step by step. Members a and y of queue q lie in heap 0 of 2, and b in heap 1. Of
+//! 16 heaps each has one of the members a to p.
 
 use super::making::Heard;
 use super::nodes::Has;
@@ -82,8 +82,8 @@ fn frames_heard_twice_do_what_they_do_once(rt: HostRuntime) {
     play(&rt, rt.alloc(), 2, &TWICE);
 }
 
-/// The first and the third of three operations are heard before the frames that are refused, and the second one after
-/// them. The number of heaps is judged before the rule.
+/// The first and the third of three operations are heard before the frames that are refused, and
+/// the second one after them. The number of heaps is judged before the rule.
 const REFUSED: [Step; 12] = [
     At(One, Hear(Heard::Ops(0, 3, 2), Has(1, 1, 1))),
     At(One, Refuse(Heard::Have(0, 3, High, 0), WrongHeap)),
@@ -130,8 +130,8 @@ fn what_a_heap_had_is_known(rt: HostRuntime) {
     play(&rt, rt.alloc(), 2, &HEAP_FIRST);
 }
 
-/// All of so many operations but the first, then one more, then the first, then the one more again. 1,024 are parked, as
-/// many as may be, so that the one more is dropped where it is heard first.
+/// All of so many operations but the first, then one more, then the first, then the one more again.
+/// 1,024 are parked, as many as may be, so that the one more is dropped where it is heard first.
 const CROWD: [Step; 4] = [
     At(One, Hear(Heard::Ops(1, 1025, 1), Has(1024, 0, 0))),
     At(One, Hear(Heard::Ops(1025, 1026, 1), Has(1024, 0, 0))),

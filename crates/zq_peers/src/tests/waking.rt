@@ -49,8 +49,8 @@ fn take_between<R: Wait>(rt: &R, mailbox: &Mailbox, before: &AtomicBool, after: 
     letter
 }
 
-/// Makes the call a while after another thread began to wait in the mailbox, and looks whether it wakes. Answers the letter
-/// of what that thread took.
+/// Makes the call a while after another thread began to wait in the mailbox, and looks whether it
+/// wakes. Answers the letter of what that thread took.
 pub fn woken_by<R: Threads + Wait + Clock + Abort + Sync>(
     rt: &R,
     alloc: Global,

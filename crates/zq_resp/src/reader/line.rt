@@ -7,7 +7,8 @@ ghost use Rattle.zq_resp.specs.Line.{IsLine, LineStep};
 use crate::fault::FeedFault;
 use crate::reader::progress::Progress;
 
-/// A number on a line of its own, as far as it has been read: `0`, or digits of which the first is not `0`, then CR LF.
+/// A number on a line of its own, as far as it has been read: `0`, or digits of which the first is
+/// not `0`, then CR LF.
 #[derive(Clone, Copy, Debug, PartialEq, Eq)]
 pub enum Line {
     /// Nothing.

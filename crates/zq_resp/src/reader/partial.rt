@@ -83,7 +83,8 @@ impl Partial {
     }
 }
 
-/// A count of one digit is read at once where its line is all there; otherwise the first byte is read.
+/// A count of one digit is read at once where its line is all there; otherwise the first byte is
+/// read.
 fn start(alloc: Global, bytes: &[u8]) -> Result<(Progress<Partial, Vec<Vec<u8>>>, usize), FeedFault>
     requires { 0 < length bytes.now }
     ensures taken { IfOk result (IsStep bytes.now) }

@@ -13,9 +13,10 @@ use crate::fault::FeedFault;
 use crate::reader::spent::Spent;
 use std::alloc::{AllocError, Global};
 
-/// A request that stands whole at the front, with a count of one to nine and words of which each length has
-/// one or two digits, and how many bytes it takes. Its words take the memory of a spent request, where there
-/// is one. `None` leaves open whether the request is longer, unfinished or wrong.
+/// A request that stands whole at the front, with a count of one to nine and words of which each
+/// length has one or two digits, and how many bytes it takes. Its words take the memory of a spent
+/// request, where there is one. `None` leaves open whether the request is longer, unfinished or
+/// wrong.
 pub fn short_request(
     alloc: Global,
     bytes: &[u8],
@@ -23,7 +24,8 @@ pub fn short_request(
 ) -> Result<Option<(Vec<Vec<u8>>, usize)>, FeedFault>
     ensures taken { IfOk result (λ found. IfSome found (IsStep bytes.now)) }
     ensures words { IfOk result (λ found. IfSome found (λ x. AreWords (views x.0))) }
-    ensures read { IfOk result (λ found. IfSome found (λ x. request_at bytes.now ≡ Got (views x.0, drop x.1 bytes.now))) }
+    ensures read { IfOk result
+        (λ found. IfSome found (λ x. request_at bytes.now ≡ Got (views x.0, drop x.1 bytes.now))) }
     ensures memory { IfErr result (λ e. (e ≡ NoMemory) × HasCount bytes.now) }
 {
     let Some(count) = short_count(bytes) else {
@@ -59,7 +61,8 @@ fn put_word(
 ) -> Result<(), FeedFault>
     requires { place ≤ length words.old.items }
     ensures longer { OnOk result (place < length words.new.items) }
-    ensures put { OnOk result (take (place + 1) (views words.new) ≡ take place (views words.old) ++ word.now ∷ []) }
+    ensures put { OnOk result (take (place + 1) (views words.new)
+        ≡ take place (views words.old) ++ word.now ∷ []) }
     ensures memory { IfErr result (λ e. e ≡ NoMemory) }
 {
     if let Some(spent) = words.get_mut(place) {
@@ -82,8 +85,8 @@ fn replace_word(spent: &mut Vec<u8>, word: &[u8]) -> Result<(), AllocError>
     spent.extend_from_slice(word)
 }
 
-/// Copies bytes over as many. Most words are short: two copies of a known length, which may share bytes, write them
-/// whole.
+/// Copies bytes over as many. Most words are short: two copies of a known length, which may share
+/// bytes, write them whole.
 #[inline(always)]
 fn overwrite(bytes: &mut [u8], word: &[u8])
     requires { length bytes.old ≡ length word.now }
@@ -109,7 +112,8 @@ fn overwrite_ends<const N: usize>(bytes: &mut [u8], word: &[u8])
     bytes[last..].copy_from_slice(&word[last..]);
 }
 
-/// The count of a request that begins at the front, where it has one digit and its line is all there.
+/// The count of a request that begins at the front, where it has one digit and its line is all
+/// there.
 pub fn short_count(bytes: &[u8]) -> Option<usize>
     ensures digit { IfSome result (λ count. count ≤ 9) }
     ensures taken { IfSome result (λ _. 4 ≤ length bytes.now) }
@@ -124,8 +128,8 @@ pub fn short_count(bytes: &[u8]) -> Option<usize>
     Some((bytes[1] - b'0') as usize)
 }
 
-/// A word that stands whole at the front, with a length of one or two digits, and how many bytes its
-/// spelling takes. `None` leaves open whether the word is longer, unfinished or wrong.
+/// A word that stands whole at the front, with a length of one or two digits, and how many bytes
+/// its spelling takes. `None` leaves open whether the word is longer, unfinished or wrong.
 pub fn short_word(bytes: &[u8]) -> Option<(&[u8], usize)>
     ensures taken { IfSome result (λ x. IsStep bytes.now x) }
     ensures small { IfSome result (λ x. IsWord x.0.now) }

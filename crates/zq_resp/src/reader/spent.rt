@@ -5,7 +5,8 @@ use crate::request::Request;
 /// One place for each number of words of a request that is kept, and one for none.
 const PLACES: usize = 10;
 
-/// Requests that were answered: the memory of their words is used again for a later one of as many words.
+/// Requests that were answered: the memory of their words is used again for a later one of as many
+/// words.
 #[derive(Drop)]
 pub struct Spent {
     requests: [Option<Request>; PLACES],

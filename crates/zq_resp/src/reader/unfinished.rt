@@ -17,7 +17,8 @@ use std::alloc::Global;
 
 const LONGEST_REQUEST: usize = 16_777_216;
 
-/// A request, as far as it has been read, and how many bytes that is: at most the limit of a request.
+/// A request, as far as it has been read, and how many bytes that is: at most the limit of a
+/// request.
 #[derive(Drop)]
 pub struct Unfinished {
     pub partial: Partial,
@@ -44,8 +45,8 @@ impl Unfinished {
         self.size > 0
     }
 
-    /// Reads on until the request ends or the bytes do, and answers how many bytes that took. The first byte
-    /// past the limit of a request is answered `TooLong`.
+    /// Reads on until the request ends or the bytes do, and answers how many bytes that took. The
+    /// first byte past the limit of a request is answered `TooLong`.
     pub fn read(
         self,
         alloc: Global,
@@ -73,8 +74,8 @@ impl Unfinished {
     }
 }
 
-/// Reads a piece. Adds the requests that end in it, and answers the one that does not end in it. A short request that
-/// stands whole in the piece is read at once.
+/// Reads a piece. Adds the requests that end in it, and answers the one that does not end in it. A
+/// short request that stands whole in the piece is read at once.
 pub fn read_on(
     alloc: Global,
     unfinished: Unfinished,
@@ -83,7 +84,8 @@ pub fn read_on(
     requests: &mut Vec<Request>,
 ) -> Result<Unfinished, FeedFault>
     requires { Stands unfinished }
-    ensures { PieceGives result (text_so_far unfinished.partial ++ piece.now) requests.old.items requests.new.items }
+    ensures { PieceGives result (text_so_far unfinished.partial ++ piece.now) requests.old.items
+        requests.new.items }
 {
     let mut unfinished = unfinished;
     let mut rest = piece;
@@ -111,7 +113,8 @@ pub fn read_on(
 /// Adds a request of these words, unless there are none.
 fn hand_out(requests: &mut Vec<Request>, words: Vec<Vec<u8>>) -> Result<(), FeedFault>
     requires { AreWords (views words) }
-    ensures ok { OnOk result (requests.new.items ≡ requests.old.items ++ handed (views words ∷ [])) }
+    ensures ok { OnOk result
+        (requests.new.items ≡ requests.old.items ++ handed (views words ∷ [])) }
     ensures err { OnErr result (requests.new.items ≡ requests.old.items) }
     ensures memory { IfErr result (λ e. (e ≡ FeedFault.NoMemory) × (views words ≢ [])) }
 {

@@ -24,7 +24,8 @@ pub enum Word {
     Length(Line),
     /// The length's line.
     Sized(usize),
-    /// The length's line, and those of the bytes that earlier pieces had: the first of them, or all.
+    /// The length's line, and those of the bytes that earlier pieces had: the first of them, or
+    /// all.
     Cut(Box<BytesMut>, usize),
     /// The bytes, and CR.
     Ended(Vec<u8>),
@@ -74,8 +75,10 @@ fn start(alloc: Global, bytes: &[u8]) -> Result<(Progress<Word, Vec<u8>>, usize)
 
 fn sized(line: Line, byte: u8) -> Result<Word, FeedFault>
     requires { IsLine 1048576 line }
-    ensures ok { IfOk result (λ w. IsPart w × Goes part_text part_resume (word.Length line) w (byte ∷ [])) }
-    ensures err { IfErr result (λ e. (more : List ℕ) → Fails e (part_resume (word.Length line) (byte ∷ more))) }
+    ensures ok { IfOk result (λ w. IsPart w
+        × Goes part_text part_resume (word.Length line) w (byte ∷ [])) }
+    ensures err { IfErr result (λ e. (more : List ℕ) →
+        Fails e (part_resume (word.Length line) (byte ∷ more))) }
 {
     match line.step(LONGEST_WORD, byte)? {
         Progress::More(line) => Ok(Word::Length(line)),
@@ -83,8 +86,9 @@ fn sized(line: Line, byte: u8) -> Result<Word, FeedFault>
     }
 }
 
-/// A word's bytes and CR. Where they are all there they are copied once, from the piece. Where the piece ends before the
-/// CR, what there is of the bytes goes to a buffer. It makes room for what has come, never for the declared length.
+/// A word's bytes and CR. Where they are all there they are copied once, from the piece. Where the
+/// piece ends before the CR, what there is of the bytes goes to a buffer. It makes room for what
+/// has come, never for the declared length.
 fn body(
     alloc: Global,
     size: usize,

@@ -10,7 +10,8 @@ use crate::reader::progress::Progress;
 use crate::reader::word::Word;
 use std::alloc::Global;
 
-/// The words of a request whose count is known, as far as they have been read: one at least is not whole.
+/// The words of a request whose count is known, as far as they have been read: one at least is not
+/// whole.
 #[derive(Drop)]
 pub struct Words {
     /// The words that are whole.

@@ -19,8 +19,8 @@ pub struct Part<'a> {
     ghost own: { lock_of seat ≡ id_of lock.now },
 }
 
-/// Pushes as many numbers by each of so many threads. The first pushes the numbers from 0 on, and each next one those that follow.
-/// Says whether all were pushed, and gives back a seat.
+/// Pushes as many numbers by each of so many threads. The first pushes the numbers from 0 on, and
+/// each next one those that follow. Says whether all were pushed, and gives back a seat.
 pub fn push_in_crowd<R: Threads + Wait + Sync>(
     rt: &R,
     alloc: Global,
@@ -65,8 +65,9 @@ fn parts<'a>(
     Ok((parts, seat))
 }
 
-/// Holds the lock until two of four other threads wait at the door, each of which takes it in a way of its own.
-/// Says how a seat that tries meanwhile is refused, and how many of the four got the lock.
+/// Holds the lock until two of four other threads wait at the door, each of which takes it in a way
+/// of its own. Says how a seat that tries meanwhile is refused, and how many of the four got the
+/// lock.
 pub fn hold_before_four<R: Clock + Threads + Wait + Sync>(
     rt: &R,
     alloc: Global,
@@ -98,8 +99,8 @@ pub fn hold_before_four<R: Clock + Threads + Wait + Sync>(
     Ok((fault, pushed?.iter().filter(|pushed| **pushed).count()))
 }
 
-/// Locks, has the others start, and waits until two of them wait at the door, for two seconds at most. Then tries the
-/// lock with another seat, and unlocks.
+/// Locks, has the others start, and waits until two of them wait at the door, for two seconds at
+/// most. Then tries the lock with another seat, and unlocks.
 fn ask_before_door<R: Clock + Wait>(
     rt: &R,
     lock: &TicketLock<Numbers>,

@@ -25,7 +25,8 @@ impl Keeps for Numbers {
 
     ghost reflexive = { λ n. prefix_self n.items.items };
 
-    ghost transitive = { λ x y z later earlier. prefix_trans z.items.items y.items.items x.items.items earlier later };
+    ghost transitive = { λ x y z later earlier.
+        prefix_trans z.items.items y.items.items x.items.items earlier later };
 }
 
 impl Numbers {
@@ -64,10 +65,14 @@ pub fn lock_after_both<R: Wait>(
     second: Seat<Numbers>,
 ) -> Result<(Held<Numbers>, Seat<Numbers>), (Worn, Seat<Numbers>, Seat<Numbers>)>
     requires own { (lock_of first ≡ id_of lock.now) × (lock_of second ≡ id_of lock.now) }
-    ensures lock { IfOk result (λ r. (held_lock r.0 ≡ id_of lock.now) × (lock_of r.1 ≡ id_of lock.now)) }
-    ensures given { IfOk result (λ r. ((value_of r.0).count ≡ vec_len (value_of r.0).items) × (given r.0 ≡ Some (value_of r.0))) }
-    ensures first { IfOk result (λ r. HasSeen first (λ seen. IsPrefix seen.items.items (value_of r.0).items.items)) }
-    ensures second { IfOk result (λ r. HasSeen second (λ seen. IsPrefix seen.items.items (value_of r.0).items.items)) }
+    ensures lock { IfOk result (λ r. (held_lock r.0 ≡ id_of lock.now)
+        × (lock_of r.1 ≡ id_of lock.now)) }
+    ensures given { IfOk result (λ r. ((value_of r.0).count ≡ vec_len (value_of r.0).items)
+        × (given r.0 ≡ Some (value_of r.0))) }
+    ensures first { IfOk result
+        (λ r. HasSeen first (λ seen. IsPrefix seen.items.items (value_of r.0).items.items)) }
+    ensures second { IfOk result
+        (λ r. HasSeen second (λ seen. IsPrefix seen.items.items (value_of r.0).items.items)) }
 {
     first.has_seen();
     second.has_seen();
@@ -84,9 +89,12 @@ pub fn lock_after_join<R: Wait>(
 ) -> Result<Held<Numbers>, (Worn, Seat<Numbers>)>
     requires own { (lock_of first ≡ id_of lock.now) × (lock_of second ≡ id_of lock.now) }
     ensures lock { IfOk result (λ held. held_lock held ≡ id_of lock.now) }
-    ensures given { IfOk result (λ held. ((value_of held).count ≡ vec_len (value_of held).items) × (given held ≡ Some (value_of held))) }
-    ensures first { IfOk result (λ held. HasSeen first (λ seen. IsPrefix seen.items.items (value_of held).items.items)) }
-    ensures second { IfOk result (λ held. HasSeen second (λ seen. IsPrefix seen.items.items (value_of held).items.items)) }
+    ensures given { IfOk result (λ held. ((value_of held).count ≡ vec_len (value_of held).items)
+        × (given held ≡ Some (value_of held))) }
+    ensures first { IfOk result
+        (λ held. HasSeen first (λ seen. IsPrefix seen.items.items (value_of held).items.items)) }
+    ensures second { IfOk result
+        (λ held. HasSeen second (λ seen. IsPrefix seen.items.items (value_of held).items.items)) }
 {
     first.has_seen();
     second.has_seen();

@@ -14,7 +14,8 @@ pub fn push<R: Wait>(
     number: u64,
 ) -> Result<Seat<Numbers>, (Worn, Seat<Numbers>)>
     requires { lock_of seat ≡ id_of lock.now }
-    ensures { MatchResult result (λ seat. lock_of seat ≡ id_of lock.now) (λ e. lock_of e.1 ≡ id_of lock.now) }
+    ensures { MatchResult result (λ seat. lock_of seat ≡ id_of lock.now)
+        (λ e. lock_of e.1 ≡ id_of lock.now) }
 {
     let mut held = lock.lock(rt, seat)?;
     let _ = held.value_mut().push(number);
@@ -28,7 +29,8 @@ pub fn try_push(
     number: u64,
 ) -> Result<Seat<Numbers>, (TryFault, Seat<Numbers>)>
     requires { lock_of seat ≡ id_of lock.now }
-    ensures { MatchResult result (λ seat. lock_of seat ≡ id_of lock.now) (λ e. lock_of e.1 ≡ id_of lock.now) }
+    ensures { MatchResult result (λ seat. lock_of seat ≡ id_of lock.now)
+        (λ e. lock_of e.1 ≡ id_of lock.now) }
 {
     let mut held = lock.try_lock(seat)?;
     let _ = held.value_mut().push(number);
@@ -44,7 +46,8 @@ pub fn push_after<R: Wait>(
     number: u64,
 ) -> Option<(Seat<Numbers>, Seat<Numbers>)>
     requires { (lock_of first ≡ id_of lock.now) × (lock_of second ≡ id_of lock.now) }
-    ensures { IfSome result (λ seats. (lock_of seats.0 ≡ id_of lock.now) × (lock_of seats.1 ≡ id_of lock.now)) }
+    ensures { IfSome result (λ seats. (lock_of seats.0 ≡ id_of lock.now)
+        × (lock_of seats.1 ≡ id_of lock.now)) }
 {
     let (mut held, second) = lock_after_both(rt, lock, first, second).ok()?;
     let _ = held.value_mut().push(number);
