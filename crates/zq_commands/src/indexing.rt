@@ -12,7 +12,7 @@ pub const MOST_SCANNED: usize = 256;
 
 /// Makes an index of the key that a command reads in order, in each of the books that has none and
 /// has many of the key's members. The books stay as they are.
-pub fn foresee<B: Books>(books: &mut B, alloc: Global, kind: &Kind)
+pub fn make_index<B: Books>(books: &mut B, alloc: Global, kind: &Kind)
     requires { IsLending (B.lent books.old) }
     ensures same { B.lent books.new ≡ B.lent books.old }
     ensures keeps { B.keeps books.old books.new }

@@ -13,7 +13,7 @@ ghost use Rattle.zq_words.specs.Shown.{shown};
 
 use crate::books::Books;
 use crate::del::clear_keys;
-use crate::indexing::foresee;
+use crate::indexing::make_index;
 use crate::ran::{Outcome, Ran};
 use crate::range_section::from_zero;
 use crate::reading::{read_count, read_rank, read_score, read_turned_rank, read_within};
@@ -54,7 +54,7 @@ pub fn run<B: Books>(
     ensures writable { IsTrue (is_writable result) }
 {
     let kind = command.kind();
-    foresee(books, alloc, kind);
+    make_index(books, alloc, kind);
     run_kind(books, alloc, site, stamp, kind)
 }
 
@@ -78,7 +78,7 @@ pub fn run_told<B: Books>(
     ensures writable { IsTrue (is_writable result.reply) }
 {
     let kind = command.kind();
-    foresee(books, alloc, kind);
+    make_index(books, alloc, kind);
     run_kind(books, alloc, site, stamp, kind)
 }
 

@@ -7,7 +7,7 @@ use Rattle.std.specs.Prelude.{IfSome, List, Ok, Some, [], length, slice_get, sli
 use Rattle.zq_drill.specs.Gathered.{AllHaveAll, Knows, KnowsAt}
 use Rattle.zq_drill.specs.Limits.{heap_count}
 use Rattle.zq_drill.specs.Meetings.{AreHandedOver, AreMeetings, IsMeeting, round}
-use Rattle.zq_drill.specs.Posts.{Place, place_at}
+use Rattle.zq_drill.specs.SiteHandles.{Place, place_at}
 use Rattle.zq_model.proofs.Covered.{reached_covers_too}
 use Rattle.zq_model.specs.Books.{Book}
 use Rattle.zq_journal.specs.Books.{state_of}

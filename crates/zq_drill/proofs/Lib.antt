@@ -10,4 +10,4 @@ mod Pushed
 mod Rounds
 mod Sames
 mod Sorteds
-mod Stations
+mod SiteShares

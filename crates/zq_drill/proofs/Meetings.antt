@@ -4,7 +4,7 @@ use Rattle.std.proofs.lemmas.Bool.{cond-false, cond-true}
 use Rattle.std.specs.Prelude.{List, [], ℕ, ◌+◌, ◌++◌, ◌==◌, ◌∷◌, ◌≡◌, ◌≢◌}
 use Rattle.zq_drill.proofs.Nexts.{next}
 use Rattle.zq_drill.specs.Meetings.{AreMeetings, IsMeeting, pair_of, to_each, to_one}
-use Rattle.zq_drill.specs.Posts.{Place}
+use Rattle.zq_drill.specs.SiteHandles.{Place}
 
 pub meetings_append : (pairs more : List (ℕ × ℕ)) (before mid after : List Place) → AreMeetings pairs before mid → AreMeetings more mid after → AreMeetings (pairs ++ more) before after
 meetings_append [] more before mid after are then = subst (λ places. AreMeetings more places after) are then

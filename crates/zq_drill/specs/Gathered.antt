@@ -3,7 +3,7 @@
 use Rattle.std.specs.Prelude.{List, Some, slice_get, true, ℕ, ◌<◌, ◌≡◌}
 use Rattle.zq_drill.specs.Limits.{heap_count, site_count}
 use Rattle.zq_drill.specs.Meetings.{AreMeetings, round}
-use Rattle.zq_drill.specs.Posts.{Place}
+use Rattle.zq_drill.specs.SiteHandles.{Place}
 use Rattle.zq_model.specs.Sets.{covers}
 use Rattle.zq_spread.specs.Calls.{HasSeenBook}
 use Rattle.zq_spread.specs.declared.pass.Pass.{Pass}

@@ -5,7 +5,7 @@ pub mod Limits
 pub mod Listed
 pub mod Lists
 pub mod Meetings
-pub mod Posts
+pub mod SiteHandles
 pub mod Report
 pub mod Requests
 pub mod Rounds

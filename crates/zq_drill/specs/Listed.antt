@@ -4,7 +4,7 @@ use Rattle.std.specs.List.Sorted.{IsPermutation, IsSorted}
 use Rattle.std.specs.Prelude.{List, [], codes, suc, zero, ℕ, ◌++◌, ◌∷◌, ◌≡◌}
 use Rattle.zq_drill.specs.Limits.{heap_count}
 use Rattle.zq_drill.specs.Meetings.{AreMeetings, round}
-use Rattle.zq_drill.specs.Posts.{Place, numbers_of}
+use Rattle.zq_drill.specs.SiteHandles.{Place, numbers_of}
 use Rattle.zq_model.specs.Meaning.{Scored, scored_cmp}
 use Rattle.zq_node.specs.Calls.{Copied, IsCalled}
 use Rattle.zq_shard.specs.Shard.{HeapImage, queue_at}

@@ -2,7 +2,7 @@
 
 use Rattle.std.specs.Prelude.{List, Some, [], if◌then◌else◌, slice_get, slice_set, suc, zero, ℕ, ◌++◌, ◌==◌, ◌∷◌, ◌≡◌}
 use Rattle.zq_drill.specs.Limits.{heap_count}
-use Rattle.zq_drill.specs.Posts.{Place, place_at}
+use Rattle.zq_drill.specs.SiteHandles.{Place, place_at}
 use Rattle.zq_node.specs.Calls.{Copied, IsCalled, Merged}
 use Rattle.zq_shard.specs.Shard.{HeapImage}
 use Rattle.zq_spread.specs.declared.pass.Pass.{Pass}

@@ -5,7 +5,7 @@ ghost use Rattle.rand_pcg.specs.Lcg.{Lcg};
 ghost use Rattle.rand_pcg.specs.Pcg.{pcg32_of_seed};
 ghost use Rattle.std.specs.Arc.{arc_value};
 ghost use Rattle.std.specs.Prelude.{◌≡◌, ◌+◌, ◌%◌, ◌^◌, List, IfOk, OnOk, length};
-ghost use Rattle.zq_drill.specs.Posts.{site_of};
+ghost use Rattle.zq_drill.specs.SiteHandles.{site_of};
 ghost use Rattle.zq_drill.specs.Requests.{request_of};
 ghost use Rattle.zq_drill.specs.Rounds.{AreRounds, IsAsked, IsRound};
 ghost use Rattle.zq_resp.specs.Reply.{reply_bytes};
@@ -13,7 +13,7 @@ ghost use Rattle.zq_words.specs.Words.{Word};
 
 use crate::draws::{Draw, Draws};
 use crate::fault::{DrillFault, check_reply};
-use crate::post::Post;
+use crate::site_handle::SiteHandle;
 use std::alloc::Global;
 use std::sync::Wait;
 use zq_peers::Mailbox;
@@ -25,35 +25,40 @@ use zq_words::Command;
 pub fn call_rounds<R: Wait>(
     rt: &R,
     alloc: Global,
-    post: &mut Post,
+    handle: &mut SiteHandle,
     inbox: &Mailbox,
     seed: u64,
     rounds: u32,
 ) -> Result<(), DrillFault>
-    ensures station { post.new.station ≡ post.old.station }
+    ensures drill_site { handle.new.drill_site ≡ handle.old.drill_site }
     ensures rounds { OnOk result ((end : Lcg) × (replies : List Word) × (length replies ≡ rounds)
-        × AreRounds (site_of post.old)
-        (pcg32_of_seed (pcg32_seed 16 ((seed + (arc_value post.old.station).number) % 2 ^ 64)))
-        end post.old.pass post.new.pass replies) }
+        × AreRounds (site_of handle.old)
+        (pcg32_of_seed (pcg32_seed 16 ((seed + (arc_value handle.old.drill_site).number) % 2 ^ 64)))
+        end handle.old.pass handle.new.pass replies) }
 {
-    let number = u64::from(post.station.number.value());
+    let number = u64::from(handle.drill_site.number.value());
     let mut draws = Draws::new(seed.wrapping_add(number));
     for _round in 0..rounds {
         let draw = draws.next();
-        call_once(rt, alloc, post, &draw)?;
+        call_once(rt, alloc, handle, &draw)?;
         inbox.tick(rt);
     }
     Ok(())
 }
 
 /// Calls the site with the command of these words.
-fn call_once<R: Wait>(rt: &R, alloc: Global, post: &mut Post, draw: &Draw) -> Result<(), DrillFault>
-    ensures station { post.new.station ≡ post.old.station }
+fn call_once<R: Wait>(
+    rt: &R,
+    alloc: Global,
+    handle: &mut SiteHandle,
+    draw: &Draw,
+) -> Result<(), DrillFault>
+    ensures drill_site { handle.new.drill_site ≡ handle.old.drill_site }
     ensures called { OnOk result ((reply : Word)
-        × IsRound (site_of post.old) draw.now reply post.old.pass post.new.pass) }
+        × IsRound (site_of handle.old) draw.now reply handle.old.pass handle.new.pass) }
 {
     let request = draw.request(alloc)?;
-    let reply = ask(rt, alloc, post, &request, draw)?;
+    let reply = ask(rt, alloc, handle, &request, draw)?;
     check_reply(&reply)
 }
 
@@ -62,19 +67,19 @@ fn call_once<R: Wait>(rt: &R, alloc: Global, post: &mut Post, draw: &Draw) -> Re
 fn ask<R: Wait>(
     rt: &R,
     alloc: Global,
-    post: &mut Post,
+    handle: &mut SiteHandle,
     request: &Request,
     draw: &Draw,
 ) -> Result<Reply, DrillFault>
-    ensures station { post.new.station ≡ post.old.station }
+    ensures drill_site { handle.new.drill_site ≡ handle.old.drill_site }
     ensures asked { IfOk result
-        (λ reply. IsAsked (site_of post.old) request.now draw.now
-        (reply_bytes reply) post.old.pass post.new.pass) }
+        (λ reply. IsAsked (site_of handle.old) request.now draw.now
+        (reply_bytes reply) handle.old.pass handle.new.pass) }
 {
     match Command::read(alloc, request) {
         Ok(command) => {
             let (w1, w2) = (u64::from(draw.first), u64::from(draw.second));
-            Ok(post.call(rt, alloc, &command, w1, w2))
+            Ok(handle.call(rt, alloc, &command, w1, w2))
         }
         Err(_) => Err(DrillFault::NoMemory),
     }

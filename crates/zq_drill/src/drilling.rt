@@ -5,17 +5,17 @@ ghost use Rattle.std.specs.Prelude.{[], ◌≡◌, ◌++◌, ◌↔◌, ◌∷�
 ghost use Rattle.zq_drill.specs.Limits.{site_count};
 ghost use Rattle.zq_drill.specs.Listed.{AreListed};
 ghost use Rattle.zq_drill.specs.Lists.{listed, lists_of};
-ghost use Rattle.zq_drill.specs.Posts.{places_of};
+ghost use Rattle.zq_drill.specs.SiteHandles.{places_of};
 ghost use Rattle.zq_drill.specs.Report.{AreAlike, IsOutcome, report};
 ghost use Rattle.zq_model.specs.Meaning.{Scored as Scoreds};
 
 use crate::exchange::exchange_twice;
 use crate::fault::DrillFault;
 use crate::listing::{Scored, list_all};
-use crate::opening::{Posts, open_all};
-use crate::post::Post;
+use crate::opening::{SiteHandles, open_all};
 use crate::report::write_report;
-use crate::running::{Plan, run_all};
+use crate::running::{DrillOptions, run_all};
+use crate::site_handle::SiteHandle;
 use std::alloc::{AllocError, Global};
 use std::io::Write;
 use std::sync::Wait;
@@ -34,17 +34,17 @@ fn append(lists: &mut Vec<Vec<Scored>>, list: Vec<Scored>) -> Result<(), AllocEr
 fn list_each<R: Wait>(
     rt: &R,
     alloc: Global,
-    posts: &mut [Post],
+    handles: &mut [SiteHandle],
     lists: &mut Vec<Vec<Scored>>,
 ) -> Result<(), DrillFault>
     ensures { OnOk result ((added : List (List Scoreds))
         × (lists_of lists.new.items ≡ lists_of lists.old.items ++ added)
-        × AreListed (places_of posts.old) added) }
+        × AreListed (places_of handles.old) added) }
 {
-    let Some((post, others)) = posts.split_first_mut() else {
+    let Some((handle, others)) = handles.split_first_mut() else {
         return Ok(());
     };
-    let list = list_all(rt, alloc, post)?;
+    let list = list_all(rt, alloc, handle)?;
     append(lists, list)?;
     list_each(rt, alloc, others, lists)?;
     Ok(())
@@ -54,12 +54,12 @@ fn list_each<R: Wait>(
 fn list_sites<R: Wait>(
     rt: &R,
     alloc: Global,
-    posts: &mut [Post],
+    handles: &mut [SiteHandle],
 ) -> Result<Vec<Vec<Scored>>, DrillFault>
-    ensures { IfOk result (λ lists. AreListed (places_of posts.old) (lists_of lists.items)) }
+    ensures { IfOk result (λ lists. AreListed (places_of handles.old) (lists_of lists.items)) }
 {
     let mut lists = Vec::new(alloc);
-    list_each(rt, alloc, posts, &mut lists)?;
+    list_each(rt, alloc, handles, &mut lists)?;
     Ok(lists)
 }
 
@@ -67,16 +67,16 @@ fn list_sites<R: Wait>(
 fn finish<R: Wait, W: Write>(
     rt: &R,
     alloc: Global,
-    posts: &mut [Post],
+    handles: &mut [SiteHandle],
     out: &mut W,
 ) -> Result<bool, DrillFault>
-    requires { length posts.old ≡ site_count }
+    requires { length handles.old ≡ site_count }
     ensures { IfOk result (λ equal. (lists : List (List Scoreds))
-        × AreListed (places_of posts.old) lists
+        × AreListed (places_of handles.old) lists
         × (IsTrue equal ↔ AreAlike lists)
         × Appends (W.contents out.old) (W.contents out.new) (report lists equal)) }
 {
-    let lists = list_sites(rt, alloc, posts)?;
+    let lists = list_sites(rt, alloc, handles)?;
     let equal = write_report(alloc, &lists, out)?;
     Ok(equal)
 }
@@ -109,12 +109,12 @@ pub fn drill<R: Threads + Wait + Sync, W: Write>(
         × IsOutcome lists equal
         × Appends (W.contents out.old) (W.contents out.new) (report lists equal)) }
 {
-    let Posts {
+    let SiteHandles {
         callers,
         links,
         mut last,
     } = open_all(alloc)?;
-    run_all(rt, alloc, callers, links, Plan { seed, rounds })?;
+    run_all(rt, alloc, callers, links, DrillOptions { seed, rounds })?;
     exchange_twice(rt, alloc, &mut last)?;
     finish(rt, alloc, &mut last, out)
 }

@@ -3,11 +3,11 @@
 ghost use Rattle.std.specs.Prelude.{◌≡◌, ◌++◌, ◌<◌, ◌≤◌, IfErr, IfOk, OnOk, length};
 ghost use Rattle.zq_drill.specs.Limits.{heap_count, site_count};
 ghost use Rattle.zq_drill.specs.Meetings.{AreHandedOver, AreMeetings, IsHandedOver, pair_of, round, to_each, to_one};
-ghost use Rattle.zq_drill.specs.Posts.{places_of, site_of};
+ghost use Rattle.zq_drill.specs.SiteHandles.{places_of, site_of};
 
+use crate::drill_site::HEAPS;
 use crate::fault::DrillFault;
-use crate::post::Post;
-use crate::station::HEAPS;
+use crate::site_handle::SiteHandle;
 use std::alloc::Global;
 use std::sync::Wait;
 use zq_merge::{read_state, write_state};
@@ -30,13 +30,13 @@ fn carried(alloc: Global, shard: &Shard) -> Result<Shard, DrillFault>
 fn hand_over<R: Wait>(
     rt: &R,
     alloc: Global,
-    sender: &mut Post,
-    receiver: &mut Post,
+    sender: &mut SiteHandle,
+    receiver: &mut SiteHandle,
     heap: u8,
 ) -> Result<(), DrillFault>
     requires { heap < heap_count }
-    ensures sender { sender.new.station ≡ sender.old.station }
-    ensures receiver { receiver.new.station ≡ receiver.old.station }
+    ensures sender { sender.new.drill_site ≡ sender.old.drill_site }
+    ensures receiver { receiver.new.drill_site ≡ receiver.old.drill_site }
     ensures handed { OnOk result
         (IsHandedOver (site_of sender.old)
         (site_of receiver.old) heap sender.old.pass sender.new.pass receiver.old.pass
@@ -52,11 +52,11 @@ fn hand_over<R: Wait>(
 fn hand_all<R: Wait>(
     rt: &R,
     alloc: Global,
-    sender: &mut Post,
-    receiver: &mut Post,
+    sender: &mut SiteHandle,
+    receiver: &mut SiteHandle,
 ) -> Result<(), DrillFault>
-    ensures sender { sender.new.station ≡ sender.old.station }
-    ensures receiver { receiver.new.station ≡ receiver.old.station }
+    ensures sender { sender.new.drill_site ≡ sender.old.drill_site }
+    ensures receiver { receiver.new.drill_site ≡ receiver.old.drill_site }
     ensures handed { OnOk result
         (AreHandedOver (site_of sender.old)
         (site_of receiver.old) heap_count sender.old.pass sender.new.pass receiver.old.pass
@@ -72,21 +72,21 @@ fn hand_all<R: Wait>(
 fn meet<R: Wait>(
     rt: &R,
     alloc: Global,
-    posts: &mut [Post],
+    handles: &mut [SiteHandle],
     receiver: usize,
     sender: usize,
 ) -> Result<(), DrillFault>
-    requires receiver { receiver < length posts.old }
-    requires sender { sender < length posts.old }
-    ensures len { length posts.new ≡ length posts.old }
+    requires receiver { receiver < length handles.old }
+    requires sender { sender < length handles.old }
+    ensures len { length handles.new ≡ length handles.old }
     ensures met { OnOk result
-        (AreMeetings (pair_of receiver sender) (places_of posts.old) (places_of posts.new)) }
+        (AreMeetings (pair_of receiver sender) (places_of handles.old) (places_of handles.new)) }
 {
     if sender < receiver {
-        let (before, after) = posts.split_at_mut(receiver);
+        let (before, after) = handles.split_at_mut(receiver);
         hand_all(rt, alloc, &mut before[sender], &mut after[0])
     } else if receiver < sender {
-        let (before, after) = posts.split_at_mut(sender);
+        let (before, after) = handles.split_at_mut(sender);
         hand_all(rt, alloc, &mut after[0], &mut before[receiver])
     } else {
         Ok(())
@@ -97,41 +97,49 @@ fn meet<R: Wait>(
 fn gather<R: Wait>(
     rt: &R,
     alloc: Global,
-    posts: &mut [Post],
+    handles: &mut [SiteHandle],
     receiver: usize,
 ) -> Result<(), DrillFault>
-    requires { receiver < length posts.old }
-    ensures len { length posts.new ≡ length posts.old }
+    requires { receiver < length handles.old }
+    ensures len { length handles.new ≡ length handles.old }
     ensures gathered { OnOk result
-        (AreMeetings (to_one receiver (length posts.old)) (places_of posts.old)
-        (places_of posts.new)) }
+        (AreMeetings (to_one receiver (length handles.old)) (places_of handles.old)
+        (places_of handles.new)) }
 {
-    for sender in 0..posts.len() {
-        meet(rt, alloc, posts, receiver, sender)?;
+    for sender in 0..handles.len() {
+        meet(rt, alloc, handles, receiver, sender)?;
     }
     Ok(())
 }
 
 /// Merges the heaps of all sites into every other site, in the order of the receivers' numbers.
-fn exchange_all<R: Wait>(rt: &R, alloc: Global, posts: &mut [Post]) -> Result<(), DrillFault>
-    ensures len { length posts.new ≡ length posts.old }
+fn exchange_all<R: Wait>(
+    rt: &R,
+    alloc: Global,
+    handles: &mut [SiteHandle],
+) -> Result<(), DrillFault>
+    ensures len { length handles.new ≡ length handles.old }
     ensures exchanged { OnOk result
-        (AreMeetings (to_each (length posts.old) (length posts.old)) (places_of posts.old)
-        (places_of posts.new)) }
+        (AreMeetings (to_each (length handles.old) (length handles.old)) (places_of handles.old)
+        (places_of handles.new)) }
 {
-    for receiver in 0..posts.len() {
-        gather(rt, alloc, posts, receiver)?;
+    for receiver in 0..handles.len() {
+        gather(rt, alloc, handles, receiver)?;
     }
     Ok(())
 }
 
 /// Merges the heaps of the three sites into every other site, twice over.
-pub fn exchange_twice<R: Wait>(rt: &R, alloc: Global, posts: &mut [Post]) -> Result<(), DrillFault>
-    requires { length posts.old ≡ site_count }
-    ensures len { length posts.new ≡ length posts.old }
+pub fn exchange_twice<R: Wait>(
+    rt: &R,
+    alloc: Global,
+    handles: &mut [SiteHandle],
+) -> Result<(), DrillFault>
+    requires { length handles.old ≡ site_count }
+    ensures len { length handles.new ≡ length handles.old }
     ensures exchanged { OnOk result
-        (AreMeetings (round ++ round) (places_of posts.old) (places_of posts.new)) }
+        (AreMeetings (round ++ round) (places_of handles.old) (places_of handles.new)) }
 {
-    exchange_all(rt, alloc, posts)?;
-    exchange_all(rt, alloc, posts)
+    exchange_all(rt, alloc, handles)?;
+    exchange_all(rt, alloc, handles)
 }

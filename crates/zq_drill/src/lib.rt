@@ -4,19 +4,19 @@
 
 mod calling;
 mod draws;
+mod drill_site;
 mod drilling;
 mod exchange;
 mod fault;
+mod handling;
 pub mod laws;
 mod linking;
 mod listing;
 mod opening;
-mod post;
-mod posting;
 mod report;
 mod request;
 mod running;
-mod station;
+mod site_handle;
 
 pub use draws::{Draw, Draws};
 pub use drilling::drill;

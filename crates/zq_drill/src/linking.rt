@@ -8,8 +8,8 @@ ghost use Rattle.zq_links.specs.declared.message.Message.{Message as Messages};
 ghost use Rattle.zq_links.specs.declared.message.Message.TheVariants.{Stop};
 ghost use Rattle.zq_peers.specs.Moves.{AreTaken};
 
-use crate::post::Post;
-use crate::station::SITES;
+use crate::drill_site::SITES;
+use crate::site_handle::SiteHandle;
 use std::alloc::{AllocError, Global};
 use std::sync::Wait;
 use zq_dots::SiteNo;
@@ -38,10 +38,10 @@ fn faulty<'a, R: Wait>(
 /// Hears what comes to the site's inbox, and answers over links that fail by the words of this
 /// seed, until it is to stop.
 #[tactic(auto, unfolding(zq_model::specs::Sets::SITES))]
-pub fn attend<R: Wait, I: Inbox>(
+pub fn run_link<R: Wait, I: Inbox>(
     rt: &R,
     alloc: Global,
-    post: Post,
+    handle: SiteHandle,
     inbox: &mut I,
     inboxes: &[Mailbox],
     seed: u64,
@@ -49,14 +49,14 @@ pub fn attend<R: Wait, I: Inbox>(
     ensures { OnOk result ((messages : List Messages)
         × AreTaken I.gives inbox.old inbox.new (Stop ∷ messages)) }
 {
-    let Post { station, pass } = post;
-    let number = station.number;
+    let SiteHandle { drill_site, pass } = handle;
+    let number = drill_site.number;
     let mut carrier = faulty(rt, alloc, number, inboxes, seed)?;
     let link = Link {
         others: others(alloc, number, SITES)?,
         hasher: Seeded::new(0),
     };
-    let mut node = Node::new(alloc, &station.site, pass);
+    let mut node = Node::new(alloc, &drill_site.site, pass);
     link.attend(rt, alloc, inbox, &mut node, &mut carrier, &mut Silent);
     Ok(())
 }

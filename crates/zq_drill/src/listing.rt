@@ -5,13 +5,13 @@ ghost use Rattle.std.specs.Prelude.{◌≡◌, ◌++◌, IfOk, List, OnOk, codes
 ghost use Rattle.zq_drill.specs.Listed.{AreCopied, IsListed, members_of};
 ghost use Rattle.zq_drill.specs.Limits.{heap_count};
 ghost use Rattle.zq_drill.specs.Lists.{listed};
-ghost use Rattle.zq_drill.specs.Posts.{site_of};
+ghost use Rattle.zq_drill.specs.SiteHandles.{site_of};
 ghost use Rattle.zq_model.specs.Meaning.{scored_cmp};
 ghost use Rattle.zq_shard.specs.Shard.{HeapImage, queue_at};
 
+use crate::drill_site::HEAPS;
 use crate::fault::DrillFault;
-use crate::post::Post;
-use crate::station::HEAPS;
+use crate::site_handle::SiteHandle;
 use std::alloc::{AllocError, Global};
 use std::sync::Wait;
 use zq_shard::Shard;
@@ -43,27 +43,36 @@ fn order(list: &mut Vec<Scored>) -> Result<(), AllocError>
 
 /// The members of the key `q` at a site, with their scores, a heap after the other. They are read
 /// off copies of its heaps.
-fn collect<R: Wait>(rt: &R, alloc: Global, post: &mut Post) -> Result<Vec<Scored>, DrillFault>
-    ensures station { post.new.station ≡ post.old.station }
+fn collect<R: Wait>(
+    rt: &R,
+    alloc: Global,
+    handle: &mut SiteHandle,
+) -> Result<Vec<Scored>, DrillFault>
+    ensures drill_site { handle.new.drill_site ≡ handle.old.drill_site }
     ensures collected { IfOk result (λ list. (images : List HeapImage)
-        × AreCopied (site_of post.old) post.old.pass post.new.pass heap_count images
+        × AreCopied (site_of handle.old) handle.old.pass handle.new.pass heap_count images
         × (map listed list.items ≡ members_of images)) }
 {
     let mut list = Vec::new(alloc);
     for heap in 0..HEAPS {
-        let shard = post.state(rt, alloc, heap)?;
+        let shard = handle.state(rt, alloc, heap)?;
         add_heap(alloc, &mut list, &shard)?;
     }
     Ok(list)
 }
 
 /// The members of the key `q` at a site, with their scores, by score and then by bytes.
-pub fn list_all<R: Wait>(rt: &R, alloc: Global, post: &mut Post) -> Result<Vec<Scored>, DrillFault>
-    ensures station { post.new.station ≡ post.old.station }
+pub fn list_all<R: Wait>(
+    rt: &R,
+    alloc: Global,
+    handle: &mut SiteHandle,
+) -> Result<Vec<Scored>, DrillFault>
+    ensures drill_site { handle.new.drill_site ≡ handle.old.drill_site }
     ensures listed { IfOk result
-        (λ list. IsListed (site_of post.old) post.old.pass post.new.pass (map listed list.items)) }
+        (λ list. IsListed (site_of handle.old) handle.old.pass handle.new.pass
+        (map listed list.items)) }
 {
-    let mut list = collect(rt, alloc, post)?;
+    let mut list = collect(rt, alloc, handle)?;
     order(&mut list)?;
     Ok(list)
 }

@@ -3,13 +3,13 @@
 ghost use Rattle.std.specs.Arc.{arc_value};
 ghost use Rattle.std.specs.Prelude.{◌≡◌, ◌<◌, ◌++◌, ◌∷◌, [], All, IfOk, OnOk, Some, length, slice_get};
 ghost use Rattle.zq_drill.specs.Limits.{site_count};
-ghost use Rattle.zq_drill.specs.Posts.{numbers_of, places_of, site_of};
-ghost use Rattle.zq_drill.specs.declared.post.Post.{Post as Posted};
+ghost use Rattle.zq_drill.specs.SiteHandles.{numbers_of, places_of, site_of};
+ghost use Rattle.zq_drill.specs.declared.site_handle.SiteHandle.{SiteHandle as Posted};
 ghost use Rattle.zq_spread.specs.Passes.{IsPassOf};
 
+use crate::drill_site::{DrillSite, HEAPS, SITES};
 use crate::fault::DrillFault;
-use crate::post::Post;
-use crate::station::{HEAPS, SITES, Station};
+use crate::site_handle::SiteHandle;
 use std::alloc::{AllocError, Global};
 use std::sync::Arc;
 use zq_dots::SiteNo;
@@ -19,29 +19,29 @@ use zq_spread::{Pass, Site, SiteFault};
 /// the end.
 const PASSES: usize = 3;
 
-/// The posts of the sites: in each list one of each site, in the order of their numbers.
+/// The handles of the sites: in each list one of each site, in the order of their numbers.
 #[derive(Drop)]
-pub struct Posts {
-    pub callers: Vec<Post>,
-    pub links: Vec<Post>,
-    pub last: Vec<Post>,
+pub struct SiteHandles {
+    pub callers: Vec<SiteHandle>,
+    pub links: Vec<SiteHandle>,
+    pub last: Vec<SiteHandle>,
 }
 
 /// Three sites that have done nothing, with the numbers 0, 1 and 2.
-pub fn open_all(alloc: Global) -> Result<Posts, DrillFault>
-    ensures { IfOk result (λ posts. numbers_of (places_of posts.last.items) ≡ 0 ∷ 1 ∷ 2 ∷ []) }
+pub fn open_all(alloc: Global) -> Result<SiteHandles, DrillFault>
+    ensures { IfOk result (λ handles. numbers_of (places_of handles.last.items) ≡ 0 ∷ 1 ∷ 2 ∷ []) }
 {
-    let mut posts = Posts {
+    let mut handles = SiteHandles {
         callers: Vec::new(alloc),
         links: Vec::new(alloc),
         last: Vec::new(alloc),
     };
     for number in 0..SITES {
-        let (station, passes) = open(alloc, site_at(number))?;
-        let three = hire(alloc, &station, passes)?;
-        seat(&mut posts, three)?;
+        let (drill_site, passes) = open(alloc, site_at(number))?;
+        let three = share_site(alloc, &drill_site, passes)?;
+        append_handles(&mut handles, three)?;
     }
-    Ok(posts)
+    Ok(handles)
 }
 
 /// The site of this number.
@@ -56,7 +56,7 @@ fn site_at(number: u8) -> SiteNo
 }
 
 /// A site of this number that has done nothing, and its passes.
-fn open(alloc: Global, number: SiteNo) -> Result<(Arc<Station>, Vec<Pass>), DrillFault>
+fn open(alloc: Global, number: SiteNo) -> Result<(Arc<DrillSite>, Vec<Pass>), DrillFault>
     ensures passes { IfOk result (λ made. length made.1.items ≡ PASSES) }
     ensures own { IfOk result (λ made. All (IsPassOf (arc_value made.0).site) made.1.items) }
     ensures number { IfOk result (λ made. (arc_value made.0).site.number ≡ number) }
@@ -66,39 +66,44 @@ fn open(alloc: Global, number: SiteNo) -> Result<(Arc<Station>, Vec<Pass>), Dril
         Err(SiteFault::NoMemory) => return Err(DrillFault::NoMemory),
         Err(SiteFault::Bounds) => unreachable!(),
     };
-    let station = Arc::new(alloc, Station { number, site }).map_err(AllocError::from)?;
-    Ok((station, passes))
+    let drill_site = Arc::new(alloc, DrillSite { number, site }).map_err(AllocError::from)?;
+    Ok((drill_site, passes))
 }
 
-/// A post for each of the passes.
-fn hire(alloc: Global, station: &Arc<Station>, passes: Vec<Pass>) -> Result<Vec<Post>, AllocError>
-    requires { All (IsPassOf (arc_value station.now).site) passes.items }
-    ensures number { IfOk result (λ posts. length posts.items ≡ length passes.items) }
+/// A handle for each of the passes.
+fn share_site(
+    alloc: Global,
+    drill_site: &Arc<DrillSite>,
+    passes: Vec<Pass>,
+) -> Result<Vec<SiteHandle>, AllocError>
+    requires { All (IsPassOf (arc_value drill_site.now).site) passes.items }
+    ensures number { IfOk result (λ handles. length handles.items ≡ length passes.items) }
     ensures site { IfOk result
-        (λ posts. All (λ post. site_of post ≡ (arc_value station.now).site) posts.items) }
+        (λ handles. All (λ handle. site_of handle ≡ (arc_value drill_site.now).site)
+        handles.items) }
 {
-    let mut posts = Vec::new(alloc);
+    let mut handles = Vec::new(alloc);
     for pass in passes {
-        let post = Post {
-            station: Arc::try_clone(station)?,
+        let handle = SiteHandle {
+            drill_site: Arc::try_clone(drill_site)?,
             pass,
         };
-        posts.push(post)?;
+        handles.push(handle)?;
     }
-    Ok(posts)
+    Ok(handles)
 }
 
-/// Appends a site's three posts, one to each list.
-fn seat(posts: &mut Posts, mut three: Vec<Post>) -> Result<(), AllocError>
+/// Appends a site's three handles, one to each list.
+fn append_handles(handles: &mut SiteHandles, mut three: Vec<SiteHandle>) -> Result<(), AllocError>
     requires { length three.items ≡ PASSES }
     ensures { OnOk result ((last : Posted) × (slice_get three.items 0 ≡ Some last)
-        × (posts.new.last.items ≡ posts.old.last.items ++ last ∷ [])) }
+        × (handles.new.last.items ≡ handles.old.last.items ++ last ∷ [])) }
 {
     let (Some(caller), Some(link), Some(last)) = (three.pop(), three.pop(), three.pop()) else {
         unreachable!()
     };
-    posts.callers.push(caller)?;
-    posts.links.push(link)?;
-    posts.last.push(last)?;
+    handles.callers.push(caller)?;
+    handles.links.push(link)?;
+    handles.last.push(last)?;
     Ok(())
 }

@@ -1,10 +1,10 @@
 //! The threads of a drill.
 
 use crate::calling::call_rounds;
+use crate::drill_site::SITES;
 use crate::fault::DrillFault;
-use crate::linking::attend;
-use crate::post::Post;
-use crate::station::SITES;
+use crate::linking::run_link;
+use crate::site_handle::SiteHandle;
 use std::alloc::{AllocError, Global};
 use std::sync::{Mutex, Wait};
 use std::thread;
@@ -16,7 +16,7 @@ const MOST_WAITING: usize = 1024;
 
 /// What a drill is to do: its seed, and how often each site is called.
 #[derive(Clone, Copy)]
-pub struct Plan {
+pub struct DrillOptions {
     pub seed: u64,
     pub rounds: u32,
 }
@@ -42,16 +42,16 @@ fn open_inboxes(alloc: Global) -> Result<Vec<Mailbox>, AllocError> {
 fn call_all<R: Threads + Wait + Sync>(
     rt: &R,
     alloc: Global,
-    callers: Vec<Post>,
+    callers: Vec<SiteHandle>,
     inboxes: &[Mailbox],
-    plan: Plan,
+    plan: DrillOptions,
     first: &Mutex<Option<DrillFault>>,
 ) {
     thread::scope(thread::scope_env(), rt, move |scope| {
-        for (post, inbox) in callers.into_iter().zip(inboxes) {
+        for (handle, inbox) in callers.into_iter().zip(inboxes) {
             let work = move || {
-                let mut post = post;
-                let called = call_rounds(rt, alloc, &mut post, inbox, plan.seed, plan.rounds);
+                let mut handle = handle;
+                let called = call_rounds(rt, alloc, &mut handle, inbox, plan.seed, plan.rounds);
                 if let Err(fault) = called {
                     note(rt, first, fault);
                 }
@@ -68,18 +68,18 @@ fn call_all<R: Threads + Wait + Sync>(
 pub fn run_all<R: Threads + Wait + Sync>(
     rt: &R,
     alloc: Global,
-    callers: Vec<Post>,
-    links: Vec<Post>,
-    plan: Plan,
+    callers: Vec<SiteHandle>,
+    links: Vec<SiteHandle>,
+    plan: DrillOptions,
 ) -> Result<(), DrillFault> {
     let inboxes = open_inboxes(alloc)?;
     let fault = Mutex::new(None);
     let (inboxes, first) = (inboxes.as_slice(), &fault);
     thread::scope(thread::scope_env(), rt, move |scope| {
-        for (post, inbox) in links.into_iter().zip(inboxes) {
+        for (handle, inbox) in links.into_iter().zip(inboxes) {
             let work = move || {
                 let mut incoming = Incoming::new(rt, inbox);
-                if attend(rt, alloc, post, &mut incoming, inboxes, plan.seed).is_err() {
+                if run_link(rt, alloc, handle, &mut incoming, inboxes, plan.seed).is_err() {
                     note(rt, first, DrillFault::NoMemory);
                 }
             };

@@ -1,7 +1,7 @@
 pub mod Sparse
 pub mod Sums
 pub mod Placed
-pub mod Held
+pub mod Storage
 pub mod LentSums
 pub mod Lent
 pub mod Within

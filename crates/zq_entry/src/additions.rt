@@ -15,8 +15,8 @@ ghost use Rattle.zq_entry.specs.Sums.{AreSums, MOST_SUM};
 
 use crate::addition::Addition;
 use crate::addition_ref::AdditionRef;
-use crate::held::Held;
 use crate::lent_sums::LentSums;
+use crate::storage::Storage;
 use std::alloc::{AllocError, Global};
 use std::marker::Model;
 use zq_dots::{Dot, Score, SiteNo, Vector};
@@ -24,7 +24,7 @@ use zq_dots::{Dot, Score, SiteNo, Vector};
 /// A list of additions.
 #[derive(Debug, Drop)]
 pub struct Additions {
-    held: Held,
+    held: Storage,
 }
 
 impl Model for Additions {
@@ -33,7 +33,7 @@ impl Model for Additions {
 
     ghost Value = { List OfSite };
 
-    ghost use Rattle.zq_entry.specs.Held.{listed};
+    ghost use Rattle.zq_entry.specs.Storage.{listed};
 
     ghost view = { λ a. listed a.held };
 }
@@ -44,7 +44,7 @@ impl Additions {
         ensures { result ≡ [] }
     {
         Additions {
-            held: Held::Nothing,
+            held: Storage::Nothing,
         }
     }
 
@@ -53,7 +53,7 @@ impl Additions {
         ensures { result ≡ (dot.site, addition_of_put dot.n score) ∷ [] }
     {
         Additions {
-            held: Held::One(dot, score),
+            held: Storage::One(dot, score),
         }
     }
 
@@ -62,9 +62,9 @@ impl Additions {
         ensures { result ≡ length self.now }
     {
         match &self.held {
-            Held::Nothing => 0,
-            Held::One(..) | Held::Summed { .. } => 1,
-            Held::Many(list) => list.len(),
+            Storage::Nothing => 0,
+            Storage::One(..) | Storage::Summed { .. } => 1,
+            Storage::Many(list) => list.len(),
         }
     }
 
@@ -75,13 +75,13 @@ impl Additions {
         ensures sums { AreSums result.sums }
     {
         match &self.held {
-            Held::Nothing => unreachable!(),
-            Held::One(dot, score) => AdditionRef {
+            Storage::Nothing => unreachable!(),
+            Storage::One(dot, score) => AdditionRef {
                 dot: *dot,
                 score: *score,
                 sums: LentSums::of(&[]),
             },
-            Held::Summed {
+            Storage::Summed {
                 site,
                 by,
                 n,
@@ -92,7 +92,7 @@ impl Additions {
                 score: *score,
                 sums: LentSums::one(*by, *sum),
             },
-            Held::Many(list) => list[place].lend(),
+            Storage::Many(list) => list[place].lend(),
         }
     }
 
@@ -103,7 +103,7 @@ impl Additions {
         ensures within { IsWithin (MOST + sets.SITES * MOST_SUM) result }
     {
         match &self.held {
-            Held::One(_, score) => i128::from(score.value()),
+            Storage::One(_, score) => i128::from(score.value()),
             _ => self.at(place).value(),
         }
     }
@@ -141,7 +141,7 @@ impl Additions {
         ensures pushed { OnOk result (self.new ≡ self.old ++ addition ∷ []) }
         ensures refused { OnErr result (self.new ≡ self.old) }
     {
-        if let (Held::Nothing, Some(held)) = (&self.held, Held::alone(&addition)) {
+        if let (Storage::Nothing, Some(held)) = (&self.held, Storage::alone(&addition)) {
             self.held = held;
             return Ok(());
         }

@@ -7,11 +7,11 @@ mod addition;
 mod addition_ref;
 mod additions;
 mod entry;
-mod held;
 mod lent_sums;
 mod lower;
 mod merge;
 mod places;
+mod storage;
 mod sums;
 
 pub use addition::Addition;

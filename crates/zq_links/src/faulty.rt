@@ -6,7 +6,7 @@ ghost use Rattle.zq_links.specs.Frames.{frames_in};
 
 use crate::errors::NoMemory;
 use crate::fault::Fault;
-use crate::held::{Held, hold_back, let_go};
+use crate::held_back::{HeldFrames, hold_back, let_go};
 use std::alloc::Global;
 use std::marker::Model;
 
@@ -15,7 +15,7 @@ use std::marker::Model;
 /// that it holds back, the oldest first, at most [`MOST_HELD`](crate::MOST_HELD).
 #[derive(Drop)]
 pub struct Faulty {
-    held: Held,
+    held: HeldFrames,
 }
 
 impl Model for Faulty {

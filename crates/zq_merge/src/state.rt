@@ -20,14 +20,14 @@ pub fn write_state(alloc: Global, shard: &Shard) -> Result<Vec<u8>, AllocError>
 {
     let rows = shard.rows(alloc)?;
     let mut out = Vec::new(alloc);
-    write_frame(&mut out, shard)?;
+    write_fields(&mut out, shard)?;
     write_keys(&mut out, &rows)?;
     Ok(out)
 }
 
 /// Appends the version, the heap, the rule and the vector.
 #[tactic(auto, unfolding(crate::specs::Spelling::frame_bytes))]
-fn write_frame(out: &mut Vec<u8>, shard: &Shard) -> Result<(), AllocError>
+fn write_fields(out: &mut Vec<u8>, shard: &Shard) -> Result<(), AllocError>
     ensures { OnOk result (out.new.items ≡ out.old.items ++ 3
         ∷ spell.frame_bytes version.Three (frame_in shard.now)) }
 {

@@ -16,20 +16,20 @@ use Rattle.zq_posheap.proofs.Removal.{entry_here, other_entries, other_seen, see
 use Rattle.zq_posheap.specs.Links.{IsLinked}
 use Rattle.zq_posheap.specs.Moves.{pairs_of, shown}
 use Rattle.zq_posheap.specs.Order.{Scored, near, nobody, same_key, scored_slots}
-use Rattle.zq_posheap.specs.declared.heap.Held.{Held}
+use Rattle.zq_posheap.specs.declared.heap.ScoredValue.{ScoredValue}
 use Rattle.zq_posheap.specs.declared.heap.Slot.{Slot}
 
 -- what is near the score of each member
-abbrev pub nears : {V : Type 0} → List (List ℕ × Held V) → List ℤ
+abbrev pub nears : {V : Type 0} → List (List ℕ × ScoredValue V) → List ℤ
 nears es = map (λ w. near w.score) (values_of es)
 
 -- one for each entry
-pub many : {V : Type 0} (es : List (List ℕ × Held V)) → length (nears es) ≡ length es
+pub many : {V : Type 0} (es : List (List ℕ × ScoredValue V)) → length (nears es) ≡ length es
 many es = length-map (values_of es) (λ w. near w.score) ∙ length-values_of es
 
-module _ {V : Type 0} (slots slots' : List Slot) (positions positions' : List ℕ) (es es' : List (List ℕ × Held V)) (linked : IsLinked slots positions (nears es)) (f : Slot)
+module _ {V : Type 0} (slots slots' : List Slot) (positions positions' : List ℕ) (es es' : List (List ℕ × ScoredValue V)) (linked : IsLinked slots positions (nears es)) (f : Slot)
     (last : slice_get slots (length slots - 1) ≡ Some f) (rest : slots' ≡ take (length slots - 1) slots)
-    (r : Option (List ℕ × Held V)) (entry : r ≡ slice_get es f.index) (entries : IfSome r (λ p. es' ≡ swap_remove es f.index p)) where
+    (r : Option (List ℕ × ScoredValue V)) (entry : r ≡ slice_get es f.index) (entries : IfSome r (λ p. es' ≡ swap_remove es f.index p)) where
   long : (length slots - 1) + 1 ≡ length slots
   long = omega (arith, slice_get_within slots (length slots - 1) f last)
 
@@ -47,7 +47,7 @@ module _ {V : Type 0} (slots slots' : List Slot) (positions positions' : List �
   left = seen_left es es' f.index (length slots - 1) r es_long within entry entries (λ w. near w.score)
 
   -- the entry that goes is there
-  gone_there : (e : List ℕ × Held V) × (slice_get es f.index ≡ Some e)
+  gone_there : (e : List ℕ × ScoredValue V) × (slice_get es f.index ≡ Some e)
   gone_there = there_is es f.index (omega (arith, within, es_long))
 
   pub not_none : r ≢ None
@@ -110,8 +110,8 @@ module _ {V : Type 0} (slots slots' : List Slot) (positions positions' : List �
           (told_cut slots positions (nears es) linked (length slots - 1) f.index moved.0 f.near long last moved.1 inside near_there.0 near_there.1)
 
 -- the member of the last place is no more among what is seen
-pub removed_last : {V S : Type 0} (m m' : IndexMap (List ℕ) (Held V) S) (f : Slot) → f.index < length m.entries →
-    (r : Option (List ℕ × Held V)) → r ≡ slice_get m.entries f.index → IfSome r (λ p. Updates same_key m m' p.0 None) →
+pub removed_last : {V S : Type 0} (m m' : IndexMap (List ℕ) (ScoredValue V) S) (f : Slot) → f.index < length m.entries →
+    (r : Option (List ℕ × ScoredValue V)) → r ≡ slice_get m.entries f.index → IfSome r (λ p. Updates same_key m m' p.0 None) →
     seen_in shown m'.entries ≡ remove (seen_in shown m.entries) (get_or (keys_of m.entries) f.index [])
 removed_last m m' f within r entry updates =
     let e = there_is m.entries f.index within in

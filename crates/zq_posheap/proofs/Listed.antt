@@ -24,25 +24,25 @@ use Rattle.zq_posheap.specs.Listing.{IsListing, Row, entry_row, lent_pair, score
 use Rattle.zq_posheap.specs.Members.{Entries, Scores, scores_of}
 use Rattle.zq_posheap.specs.Moves.{shown}
 use Rattle.zq_posheap.specs.Order.{Scored, same_key, scored_cmp}
-use Rattle.zq_posheap.specs.declared.heap.Held.{Held}
+use Rattle.zq_posheap.specs.declared.heap.ScoredValue.{ScoredValue}
 
 module _ {V : Type 0} where
-  apart_from : (q : List ℕ) (es : List (List ℕ × Held V)) → AllByRecursion (λ key. pointwise nat_eq q key ≡ false) (keys_of es) →
+  apart_from : (q : List ℕ) (es : List (List ℕ × ScoredValue V)) → AllByRecursion (λ key. pointwise nat_eq q key ≡ false) (keys_of es) →
       AllByRecursion (λ member. pointwise nat_eq q member ≡ false) (members (map entry_row es))
   apart_from q [] all = tt
   apart_from q (e ∷ es) all = (all.0, apart_from q es all.1)
 
-  distinct_members : (es : List (List ℕ × Held V)) → IsDistinct same_key (keys_of es) → IsDistinct (pointwise nat_eq) (members (map entry_row es))
+  distinct_members : (es : List (List ℕ × ScoredValue V)) → IsDistinct same_key (keys_of es) → IsDistinct (pointwise nat_eq) (members (map entry_row es))
   unfolding IsDistinct
   distinct_members [] distinct = tt
   distinct_members (e ∷ es) distinct = (apart_from e.0 es distinct.0, distinct_members es distinct.1)
 
-  as_entries : (es : List (List ℕ × Held V)) → map entry_of (map entry_row es) ≡ zip (keys_of es) (map shown (values_of es))
+  as_entries : (es : List (List ℕ × ScoredValue V)) → map entry_of (map entry_row es) ≡ zip (keys_of es) (map shown (values_of es))
   as_entries [] = refl
   as_entries (e ∷ es) = ap (λ xs. (e.0, shown e.1) ∷ xs) (as_entries es)
 
   -- the entries' rows are the map's
-  pub listed : (es : List (List ℕ × Held V)) → IsDistinct same_key (keys_of es) → IsListing (seen_in shown es) (map entry_row es)
+  pub listed : (es : List (List ℕ × ScoredValue V)) → IsDistinct same_key (keys_of es) → IsListing (seen_in shown es) (map entry_row es)
   listed es distinct = subst (λ m. IsListing m (map entry_row es)) (ap from_entries (as_entries es))
       (listing (map entry_row es) (are_apart (map entry_row es) (distinct_members es distinct)))
 

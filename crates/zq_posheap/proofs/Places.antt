@@ -11,7 +11,7 @@ use Rattle.zq_posheap.proofs.Entries.{same_key_laws, seen_in, seen_is}
 use Rattle.zq_posheap.proofs.Scored.{text_there}
 use Rattle.zq_posheap.specs.Moves.{shown}
 use Rattle.zq_posheap.specs.Order.{same_key}
-use Rattle.zq_posheap.specs.declared.heap.Held.{Held}
+use Rattle.zq_posheap.specs.declared.heap.ScoredValue.{ScoredValue}
 
 -- as many places as entries
 pub place_within : {W : Type 0} (es : List (List ℕ × W)) (i : ℕ) → i < length (keys_of es) → i < length es
@@ -25,7 +25,7 @@ pub member_there : {W : Type 0} (es : List (List ℕ × W)) (i : ℕ) (member : 
 member_there es i member at = get_or_from_slice_get (keys_of es) i member [] at
 
 -- what is seen of the member at a place
-pub seen_there : {V S : Type 0} (m : IndexMap (List ℕ) (Held V) S) (i : ℕ) (e : List ℕ × Held V) → IsUnique same_key m → slice_get m.entries i ≡ Some e →
+pub seen_there : {V S : Type 0} (m : IndexMap (List ℕ) (ScoredValue V) S) (i : ℕ) (e : List ℕ × ScoredValue V) → IsUnique same_key m → slice_get m.entries i ≡ Some e →
     get (seen_in shown m.entries) (get_or (keys_of m.entries) i []) ≡ Some (shown e.1)
 seen_there m i e unique at =
     ap (get (seen_in shown m.entries)) (sym (text_there m.entries i e.0 e.1 at))

@@ -12,7 +12,7 @@ use Rattle.std.specs.Map.{keys_of}
 use Rattle.std.specs.Prelude.{List, Some, [], ◌++◌, ◌∷◌, ◌+◌, ◌<◌, ℤ, suc, zero, get_or, length, slice_set, option_map, slice_get, ℕ, ◌≡◌, ◌≢◌, Bool}
 use Rattle.indexmap.specs.Layout.{set_value_at}
 use Rattle.zq_posheap.specs.Moves.{pairs_of}
-use Rattle.zq_posheap.specs.declared.heap.Held.{Held}
+use Rattle.zq_posheap.specs.declared.heap.ScoredValue.{ScoredValue}
 use Rattle.zq_posheap.specs.declared.heap.Slot.{Slot}
 use Rattle.std.proofs.Common.{◌∙◌, arith, sym, subst, ap, refl}
 use Rattle.zq_posheap.specs.Order.{Scored, nobody, scored_at, scored_cmp, scored_slots, turned_cmp}
@@ -24,11 +24,11 @@ text_there es i k v at =
     sym (get_or_from_slice_get (keys_of es) i k [] key)
 
 -- a map's entry, among the pairs
-pub pair_there : {V : Type 0} (es : List (List ℕ × Held V)) (i : ℕ) (e : List ℕ × Held V) → slice_get es i ≡ Some e → get_or (pairs_of es) i nobody ≡ (e.1.score, e.0)
+pub pair_there : {V : Type 0} (es : List (List ℕ × ScoredValue V)) (i : ℕ) (e : List ℕ × ScoredValue V) → slice_get es i ≡ Some e → get_or (pairs_of es) i nobody ≡ (e.1.score, e.0)
 pair_there es i e at = get_or_from_slice_get (pairs_of es) i (e.1.score, e.0) nobody (mapped_at (λ e. (e.1.score, e.0)) es i e at)
 
 -- the pairs, once an entry has another value
-pub set_value_at-pairs : {V : Type 0} (es : List (List ℕ × Held V)) (i : ℕ) (e : List ℕ × Held V) (w : Held V) → slice_get es i ≡ Some e →
+pub set_value_at-pairs : {V : Type 0} (es : List (List ℕ × ScoredValue V)) (i : ℕ) (e : List ℕ × ScoredValue V) (w : ScoredValue V) → slice_get es i ≡ Some e →
     pairs_of (set_value_at es i w) ≡ slice_set (pairs_of es) i (w.score, e.0)
 set_value_at-pairs [] i e w at = refl
 set_value_at-pairs (x ∷ es) zero e w at = λ k. (w.score, (same_Some x e at k).0) ∷ pairs_of es

@@ -12,7 +12,7 @@ use Rattle.zq_posheap.proofs.Entries.{bytes_antisymmetric, get-seen, has_text, o
 use Rattle.zq_posheap.proofs.Lists.{option_map_some}
 use Rattle.zq_posheap.specs.Members.{AreInRange, Entries, scores_of}
 use Rattle.zq_posheap.specs.Moves.{shown}
-use Rattle.zq_posheap.specs.declared.heap.Held.{Held}
+use Rattle.zq_posheap.specs.declared.heap.ScoredValue.{ScoredValue}
 
 find-scores : {V : Type 0} (es : List (List ℕ × (ℤ × V))) (q : List ℕ) →
     find (slice_cmp nat_cmp) q (map (λ e. (e.0, e.1.0)) es) ≡ option_map (λ e. e.0) (find (slice_cmp nat_cmp) q es)
@@ -29,7 +29,7 @@ option_map-twice f h None = refl
 option_map-twice f h (Some x) = refl
 
 -- the scores seen with the values are the scores
-pub scores_of_seen : {V : Type 0} (es : List (List ℕ × Held V)) → scores_of (seen_in shown es) ≡ seen_in (λ w. w.score) es
+pub scores_of_seen : {V : Type 0} (es : List (List ℕ × ScoredValue V)) → scores_of (seen_in shown es) ≡ seen_in (λ w. w.score) es
 scores_of_seen es = same_map nat_list_cmp_total bytes_antisymmetric _ _ (λ q.
     get-scores_of (seen_in shown es) q ∙ ap (option_map (λ e. e.0)) (get-seen shown es q)
     ∙ option_map-twice shown (λ e. e.0) (lookup (has_text q) es) ∙ sym (get-seen (λ w. w.score) es q))

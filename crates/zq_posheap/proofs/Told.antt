@@ -10,7 +10,7 @@ use Rattle.zq_posheap.proofs.Lists.{set_value_at-values}
 use Rattle.zq_posheap.specs.Moves.{IsKnown, IsLinkedHeap, nears_in}
 use Rattle.zq_posheap.specs.Order.{near}
 use Rattle.zq_posheap.specs.declared.heap.Heap.{Heap}
-use Rattle.zq_posheap.specs.declared.heap.Held.{Held}
+use Rattle.zq_posheap.specs.declared.heap.ScoredValue.{ScoredValue}
 use Rattle.zq_posheap.specs.declared.heap.Slot.{Slot}
 
 -- as many nears as members
@@ -34,7 +34,7 @@ pub written_seen : {W Y S : Type 0} (f : W → Y) (m n : IndexMap (List ℕ) W S
 written_seen f m n i w is = ap (map f) (ap values is ∙ set_value_at-values m.entries i w) ∙ map-set f (values m) i w
 
 -- what is kept of a member
-abbrev pub held : {V : Type 0} → ℤ → V → Held V
+abbrev pub held : {V : Type 0} → ℤ → V → ScoredValue V
 held score value = record { score = score; value = value }
 
 -- what is seen of the members once one more is there

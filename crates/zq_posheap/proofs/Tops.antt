@@ -23,7 +23,7 @@ use Rattle.zq_posheap.specs.Order.{Scored, nobody, scored_at, scored_cmp, scored
 use Rattle.zq_posheap.specs.Links.{IsLinked}
 use Rattle.zq_posheap.specs.Members.{Scores}
 use Rattle.zq_posheap.specs.Moves.{pairs_of}
-use Rattle.zq_posheap.specs.declared.heap.Held.{Held}
+use Rattle.zq_posheap.specs.declared.heap.ScoredValue.{ScoredValue}
 use Rattle.zq_posheap.specs.declared.heap.Slot.{Slot}
 
 -- pairs that tie are one
@@ -48,7 +48,7 @@ before x y after apart =
 pub same_first : (m : Scores) (x y : ℤ) (a b : List ℕ) → x ≡ y → a ≡ b → IsFirst m (x, a) → IsFirst m (y, b)
 same_first m x y a b q r first = subst (λ (t : ℤ × List ℕ). IsFirst m (t.0, t.1)) (λ k. (q k, r k)) first
 
-module _ {V : Type 0} (es : List (List ℕ × Held V)) (slots : List Slot) (positions : List ℕ) (linked : IsLinked slots positions (nears es))
+module _ {V : Type 0} (es : List (List ℕ × ScoredValue V)) (slots : List Slot) (positions : List ℕ) (linked : IsLinked slots positions (nears es))
     (ordered : IsHeap turned_cmp (scored_slots (pairs_of es) slots)) where
   -- a pair that the scores have stands at a place
   pub stands : (pair : Scored) → get (seen_in (λ v. v.score) es) pair.1 ≡ Some pair.0 → (p : ℕ) × (x : Slot) × (slice_get slots p ≡ Some x) × (scored_at (pairs_of es) x ≡ pair)
@@ -60,7 +60,7 @@ module _ {V : Type 0} (es : List (List ℕ × Held V)) (slots : List Slot) (posi
       let is = ap (λ i. get_or (pairs_of es) i nobody) x.2 ∙ pair_there es e.0 (e.1, w.0) e.2 in
       (p.0, x.0, x.1, is ∙ (λ k. (w.2 k, sym (same_text pair.1 e.1 (sym e.3)) k)))
 
-  pub first_is : (first : Slot) (key : List ℕ) (w : Held V) → slice_get slots 0 ≡ Some first → slice_get es first.index ≡ Some (key, w) →
+  pub first_is : (first : Slot) (key : List ℕ) (w : ScoredValue V) → slice_get slots 0 ≡ Some first → slice_get es first.index ≡ Some (key, w) →
       lookup (has_text key) es ≡ Some w → IsFirst (seen_in (λ v. v.score) es) (w.score, key)
   first_is first key w at_top entry found =
       let queue = scored_slots (pairs_of es) slots in

@@ -6,7 +6,7 @@ use Rattle.std.specs.FinMap.{FinMap, get}
 use Rattle.std.specs.Int.{w128}
 use Rattle.std.specs.Ordering.{nat_cmp}
 use Rattle.zq_posheap.specs.Order.{Scored}
-use Rattle.zq_posheap.specs.declared.heap.Held.{Held}
+use Rattle.zq_posheap.specs.declared.heap.ScoredValue.{ScoredValue}
 
 -- a member with its score and its value
 abbrev pub Row : Type 0 → Type 0
@@ -21,7 +21,7 @@ abbrev pub lent_row : {V : Type 0} → (ℤ × Bor (List ℕ)) × Bor V → Row 
 lent_row row = ((row.0.0, row.1.now), row.0.1.now)
 
 -- the row of an entry of the map
-abbrev pub entry_row : {V : Type 0} → List ℕ × Held V → Row V
+abbrev pub entry_row : {V : Type 0} → List ℕ × ScoredValue V → Row V
 entry_row entry = ((entry.1.score, entry.1.value), entry.0)
 
 -- each score is a number of 128 bits

@@ -4,11 +4,11 @@ use Rattle.indexmap.specs.IndexMap.{keys, spare, values}
 use Rattle.zq_posheap.specs.Links.{IsLinked}
 use Rattle.zq_posheap.specs.Order.{Scored, near, nobody, scored_slots}
 use Rattle.zq_posheap.specs.declared.heap.Heap.{Heap}
-use Rattle.zq_posheap.specs.declared.heap.Held.{Held}
+use Rattle.zq_posheap.specs.declared.heap.ScoredValue.{ScoredValue}
 use Rattle.zq_posheap.specs.declared.heap.Slot.{Slot}
 
 -- the scores of a map's entries with their members
-abbrev pub pairs_of : {V : Type 0} → List (List ℕ × Held V) → List Scored
+abbrev pub pairs_of : {V : Type 0} → List (List ℕ × ScoredValue V) → List Scored
 pairs_of entries = map (λ e. (e.1.score, e.0)) entries
 
 -- the members with their scores, in the map's order
@@ -24,7 +24,7 @@ abbrev pub queue_of : {V : Type 0} → Heap V → List Scored
 queue_of heap = scored_slots (pairs_in heap) heap.slots.items
 
 -- a member's score and value
-abbrev pub shown : {V : Type 0} → Held V → ℤ × V
+abbrev pub shown : {V : Type 0} → ScoredValue V → ℤ × V
 shown held = (held.score, held.value)
 
 -- the score and the value of each member, in the map's order

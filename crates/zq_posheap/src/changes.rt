@@ -7,7 +7,7 @@ ghost use Rattle.zq_posheap.specs.Moves.{IsLinkedHeap, OnlyMoves, member_of, que
 ghost use Rattle.zq_posheap.specs.Order.{Scored, same_key};
 ghost use Rattle.zq_posheap.specs.Whole.{IsWhole, entries_map};
 
-use crate::heap::{Heap, Held, Slot};
+use crate::heap::{Heap, ScoredValue, Slot};
 use crate::name::Name;
 use crate::near::near;
 use crate::seeded::Seeded;
@@ -17,15 +17,15 @@ use std::mem::replace;
 
 /// Notes another score and value for the member at an index, and answers the value that it had.
 fn exchange<V>(
-    members: &mut IndexMap<Name, Held<V>, Seeded>,
+    members: &mut IndexMap<Name, ScoredValue<V>, Seeded>,
     index: usize,
     score: i128,
     value: V,
 ) -> V
     requires { index < index_map_len members.old }
-    ensures given { (w : Held V) → slice_get (values members.old) index ≡ Some w →
+    ensures given { (w : ScoredValue V) → slice_get (values members.old) index ≡ Some w →
         result ≡ w.value }
-    ensures noted { (w : Held V) → slice_get (values members.old) index ≡ Some w →
+    ensures noted { (w : ScoredValue V) → slice_get (values members.old) index ≡ Some w →
         members.new ≡ with_value_at members.old index (record { score = score; value = value }) }
     ensures unique { IsUnique same_key members.old }
 {
@@ -36,7 +36,7 @@ fn exchange<V>(
 
 impl<V: Drop> Heap<V> {
     /// What is held of the member at an index.
-    pub(crate) fn at(&self, index: usize) -> &Held<V>
+    pub(crate) fn at(&self, index: usize) -> &ScoredValue<V>
         requires { index < index_map_len self.now.members }
         ensures there { slice_get (values self.now.members) index ≡ Some result.now }
         ensures held { get (entries_map self.now) (member_of self.now index)
@@ -91,7 +91,7 @@ impl<V: Drop> Heap<V> {
         ensures still_whole { IsWhole self.new }
     {
         let last = self.slots.len();
-        let _ = self.members.insert(member, Held { score, value });
+        let _ = self.members.insert(member, ScoredValue { score, value });
         self.positions.push_reserved(last);
         self.slots.push_reserved(Slot {
             near: near(score),
@@ -101,7 +101,7 @@ impl<V: Drop> Heap<V> {
     }
 
     /// Takes the member at an index out, and answers what was held of it.
-    pub(crate) fn take_out(&mut self, index: usize) -> Held<V>
+    pub(crate) fn take_out(&mut self, index: usize) -> ScoredValue<V>
         requires whole { IsWhole self.old }
         requires within { index < index_map_len self.old.members }
         ensures given { get (entries_map self.old) (member_of self.old index)
@@ -136,7 +136,7 @@ impl<V: Drop> Heap<V> {
 
     /// Takes the last place out of the heap, and its member out of the map; answers what was held
     /// of it.
-    fn drop_last(&mut self) -> Option<Held<V>>
+    fn drop_last(&mut self) -> Option<ScoredValue<V>>
         requires linked { IsLinkedHeap self.old }
         requires occupied { 0 < length self.old.slots.items }
         ensures still_linked { IsLinkedHeap self.new }

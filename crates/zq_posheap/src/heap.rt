@@ -32,7 +32,7 @@ const _: () = prove!(size_of::<Slot>() == 16);
 
 /// What the map keeps of a member: its score and its value.
 #[derive(Drop)]
-pub(crate) struct Held<V> {
+pub(crate) struct ScoredValue<V> {
     pub(crate) score: i128,
     pub(crate) value: V,
 }
@@ -43,7 +43,7 @@ pub(crate) struct Held<V> {
 pub(crate) struct Heap<V> {
     pub(crate) slots: Vec<Slot>,
     pub(crate) positions: Vec<usize>,
-    pub(crate) members: IndexMap<Name, Held<V>, Seeded>,
+    pub(crate) members: IndexMap<Name, ScoredValue<V>, Seeded>,
 }
 
 impl<V> Heap<V> {

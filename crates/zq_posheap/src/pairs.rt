@@ -3,7 +3,7 @@ ghost use Rattle.std.specs.Prelude.{map, ◌≡◌};
 ghost use Rattle.std.specs.Iterator.{YieldsFirstBy, item_count};
 ghost use Rattle.zq_posheap.specs.Listing.{AllInRange, entry_row, lent_row};
 
-use crate::heap::Held;
+use crate::heap::ScoredValue;
 use crate::name::Name;
 use indexmap::map;
 use std::marker::Model;
@@ -11,7 +11,7 @@ use std::marker::Model;
 /// The scores with their members and values, in no order. It takes no memory.
 #[derive(Drop)]
 pub struct Pairs<'a, V> {
-    entries: map::Iter<'a, Name, Held<V>>,
+    entries: map::Iter<'a, Name, ScoredValue<V>>,
 }
 
 impl<'a, V> Model for Pairs<'a, V> {
@@ -30,7 +30,7 @@ impl<'a, V> Model for Pairs<'a, V> {
 }
 
 impl<'a, V> Pairs<'a, V> {
-    pub(crate) fn new(entries: map::Iter<'a, Name, Held<V>>) -> Self
+    pub(crate) fn new(entries: map::Iter<'a, Name, ScoredValue<V>>) -> Self
         requires in_range { AllInRange (map entry_row entries) }
         ensures { result ≡ map entry_row entries.entry }
     {

@@ -102,12 +102,12 @@ impl<V: Drop> PosHeap<V> {
         ensures head { (pairs : List Scored) → ListsInOrder (scores_of self.now.held) pairs →
             slice_get pairs 0 ≡ option_map lent_pair result }
     {
-        self.foresee();
+        self.begin_at_first();
         self.heap.first()
     }
 
     /// Begins the next look-up at the first member: what is read at the head is often taken out.
-    fn foresee(&self) {
+    fn begin_at_first(&self) {
         if let Some(first) = self.heap.slots.first() {
             self.guess.note(first.index);
         }

@@ -2,6 +2,6 @@ pub mod ConnectionsLeft
 pub mod Faults
 pub mod Talks
 pub mod Inboxes
-pub mod Crews
+pub mod SiteThreads
 pub mod Mailboxes
 pub mod Announced

@@ -6,8 +6,8 @@ ghost use Rattle.zq_session.specs.Passing.{passed};
 ghost use Rattle.zq_spread.specs.Passes.{IsPassOf};
 
 use crate::inboxes::Inboxes;
+use crate::notifier::Ticks;
 use crate::site_server::SiteServer;
-use crate::teller::Ticks;
 use crate::ticking::Ticking;
 use std::sync::Wait;
 use zq_session::Passing;
@@ -25,12 +25,12 @@ pub fn answerer_of<'a, R: Wait>(
     requires { IsPassOf server.now.site pass }
     ensures server { let own = result.answerer in
         passed own.site.now own.pass own.draws ≡ passed server.now.site pass draws }
-    ensures mailbox { option_copied result.teller.mailbox
+    ensures mailbox { option_copied result.notifier.mailbox
         ≡ inbox_of inboxes.entry server.now.number }
 {
     let mailbox = inboxes.of(server.number);
     Ticking {
         answerer: Passing::new(rt, &server.site, pass, draws),
-        teller: Ticks::new(rt, mailbox),
+        notifier: Ticks::new(rt, mailbox),
     }
 }

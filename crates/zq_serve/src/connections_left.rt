@@ -17,7 +17,7 @@ impl Model for ConnectionsLeft {
 
     ghost Value = { Option ℕ };
 
-    ghost view = { λ turns. turns.left };
+    ghost view = { λ connections_left. connections_left.left };
 }
 
 impl ConnectionsLeft {

@@ -4,7 +4,7 @@ ghost use Rattle.std.specs.Arc.{arc_value};
 ghost use Rattle.std.specs.Net.Socket.{socket_ip, socket_port};
 ghost use Rattle.std.specs.Prelude.{All, IfOk, OnOk, [], length, map, replicate, ◌*◌, ◌+◌, ◌++◌, ◌-◌, ◌<◌, ◌≡◌, ◌≤◌};
 ghost use Rattle.zq_peers.specs.Sites.{others_below};
-ghost use Rattle.zq_serve.specs.Crews.{AreHired, IsHired, link_to, links_of, planned, post_of, posts_of};
+ghost use Rattle.zq_serve.specs.SiteThreads.{HaveThreads, HasThreads, link_to, links_of, planned, served, served_by};
 ghost use Rattle.zq_serve.specs.Mailboxes.{mosts_of};
 ghost use Rattle.zq_spread.specs.Passes.{IsPassOf};
 
@@ -100,7 +100,7 @@ fn open_server<R: Net<Listener = TcpListener, Stream = TcpStream>>(
     hasher: Seeded,
 ) -> Result<(Arc<SiteServer>, Vec<Pass>), ServeFault>
     ensures passes { IfOk result (λ made. All (IsPassOf (arc_value made.0).site) made.1.items) }
-    ensures post { IfOk result (λ made. post_of (arc_value made.0) ≡ planned plan.now) }
+    ensures served_site { IfOk result (λ made. served (arc_value made.0) ≡ planned plan.now) }
     ensures number { IfOk result (λ made. length made.1.items ≡ plan.now.workers + 1) }
 {
     let listener = listen(net, address)?;
@@ -120,7 +120,7 @@ fn open_server<R: Net<Listener = TcpListener, Stream = TcpStream>>(
         rule,
         site,
         listener,
-        turns: Mutex::new(ConnectionsLeft::new(plan.connections)),
+        connections_left: Mutex::new(ConnectionsLeft::new(plan.connections)),
     };
     let server = Arc::new(alloc, server).map_err(AllocError::from)?;
     Ok((server, passes))
@@ -132,25 +132,25 @@ fn add_threads(
     server: &Arc<SiteServer>,
     passes: Vec<Pass>,
     others: Vec<SiteNo>,
-    crew: &mut SiteThreads,
+    threads: &mut SiteThreads,
 ) -> Result<(), ServeFault>
     requires passes { All (IsPassOf (arc_value server.now).site) passes.items }
     requires some { 0 < length passes.items }
     ensures { OnOk result
-        (IsHired (post_of (arc_value server.now))
-        (length passes.items - 1) others.items crew.old crew.new) }
+        (HasThreads (served (arc_value server.now))
+        (length passes.items - 1) others.items threads.old threads.new) }
 {
     let mut passes = passes;
     let Some(pass) = passes.pop() else {
         unreachable!()
     };
-    hire_linker(server, pass, others, &mut crew.linkers)?;
-    add_workers(server, passes, &mut crew.workers)?;
+    add_linker(server, pass, others, &mut threads.linkers)?;
+    add_workers(server, passes, &mut threads.workers)?;
     Ok(())
 }
 
 /// Appends a linker with this pass where the site has others beside it.
-fn hire_linker(
+fn add_linker(
     server: &Arc<SiteServer>,
     pass: Pass,
     others: Vec<SiteNo>,
@@ -158,7 +158,7 @@ fn hire_linker(
 ) -> Result<(), AllocError>
     requires { IsPassOf (arc_value server.now).site pass }
     ensures { OnOk result (links_of linkers.new.items ≡ links_of linkers.old.items
-        ++ link_to (post_of (arc_value server.now)) others.items) }
+        ++ link_to (served (arc_value server.now)) others.items) }
 {
     if others.is_empty() {
         return Ok(());
@@ -179,8 +179,8 @@ fn add_workers(
     workers: &mut Vec<Worker>,
 ) -> Result<(), AllocError>
     requires { All (IsPassOf (arc_value server.now).site) passes.items }
-    ensures { OnOk result (posts_of workers.new.items ≡ posts_of workers.old.items
-        ++ replicate (length passes.items) (post_of (arc_value server.now))) }
+    ensures { OnOk result (served_by workers.new.items ≡ served_by workers.old.items
+        ++ replicate (length passes.items) (served (arc_value server.now))) }
 {
     for pass in passes {
         let worker = Worker {
@@ -210,9 +210,9 @@ pub fn open_all<R: Net<Listener = TcpListener, Stream = TcpStream>>(
     settings: &Settings,
     hasher: Seeded,
 ) -> Result<SiteThreads, ServeFault>
-    ensures { IfOk result (AreHired settings.now) }
+    ensures { IfOk result (HaveThreads settings.now) }
 {
-    let mut crew = SiteThreads::new(alloc);
+    let mut threads = SiteThreads::new(alloc);
     let ports = settings.ports.as_slice();
     let sites = ports.len() as u8;
     let mut rest = ports;
@@ -225,12 +225,12 @@ pub fn open_all<R: Net<Listener = TcpListener, Stream = TcpStream>>(
             *port,
             sites,
             hasher,
-            &mut crew,
+            &mut threads,
         )?;
         rest = others;
         place += 1;
     }
-    Ok(crew)
+    Ok(threads)
 }
 
 /// How the site of a place among the ports is served.
@@ -260,16 +260,16 @@ fn open_one<R: Net<Listener = TcpListener, Stream = TcpStream>>(
     port: Port,
     sites: u8,
     hasher: Seeded,
-    crew: &mut SiteThreads,
+    threads: &mut SiteThreads,
 ) -> Result<(), ServeFault>
     requires { sites ≤ 64 }
     ensures { OnOk result
-        (IsHired (planned plan.now) plan.now.workers
-        (others_below plan.now.number sites) crew.old crew.new) }
+        (HasThreads (planned plan.now) plan.now.workers
+        (others_below plan.now.number sites) threads.old threads.new) }
 {
     let address = address_of(IpAddr::V4(Ipv4Addr::LOCALHOST), port);
     let others = others(alloc, plan.number, sites)?;
-    open_site(net, alloc, plan, address, others, hasher, crew)
+    open_site(net, alloc, plan, address, others, hasher, threads)
 }
 
 /// Makes a site that has done nothing, whose members use the hasher, listens on the address for its
@@ -285,13 +285,13 @@ pub fn open_site<R: Net<Listener = TcpListener, Stream = TcpStream>>(
     address: SocketAddr,
     others: Vec<SiteNo>,
     hasher: Seeded,
-    crew: &mut SiteThreads,
+    threads: &mut SiteThreads,
 ) -> Result<(), ServeFault>
     ensures { OnOk result
-        (IsHired (planned plan.now) plan.now.workers others.items crew.old crew.new) }
+        (HasThreads (planned plan.now) plan.now.workers others.items threads.old threads.new) }
 {
     let (server, passes) = open_server(net, alloc, plan, address, hasher)?;
-    add_threads(&server, passes, others, crew)
+    add_threads(&server, passes, others, threads)
 }
 
 /// How many messages wait in a site's mailbox at most: four rounds of what so many other sites

@@ -51,10 +51,17 @@ where
     W: Write,
 {
     let hasher = draw_hasher(log)?;
-    let crew = open_all(log, alloc, settings, hasher)?;
+    let threads = open_all(log, alloc, settings, hasher)?;
     let mailboxes = open_mailboxes(alloc, settings)?;
     announce(settings.ports.as_slice(), out)?;
-    run_all(log, alloc, crew, &mailboxes, hasher, settings.seed.value())
+    run_all(
+        log,
+        alloc,
+        threads,
+        &mailboxes,
+        hasher,
+        settings.seed.value(),
+    )
 }
 
 /// Runs each linker and each worker in a thread of its own. When all workers are done it sends Stop
@@ -62,12 +69,12 @@ where
 fn run_all<L: Log + Threads + Wait + Sync>(
     log: &L,
     alloc: Global,
-    crew: SiteThreads,
+    threads: SiteThreads,
     mailboxes: &[Mailbox],
     hasher: Seeded,
     seed: u64,
 ) -> Result<(), ServeFault> {
-    let SiteThreads { workers, linkers } = crew;
+    let SiteThreads { workers, linkers } = threads;
     thread::scope(
         thread::scope_env(),
         log,

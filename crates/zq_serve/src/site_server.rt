@@ -24,7 +24,7 @@ pub struct SiteServer {
     pub(crate) rule: Rule,
     pub(crate) site: Site,
     pub(crate) listener: TcpListener,
-    pub(crate) turns: Mutex<ConnectionsLeft>,
+    pub(crate) connections_left: Mutex<ConnectionsLeft>,
     ghost number_is: { number ≡ site.number },
     ghost heaps_are: { heaps ≡ heaps_of site },
     ghost rule_is: { rule ≡ site.rule },
@@ -33,11 +33,16 @@ pub struct SiteServer {
 impl SiteServer {
     /// Serves the port's connections, one after the other, until none is left. It waits for
     /// clients.
-    pub(crate) fn attend<A: Answers, L: Log + Wait>(&self, log: &L, alloc: Global, answerer: &mut A)
+    pub(crate) fn accept_clients<A: Answers, L: Log + Wait>(
+        &self,
+        log: &L,
+        alloc: Global,
+        answerer: &mut A,
+    )
         ensures { (talks : List Talk) × AreTalks A.answers answerer.old answerer.new talks }
     {
         for _ in log.forever() {
-            if !self.turns.lock(log).take() {
+            if !self.connections_left.lock(log).take() {
                 break;
             }
             match self.listener.accept() {

@@ -2,7 +2,7 @@
 
 ghost use Rattle.std.specs.Prelude.{◌≡◌};
 
-use crate::teller::Teller;
+use crate::notifier::Notifier;
 use std::alloc::Global;
 use std::snapshot::Snapshot;
 use zq_resp::{Reply, Request};
@@ -10,18 +10,18 @@ use zq_session::Answers;
 
 /// Answers as the answerer inside, and tells of each answer once it is made.
 #[derive(Drop)]
-pub struct Ticking<A: Answers, T: Teller> {
+pub struct Ticking<A: Answers, T: Notifier> {
     pub(crate) answerer: A,
-    pub(crate) teller: T,
+    pub(crate) notifier: T,
 }
 
-impl<A: Answers, T: Teller> Answers for Ticking<A, T> {
+impl<A: Answers, T: Notifier> Answers for Ticking<A, T> {
     ghost answers = { λ old words reply new.
-        A.answers old.answerer words reply new.answerer × T.tells old.teller reply new.teller };
+        A.answers old.answerer words reply new.answerer × T.tells old.notifier reply new.notifier };
 
     fn answer(&mut self, alloc: Global, request: &Request) -> Reply {
         let reply = self.answerer.answer(alloc, request);
-        self.teller.tell(Snapshot::of(&reply));
+        self.notifier.tell(Snapshot::of(&reply));
         reply
     }
 }

@@ -37,6 +37,6 @@ impl Worker {
         let Worker { server, pass } = self;
         let server: &SiteServer = &server;
         let mut answerer = answerer_of(log, server, pass, Draws::new(seed), inboxes);
-        server.attend(log, alloc, &mut answerer);
+        server.accept_clients(log, alloc, &mut answerer);
     }
 }

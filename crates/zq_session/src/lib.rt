@@ -19,4 +19,4 @@ pub use outcome::{End, SessionFault, status};
 pub use passing::Passing;
 pub use plain::Plain;
 pub use serving::Answers;
-pub use stream::{converse, session};
+pub use stream::{session, session_over};

@@ -46,7 +46,7 @@ pub fn session<A: Answers, R: Read, W: Write>(
         × Serves A.answers answerer.old answerer.new text written result }
     ensures read_off { IsReadOff result (R.remaining reader.new) }
 {
-    converse(alloc, answerer, &ReadWrite, reader, writer)
+    session_over(alloc, answerer, &ReadWrite, reader, writer)
 }
 
 /// A session over two ends whose steps have an order. Whenever a read begins, every request that
@@ -55,7 +55,7 @@ pub fn session<A: Answers, R: Read, W: Write>(
 ///
 /// It ends as [`session`] does. `Clean` and `Inside` come after a read that gave nothing, `Read`
 /// after a read that failed or after 4,611,686,018,427,387,904 reads, `Write` after a write.
-pub fn converse<A: Answers, R, W, E: Ends<R, W>>(
+pub fn session_over<A: Answers, R, W, E: Ends<R, W>>(
     alloc: Global,
     answerer: &mut A,
     ends: &E,

@@ -7,5 +7,5 @@ use Rattle.zq_wire.specs.declared.topic.Topic.{Topic}
 -- about nothing it is dropped.
 abbrev pub IsHanded : {P : Type 0} → (P → ℕ → Topic → List ℕ → P → Type 0) → P → P → ℕ →
     Option Topic → List ℕ → Type 0
-IsHanded posts old new to None frame = new ≡ old
-IsHanded posts old new to (Some topic) frame = posts old to topic frame new
+IsHanded enqueues old new to None frame = new ≡ old
+IsHanded enqueues old new to (Some topic) frame = enqueues old to topic frame new

@@ -25,23 +25,23 @@ is_up number (Some up) = up.number == number
 
 -- the number of the next link, within 64 bits
 abbrev pub next_number : {S : Type 0} → LinkState S → ℕ
-next_number wire = (wire.last + 1) % 2 ^ 64
+next_number state = (state.last + 1) % 2 ^ 64
 
 -- a link is up over this stream, in the place of an older one
 abbrev pub raised : {S : Type 0} → S → LinkState S → LinkState S
-raised stream wire = record {
-  outbox = cleared wire.outbox;
-  link = Some (record { number = next_number wire; stream = stream });
-  last = next_number wire;
-  over = wire.over;
+raised stream state = record {
+  outbox = cleared state.outbox;
+  link = Some (record { number = next_number state; stream = stream });
+  last = next_number state;
+  over = state.over;
 }
 
 -- the link of this number is down, and no other
 abbrev pub lowered : {S : Type 0} → ℕ → LinkState S → LinkState S
-lowered number wire =
-    if is_up number wire.link then
-    record { outbox = cleared wire.outbox; link = None; last = wire.last; over = wire.over }
-    else wire
+lowered number state =
+    if is_up number state.link then
+    record { outbox = cleared state.outbox; link = None; last = state.last; over = state.over }
+    else state
 
 -- The frame that waited first goes over the link that is up, by its number and its stream, and
 -- waits no more.
@@ -60,11 +60,11 @@ pub record IsTurn {S : Type 0} (number : ℕ) (IsStream : S →
 
 -- the site ends
 abbrev pub halted : {S : Type 0} → LinkState S → LinkState S
-halted wire = record { outbox = cleared wire.outbox; link = None; last = wire.last; over = true }
+halted state = record { outbox = cleared state.outbox; link = None; last = state.last; over = true }
 
 -- the frame waits, where there is a link and the site has the heap
 abbrev pub put_on : {S : Type 0} → Topic → List ℕ → LinkState S → LinkState S
-put_on topic frame wire =
-    if is_some wire.link && nat_lt (heap_of topic) wire.outbox.heaps
-    then record { outbox = record { heaps = wire.outbox.heaps; parcels = put_in topic frame wire.outbox.parcels }; link = wire.link; last = wire.last; over = wire.over }
-    else wire
+put_on topic frame state =
+    if is_some state.link && nat_lt (heap_of topic) state.outbox.heaps
+    then record { outbox = record { heaps = state.outbox.heaps; parcels = put_in topic frame state.outbox.parcels }; link = state.link; last = state.last; over = state.over }
+    else state

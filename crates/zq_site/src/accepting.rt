@@ -1,6 +1,6 @@
 //! What accepts peers.
 
-use crate::attending::attend;
+use crate::link_serving::serve_link;
 use crate::peer_listener::PeerListener;
 use crate::shared::Shared;
 use crate::times::not_accepted;
@@ -10,7 +10,7 @@ use std::sync::Wait;
 use std::time::Clock;
 
 /// Accepts connections, one after the other, and reads each until it ends, until the site ends.
-pub fn accept_peers<L>(log: &L, shared: Shared<'_>, doors: &PeerListener)
+pub fn accept_peers<L>(log: &L, shared: Shared<'_>, listener: &PeerListener)
 where
     L: Log + RandomSource + Clock + Wait,
 {
@@ -18,20 +18,20 @@ where
         if shared.halt.is_over(log) {
             break;
         }
-        accept_one(log, shared, doors);
+        accept_one(log, shared, listener);
     }
-    doors.leave();
+    listener.leave();
 }
 
 /// Accepts a connection, and reads it until it ends.
-fn accept_one<L>(log: &L, shared: Shared<'_>, doors: &PeerListener)
+fn accept_one<L>(log: &L, shared: Shared<'_>, listener: &PeerListener)
 where
     L: Log + RandomSource + Clock + Wait,
 {
-    match doors.listener.accept() {
+    match listener.listener.accept() {
         Ok((stream, _)) => {
             if !shared.halt.is_over(log) {
-                attend(log, shared, stream, shared.dialers);
+                serve_link(log, shared, stream, shared.dialers);
             }
         }
         Err(_) => {

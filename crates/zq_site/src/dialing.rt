@@ -1,6 +1,6 @@
 //! What dials a peer.
 
-use crate::attending::attend;
+use crate::link_serving::serve_link;
 use crate::pause::pause_after;
 use crate::peer_link::PeerLink;
 use crate::shared::Shared;
@@ -11,9 +11,9 @@ use std::random::RandomSource;
 use std::sync::Wait;
 use std::time::Clock;
 
-/// Dials the peer of a line, and dials it again after each attempt and each end of the link, until
+/// Dials the peer of a link, and dials it again after each attempt and each end of the link, until
 /// the site ends.
-pub fn dial_line<N, L>(net: &N, log: &L, shared: Shared<'_>, line: &PeerLink)
+pub fn dial_line<N, L>(net: &N, log: &L, shared: Shared<'_>, peer_link: &PeerLink)
 where
     N: Net<Listener = TcpListener, Stream = TcpStream>,
     L: Log + RandomSource + Clock + Wait,
@@ -23,7 +23,7 @@ where
         if shared.halt.is_over(log) {
             break;
         }
-        let heard = dial_once(net, log, shared, line);
+        let heard = dial_once(net, log, shared, peer_link);
         let pause = pause_after(last, heard);
         if shared.halt.wait(log, pause.duration()) {
             break;
@@ -32,15 +32,15 @@ where
     }
 }
 
-/// Dials the peer of a line, and says whether a frame of it was heard.
-fn dial_once<N, L>(net: &N, log: &L, shared: Shared<'_>, line: &PeerLink) -> bool
+/// Dials the peer of a link, and says whether a frame of it was heard.
+fn dial_once<N, L>(net: &N, log: &L, shared: Shared<'_>, peer_link: &PeerLink) -> bool
 where
     N: Net<Listener = TcpListener, Stream = TcpStream>,
     L: Log + RandomSource + Clock + Wait,
 {
-    let peer = line.peer();
+    let peer = peer_link.peer();
     match TcpStream::connect_timeout(net, &peer.address, connecting()) {
-        Ok(stream) => attend(log, shared, stream, &[peer.site]),
+        Ok(stream) => serve_link(log, shared, stream, &[peer.site]),
         Err(_) => false,
     }
 }

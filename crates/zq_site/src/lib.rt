@@ -9,10 +9,9 @@
 
 mod accepting;
 mod announcing;
-mod attending;
-mod carrying;
 mod dialing;
 mod halt;
+mod link_serving;
 mod link_state;
 mod loss;
 mod opening;
@@ -20,6 +19,7 @@ mod pause;
 mod peer_link;
 mod peer_links;
 mod peer_listener;
+mod queueing;
 mod reading;
 mod running;
 mod serving;

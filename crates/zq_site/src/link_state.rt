@@ -33,7 +33,7 @@ pub struct LinkState<S> {
 impl<S> LinkState<S> {
     /// No link, and nothing waits, of a site of this many heaps.
     pub fn new(alloc: Global, heaps: u8) -> Result<LinkState<S>, AllocError>
-        ensures { IfOk result (λ wire. wire ≡ fresh heaps) }
+        ensures { IfOk result (λ state. state ≡ fresh heaps) }
     {
         Ok(LinkState {
             outbox: Outbox::new(alloc, heaps)?,

@@ -16,13 +16,13 @@ use zq_wire::Topic;
 pub struct PeerLink {
     /// The peer.
     pub peer: Peer,
-    wire: Mutex<LinkState<Arc<TcpStream>>>,
+    state: Mutex<LinkState<Arc<TcpStream>>>,
     changed: Condvar,
 }
 
 /// A frame that goes over a link.
 #[derive(Drop)]
-pub struct Turn {
+pub struct QueuedFrame {
     /// The link's number.
     pub number: u64,
     /// Its stream.
@@ -34,11 +34,11 @@ pub struct Turn {
 impl PeerLink {
     /// No link to this peer, of a site of so many heaps.
     pub fn new(alloc: Global, peer: Peer, heaps: u8) -> Result<PeerLink, AllocError>
-        ensures { IfOk result (λ line. line.peer ≡ peer) }
+        ensures { IfOk result (λ peer_link. peer_link.peer ≡ peer) }
     {
         Ok(PeerLink {
             peer,
-            wire: Mutex::new(LinkState::new(alloc, heaps)?),
+            state: Mutex::new(LinkState::new(alloc, heaps)?),
             changed: Condvar::new(),
         })
     }
@@ -53,14 +53,14 @@ impl PeerLink {
     /// The frame waits for the link, in the place of an older one of its topic; where there is no
     /// link it is dropped.
     pub fn put<R: Wait>(&self, rt: &R, topic: Topic, frame: Vec<u8>) {
-        self.wire.lock(rt).put(topic, frame);
+        self.state.lock(rt).put(topic, frame);
         self.changed.notify_all();
     }
 
     /// A link is up over this stream, in the place of an older one, whose stream is shut down: its
     /// number. Where the site ends there is none.
     pub fn raise<R: Wait>(&self, rt: &R, stream: Arc<TcpStream>) -> Option<u64> {
-        let (number, older) = self.wire.lock(rt).raise(stream)?;
+        let (number, older) = self.state.lock(rt).raise(stream)?;
         shut(older);
         self.changed.notify_all();
         Some(number)
@@ -69,28 +69,28 @@ impl PeerLink {
     /// The link of this number is down, and its stream is shut down. It says whether that link was
     /// up.
     pub fn lower<R: Wait>(&self, rt: &R, number: u64) -> bool {
-        let stream = self.wire.lock(rt).lower(number);
+        let stream = self.state.lock(rt).lower(number);
         shut(stream)
     }
 
     /// The site ends: the link is down for good, and who waits is woken.
     pub fn halt<R: Wait>(&self, rt: &R) {
-        let stream = self.wire.lock(rt).halt();
+        let stream = self.state.lock(rt).halt();
         shut(stream);
         self.changed.notify_all();
     }
 
     /// Waits for a frame that can be sent, and takes it. Where the site ends there is none.
-    pub fn next<R: Wait>(&self, rt: &R) -> Option<Turn> {
-        let mut wire = self.wire.lock(rt);
+    pub fn next<R: Wait>(&self, rt: &R) -> Option<QueuedFrame> {
+        let mut state = self.state.lock(rt);
         for _ in rt.forever() {
-            if wire.over {
+            if state.over {
                 return None;
             }
-            if let Some(turn) = take_turn(&mut wire) {
-                return Some(turn);
+            if let Some(queued) = take_frame(&mut state) {
+                return Some(queued);
             }
-            wire = self.changed.wait(rt, wire);
+            state = self.changed.wait(rt, state);
         }
         unreachable!()
     }
@@ -98,15 +98,16 @@ impl PeerLink {
 
 /// The frame that waits first, and the link over which it goes. Where there is no link or nothing
 /// waits there is none, and nothing changes.
-fn take_turn(wire: &mut LinkState<Arc<TcpStream>>) -> Option<Turn>
-    ensures turn { IfSome result (λ turn. IsTurn turn.number
-        (λ stream. arc_value stream ≡ arc_value turn.stream) turn.frame.items wire.old wire.new) }
-    ensures none { IsNone result → wire.new ≡ wire.old }
+fn take_frame(state: &mut LinkState<Arc<TcpStream>>) -> Option<QueuedFrame>
+    ensures queued { IfSome result (λ queued. IsTurn queued.number
+        (λ stream. arc_value stream ≡ arc_value queued.stream) queued.frame.items state.old
+        state.new) }
+    ensures none { IsNone result → state.new ≡ state.old }
 {
-    let Connection { number, stream } = wire.link.as_ref()?;
+    let Connection { number, stream } = state.link.as_ref()?;
     let (number, stream) = (*number, Arc::try_clone(stream).ok()?);
-    let parcel = wire.take()?;
-    Some(Turn {
+    let parcel = state.take()?;
+    Some(QueuedFrame {
         number,
         stream,
         frame: parcel.frame,

@@ -10,23 +10,27 @@ use std::alloc::{AllocError, Global};
 use zq_dots::SiteNo;
 use zq_settings::{Peer, SiteSettings};
 
-/// A line for each peer of the settings, none of which is up.
-pub fn open_lines(alloc: Global, settings: &SiteSettings) -> Result<Vec<PeerLink>, AllocError>
-    ensures { IfOk result (λ lines. map (λ line. line.peer) lines.items ≡ settings.now.peers) }
+/// A link for each peer of the settings, none of which is up.
+pub fn open_peer_links(alloc: Global, settings: &SiteSettings) -> Result<Vec<PeerLink>, AllocError>
+    ensures { IfOk result (λ peer_links. map (λ peer_link. peer_link.peer) peer_links.items
+        ≡ settings.now.peers) }
 {
-    let mut lines = Vec::new(alloc);
+    let mut peer_links = Vec::new(alloc);
     for peer in settings.peers.as_slice() {
         let heaps = settings.heaps.value() as u8;
-        lines.push(PeerLink::new(alloc, *peer, heaps)?)?;
+        peer_links.push(PeerLink::new(alloc, *peer, heaps)?)?;
     }
-    Ok(lines)
+    Ok(peer_links)
 }
 
-/// The line of this peer, where it is one.
-pub fn line_of(lines: &[PeerLink], peer: SiteNo) -> Option<&PeerLink>
-    ensures { option_copied result ≡ find (λ line. line.peer.site == peer) lines.now }
+/// The link to this peer, where it is one.
+pub fn peer_link_of(peer_links: &[PeerLink], peer: SiteNo) -> Option<&PeerLink>
+    ensures { option_copied result
+        ≡ find (λ peer_link. peer_link.peer.site == peer) peer_links.now }
 {
-    lines.iter().find(|line| line.peer().site == peer)
+    peer_links
+        .iter()
+        .find(|peer_link| peer_link.peer().site == peer)
 }
 
 /// The sites of all peers.

@@ -4,14 +4,14 @@ ghost use Rattle.std.specs.Prelude.{◌≡◌};
 ghost use Rattle.zq_site.specs.Site.{acceptors_for};
 
 use crate::accepting::accept_peers;
-use crate::carrying::{Outward, PeerLinks};
 use crate::dialing::dial_line;
 use crate::peer_links::is_dialled;
 use crate::peer_listener::PeerListener;
+use crate::queueing::{Outward, PeerLinks};
 use crate::shared::Shared;
 use crate::times::telling;
 use crate::warning_log::WarningLog;
-use crate::writing::write_line;
+use crate::writing::write_link;
 use log::Log;
 use std::net::{Net, TcpListener, TcpStream};
 use std::random::RandomSource;
@@ -35,15 +35,15 @@ pub fn run_site<N, L>(
     net: &N,
     log: &L,
     shared: Shared<'_>,
-    doors: &PeerListener,
-    crew: SiteThreads,
+    listener: &PeerListener,
+    threads: SiteThreads,
     seeds: Seeds,
 ) -> Result<(), ServeFault>
 where
     N: Net<Listener = TcpListener, Stream = TcpStream> + Sync,
     L: Log + RandomSource + Clock + Threads + Wait + Sync,
 {
-    let SiteThreads { workers, linkers } = crew;
+    let SiteThreads { workers, linkers } = threads;
     thread::scope(thread::scope_env(), log, move |scope| {
         let mut ended = Ok(());
         for linker in linkers {
@@ -53,7 +53,7 @@ where
             }
         }
         if ended.is_ok() {
-            ended = run_writers(net, log, shared, doors, workers, seeds.draws);
+            ended = run_writers(net, log, shared, listener, workers, seeds.draws);
         }
         shared.mailbox.stop(log);
         ended
@@ -62,12 +62,12 @@ where
 
 /// Links a site to its peers, until it is to stop.
 fn link_site<L: Log + Wait>(log: &L, shared: Shared<'_>, linker: Linker, hasher: Seeded) {
-    let lines = PeerLinks {
+    let peer_links = PeerLinks {
         rt: log,
-        lines: shared.lines,
+        peer_links: shared.peer_links,
     };
-    let mut carrier = Outward::new(lines);
-    let mut teller = WarningLog {
+    let mut carrier = Outward::new(peer_links);
+    let mut warning_log = WarningLog {
         log,
         site: shared.settings.site,
     };
@@ -77,7 +77,7 @@ fn link_site<L: Log + Wait>(log: &L, shared: Shared<'_>, linker: Linker, hasher:
         shared.mailbox,
         hasher,
         &mut carrier,
-        &mut teller,
+        &mut warning_log,
     );
 }
 
@@ -86,7 +86,7 @@ fn run_writers<N, L>(
     net: &N,
     log: &L,
     shared: Shared<'_>,
-    doors: &PeerListener,
+    listener: &PeerListener,
     workers: Vec<Worker>,
     seed: u64,
 ) -> Result<(), ServeFault>
@@ -96,13 +96,16 @@ where
 {
     thread::scope(thread::scope_env(), log, move |scope| {
         let mut ended = Ok(());
-        for line in shared.lines {
-            if scope.spawn(move || write_line(log, shared, line)).is_err() {
+        for peer_link in shared.peer_links {
+            if scope
+                .spawn(move || write_link(log, shared, peer_link))
+                .is_err()
+            {
                 ended = Err(ServeFault::Device);
             }
         }
         if ended.is_ok() {
-            ended = run_dialers(net, log, shared, doors, workers, seed);
+            ended = run_dialers(net, log, shared, listener, workers, seed);
         }
         shared.halt_all(log);
         ended
@@ -115,7 +118,7 @@ fn run_dialers<N, L>(
     net: &N,
     log: &L,
     shared: Shared<'_>,
-    doors: &PeerListener,
+    listener: &PeerListener,
     workers: Vec<Worker>,
     seed: u64,
 ) -> Result<(), ServeFault>
@@ -125,10 +128,10 @@ where
 {
     thread::scope(thread::scope_env(), log, move |scope| {
         let mut ended = Ok(());
-        for line in shared.lines {
-            if is_dialled(shared.settings, &line.peer())
+        for peer_link in shared.peer_links {
+            if is_dialled(shared.settings, &peer_link.peer())
                 && scope
-                    .spawn(move || dial_line(net, log, shared, line))
+                    .spawn(move || dial_line(net, log, shared, peer_link))
                     .is_err()
             {
                 ended = Err(ServeFault::Device);
@@ -138,7 +141,7 @@ where
             ended = Err(ServeFault::Device);
         }
         if ended.is_ok() {
-            ended = run_acceptors(net, log, shared, doors, workers, seed);
+            ended = run_acceptors(net, log, shared, listener, workers, seed);
         }
         shared.halt_all(log);
         ended
@@ -160,7 +163,7 @@ fn run_acceptors<N, L>(
     net: &N,
     log: &L,
     shared: Shared<'_>,
-    doors: &PeerListener,
+    listener: &PeerListener,
     workers: Vec<Worker>,
     seed: u64,
 ) -> Result<(), ServeFault>
@@ -171,12 +174,12 @@ where
     thread::scope(thread::scope_env(), log, move |scope| {
         let mut ended = Ok(());
         for _ in 0..acceptors(shared.dialers.len()) {
-            doors.enter();
+            listener.enter();
             if scope
-                .spawn(move || accept_peers(log, shared, doors))
+                .spawn(move || accept_peers(log, shared, listener))
                 .is_err()
             {
-                doors.leave();
+                listener.leave();
                 ended = Err(ServeFault::Device);
             }
         }
@@ -185,7 +188,7 @@ where
             ended = run_workers(log, shared.alloc, workers, inboxes, seed);
         }
         shared.halt_all(log);
-        doors.wake(net, log, shared.settings.listen);
+        listener.wake(net, log, shared.settings.listen);
         ended
     })
 }

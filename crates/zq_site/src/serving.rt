@@ -5,7 +5,7 @@ ghost use Rattle.std.specs.Prelude.{◌≡◌};
 
 use crate::announcing::announce;
 use crate::halt::Halt;
-use crate::peer_links::{dialers_of, open_lines, peers_of};
+use crate::peer_links::{dialers_of, open_peer_links, peers_of};
 use crate::peer_listener::PeerListener;
 use crate::running::{Seeds, run_site};
 use crate::shared::Shared;
@@ -55,9 +55,9 @@ where
     W: Write,
 {
     let hasher = draw_hasher(log)?;
-    let doors = PeerListener::new(listen(net, settings.listen)?);
-    let crew = open_crew(net, alloc, settings, hasher)?;
-    let lines = open_lines(alloc, settings)?;
+    let listener = PeerListener::new(listen(net, settings.listen)?);
+    let threads = open_threads(net, alloc, settings, hasher)?;
+    let peer_links = open_peer_links(alloc, settings)?;
     let dialers = dialers_of(alloc, settings)?;
     let mailbox = open_mailbox(alloc, settings)?;
     announce(settings, out)?;
@@ -65,7 +65,7 @@ where
     let shared = Shared {
         alloc,
         settings,
-        lines: &lines,
+        peer_links: &peer_links,
         dialers: &dialers,
         mailbox: &mailbox,
         halt: &halt,
@@ -74,11 +74,11 @@ where
         hasher,
         draws: settings.seed.value(),
     };
-    run_site(net, log, shared, &doors, crew, seeds)
+    run_site(net, log, shared, &listener, threads, seeds)
 }
 
 /// Listens on the port of the site's clients, and gives what works for the site.
-fn open_crew<R: Net<Listener = TcpListener, Stream = TcpStream>>(
+fn open_threads<R: Net<Listener = TcpListener, Stream = TcpStream>>(
     net: &R,
     alloc: Global,
     settings: &SiteSettings,
@@ -86,10 +86,10 @@ fn open_crew<R: Net<Listener = TcpListener, Stream = TcpStream>>(
 ) -> Result<SiteThreads, ServeFault> {
     let plan = plan_of(settings);
     let address = clients_address(settings);
-    let mut crew = SiteThreads::new(alloc);
+    let mut threads = SiteThreads::new(alloc);
     let peers = peers_of(alloc, settings)?;
-    open_site(net, alloc, &plan, address, peers, hasher, &mut crew)?;
-    Ok(crew)
+    open_site(net, alloc, &plan, address, peers, hasher, &mut threads)?;
+    Ok(threads)
 }
 
 /// How the site is served.

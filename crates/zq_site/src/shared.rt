@@ -13,7 +13,7 @@ use zq_settings::SiteSettings;
 pub struct Shared<'a> {
     pub alloc: Global,
     pub settings: &'a SiteSettings,
-    pub lines: &'a [PeerLink],
+    pub peer_links: &'a [PeerLink],
     /// The peers that dial this site.
     pub dialers: &'a [SiteNo],
     /// Where frames wait for the link thread.
@@ -25,8 +25,8 @@ impl Shared<'_> {
     /// The site ends: who waits for a pause or a frame is woken, and all streams are shut down.
     pub fn halt_all<R: Wait>(&self, rt: &R) {
         self.halt.tell(rt);
-        for line in self.lines {
-            line.halt(rt);
+        for peer_link in self.peer_links {
+            peer_link.halt(rt);
         }
     }
 }

@@ -5,7 +5,7 @@ ghost use Rattle.zq_site.specs.Times as wanted;
 ghost use Rattle.zq_site.specs.Written.{IsWritten};
 
 use crate::loss::Loss;
-use crate::peer_link::{PeerLink, Turn};
+use crate::peer_link::{PeerLink, QueuedFrame};
 use crate::shared::Shared;
 use crate::times::most_frame;
 use crate::warning::Warning;
@@ -19,25 +19,30 @@ use zq_wire::write_framed;
 
 /// Sends a peer the frames that wait for it, until the site ends. Where a write fails the link is
 /// down. A frame for which there was no memory is dropped.
-pub fn write_line<L: Log + Wait>(log: &L, shared: Shared<'_>, line: &PeerLink) {
+pub fn write_link<L: Log + Wait>(log: &L, shared: Shared<'_>, peer_link: &PeerLink) {
     for _ in log.forever() {
-        let Some(turn) = line.next(log) else {
+        let Some(queued) = peer_link.next(log) else {
             break;
         };
-        write_turn(log, shared, line, &turn);
+        write_queued(log, shared, peer_link, &queued);
     }
 }
 
 /// Sends a frame over its link.
-fn write_turn<L: Log + Wait>(log: &L, shared: Shared<'_>, line: &PeerLink, turn: &Turn) {
-    let (site, peer) = (shared.settings.site, line.peer().site);
-    if is_too_long(&turn.frame) {
+fn write_queued<L: Log + Wait>(
+    log: &L,
+    shared: Shared<'_>,
+    peer_link: &PeerLink,
+    queued: &QueuedFrame,
+) {
+    let (site, peer) = (shared.settings.site, peer_link.peer().site);
+    if is_too_long(&queued.frame) {
         warn_of(log, site, Warning::Keeps(peer));
         return;
     }
-    let mut stream: &TcpStream = &turn.stream;
-    let written = write_frame(shared.alloc, &mut stream, &turn.frame);
-    if written == Written::Broken && line.lower(log, turn.number) {
+    let mut stream: &TcpStream = &queued.stream;
+    let written = send_frame(shared.alloc, &mut stream, &queued.frame);
+    if written == Written::Broken && peer_link.lower(log, queued.number) {
         warn_of(log, site, Warning::Loses(peer, Loss::Broken));
     }
 }
@@ -61,7 +66,7 @@ enum Written {
 }
 
 /// Writes a frame behind its length.
-fn write_frame<W: Write>(alloc: Global, writer: &mut W, frame: &[u8]) -> Written
+fn send_frame<W: Write>(alloc: Global, writer: &mut W, frame: &[u8]) -> Written
     requires { length frame.now < 2 ^ 32 }
     ensures { IsWritten (W.contents writer.old) (W.contents writer.new) frame.now result }
 {

@@ -100,7 +100,7 @@ fn hear_peer<R: Read, W: Write>(
             Ok(opening) => opening,
             Err(refusal) => return Err(Unopened::Refused(refusal)),
         };
-        owed = pay(writer, owed, answer_of(&opening))?;
+        owed = write_owed(writer, owed, answer_of(&opening))?;
         if let Opening::Welcome { peer, used, .. } = opening {
             return open(alloc, peer, &heard, used);
         }
@@ -136,7 +136,11 @@ fn answer_of(opening: &Opening) -> Option<[u8; 32]>
 }
 
 /// Writes the answer where it is still owed, and says whether it is owed any longer.
-fn pay<W: Write>(writer: &mut W, owed: bool, answer: Option<[u8; 32]>) -> Result<bool, Unopened>
+fn write_owed<W: Write>(
+    writer: &mut W,
+    owed: bool,
+    answer: Option<[u8; 32]>,
+) -> Result<bool, Unopened>
     ensures paid { IfOk result
         (λ owes. Pays owed owes (W.contents writer.old) (W.contents writer.new) answer) }
     ensures lost { (why : Unopened) → result ≡ Err why → why ≡ Unopened.Lost }

@@ -6,7 +6,7 @@ use std::alloc::Global;
 use std::io;
 use std::io::{ErrorKind, Read, Write};
 use zq_resp::{Reply, Request};
-use zq_session::{Answers, End, Ends, SessionFault, converse, session, status};
+use zq_session::{Answers, End, Ends, SessionFault, session, session_over, status};
 
 // Answers PONG to every request.
 #[derive(Drop)]
@@ -275,7 +275,7 @@ fn replies_are_written_before_the_next_read(rt: HostRuntime) {
         asked: 0,
     };
     let mut note = Vec::new(rt.alloc());
-    let end = converse(rt.alloc(), &mut Pong, &Desk, &mut script, &mut note);
+    let end = session_over(rt.alloc(), &mut Pong, &Desk, &mut script, &mut note);
     assert_eq!(rt; end, Ok(End::Clean));
     assert_eq!(rt;
         note.as_slice(),

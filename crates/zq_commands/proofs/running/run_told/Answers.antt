@@ -6,19 +6,19 @@ use Rattle.zq_words.specs.Shown.{shown}
 use Rattle.zq_commands.proofs.running.run_told.Goals as goal
 
 pub run_kind-requires-clause-lent : goal.run_kind-requires-clause-lent
-run_kind-requires-clause-lent g c = subst IsLending (sym c.foresee.ensures.same) c.requires.lent
+run_kind-requires-clause-lent g c = subst IsLending (sym c.make_index.ensures.same) c.requires.lent
 
 pub run_kind-requires-clause-dated : goal.run_kind-requires-clause-dated
-run_kind-requires-clause-dated g c = subst (IsDated c.args.stamp) (sym c.foresee.ensures.same) c.requires.dated
+run_kind-requires-clause-dated g c = subst (IsDated c.args.stamp) (sym c.make_index.ensures.same) c.requires.dated
 
 pub run_kind-requires-clause-homes : goal.run_kind-requires-clause-homes
 run_kind-requires-clause-homes g c =
-    subst (HasBooks (shown c.kind-kind.result.now)) (sym c.foresee.ensures.same)
+    subst (HasBooks (shown c.kind-kind.result.now)) (sym c.make_index.ensures.same)
     (subst (λ command. HasBooks command (g.B.Books.lent c.args.books.now)) (sym c.kind-kind.ensures.kind) c.requires.homes)
 
 pub returns-clause-ran : goal.returns-clause-ran
 returns-clause-ran g c =
-    ran_foreseen c.args.site c.args.stamp _ _ _ _ _ _ _ c.kind-kind.ensures.kind c.foresee.ensures.same c.run_kind.ensures.ran
+    ran_foreseen c.args.site c.args.stamp _ _ _ _ _ _ _ c.kind-kind.ensures.kind c.make_index.ensures.same c.run_kind.ensures.ran
 
 pub returns-clause-keeps : goal.returns-clause-keeps
-returns-clause-keeps g c = g.met.B.Books.keeps_through _ _ _ c.foresee.ensures.keeps c.run_kind.ensures.keeps
+returns-clause-keeps g c = g.met.B.Books.keeps_through _ _ _ c.make_index.ensures.keeps c.run_kind.ensures.keeps

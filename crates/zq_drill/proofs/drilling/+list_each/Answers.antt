@@ -9,5 +9,5 @@ returns g t c =
     let list = map listed c.in_ok-list.list.items in (
       list ∷ rest.0,
       appended (lists_of c.args.lists.now.items) (lists_of c.append.new.lists.items) (lists_of c.list_each.new.lists.items) list rest.0 c.in_ok-append.ensures rest.1,
-      listed_next c.in-Some.post.now c.in-Some.others.now c.args.posts.now list rest.0 c.list_all.new.post.pass c.in-Some.ensures.cases c.in_ok-list.ensures.listed rest.2,
+      listed_next c.in-Some.handle.now c.in-Some.others.now c.args.handles.now list rest.0 c.list_all.new.handle.pass c.in-Some.ensures.cases c.in_ok-list.ensures.listed rest.2,
     )

@@ -3,19 +3,19 @@ use Rattle.zq_drill.proofs.AllListed.{listed_number, lists_number, places_number
 use Rattle.zq_drill.proofs.drilling.finish.Goals as goal
 use Rattle.zq_drill.specs.Listed.{AreListed}
 use Rattle.zq_drill.specs.Lists.{lists_of}
-use Rattle.zq_drill.specs.Posts.{places_of}
+use Rattle.zq_drill.specs.SiteHandles.{places_of}
 use Rattle.zq_model.specs.Meaning.{Scored}
 
 pub write_report-requires : goal.write_report-requires
 write_report-requires g c =
-    let all = subst (λ (ls : List (List Scored)). AreListed (places_of c.args.posts.now) ls) (sym (ap lists_of c.deref.ensures.value)) c.in_ok-lists.ensures in
-    let number = listed_number (places_of c.args.posts.now) (lists_of c.deref.result.now) all in
-    omega (arith, number, lists_number c.deref.result.now, places_number c.args.posts.now, c.requires)
+    let all = subst (λ (ls : List (List Scored)). AreListed (places_of c.args.handles.now) ls) (sym (ap lists_of c.deref.ensures.value)) c.in_ok-lists.ensures in
+    let number = listed_number (places_of c.args.handles.now) (lists_of c.deref.result.now) all in
+    omega (arith, number, lists_number c.deref.result.now, places_number c.args.handles.now, c.requires)
 
 pub returns : goal.returns
 returns g c =
     let lists = lists_of c.deref.result.now in
-    let all = subst (λ (ls : List (List Scored)). AreListed (places_of c.args.posts.now) ls) (sym (ap lists_of c.deref.ensures.value)) c.in_ok-lists.ensures in (
+    let all = subst (λ (ls : List (List Scored)). AreListed (places_of c.args.handles.now) ls) (sym (ap lists_of c.deref.ensures.value)) c.in_ok-lists.ensures in (
       lists,
       all,
       c.in_ok-equal.ensures.equal,

@@ -1,9 +1,9 @@
 use Rattle.std.proofs.Common.{arith, subst, ◌≡◌, ◌∙◌}
 use Rattle.zq_drill.proofs.Nexts.{handed_next}
-use Rattle.zq_drill.proofs.Stations.{same_site}
+use Rattle.zq_drill.proofs.SiteShares.{same_site}
 use Rattle.zq_drill.proofs.exchange.hand_all.Goals as goal
 use Rattle.zq_drill.specs.Meetings.{AreHandedOver, IsHandedOver}
-use Rattle.zq_drill.specs.Posts.{site_of}
+use Rattle.zq_drill.specs.SiteHandles.{site_of}
 
 pub loop-heap-preserved : goal.loop-heap-preserved
 loop-heap-preserved g c =

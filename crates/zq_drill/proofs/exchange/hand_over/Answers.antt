@@ -1,6 +1,6 @@
 use Rattle.std.proofs.Common.{subst}
 use Rattle.zq_drill.proofs.exchange.hand_over.Goals as goal
-use Rattle.zq_drill.specs.Posts.{site_of}
+use Rattle.zq_drill.specs.SiteHandles.{site_of}
 use Rattle.zq_node.specs.Calls.{IsCalled, Merged}
 
 pub returns-clause-handed : goal.returns-clause-handed

@@ -7,7 +7,7 @@ use Rattle.zq_spread.specs.declared.site.Site.{Site}
 pub loop-number-preserved : goal.loop-number-preserved
 loop-number-preserved c =
     let seated = c.in_ok-seat.ensures in
-    let site = (arc_value c.in_ok-station.station).site in
+    let site = (arc_value c.in_ok-drill_site.drill_site).site in
     let same = of_site c.in_ok-three.three.items site seated.0 c.in_ok-three.ensures.site seated.1 in
-    let number = ap (λ (s : Site). s.number) same ∙ (c.in_ok-station.ensures.number ∙ c.site_at.ensures) in
-    one_more c.loop-number.number c.loop-number.posts.last.items c.seat.new.posts.last.items seated.0 c.loop-number.invariant seated.2 number
+    let number = ap (λ (s : Site). s.number) same ∙ (c.in_ok-drill_site.ensures.number ∙ c.site_at.ensures) in
+    one_more c.loop-number.number c.loop-number.handles.last.items c.append_handles.new.handles.last.items seated.0 c.loop-number.invariant seated.2 number

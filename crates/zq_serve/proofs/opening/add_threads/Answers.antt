@@ -5,8 +5,8 @@ use Rattle.std.specs.Prelude.{IfSome}
 use Rattle.zq_serve.proofs.opening.add_threads.Goals as goal
 use Rattle.zq_spread.specs.Passes.{IsPassOf}
 
-pub hire_linker-requires : goal.hire_linker-requires
-hire_linker-requires c =
+pub add_linker-requires : goal.add_linker-requires
+add_linker-requires c =
     let site = (arc_value c.args.server.now).site in
     let all = All-pop (IsPassOf site) c.args.passes.items c.pop.new.self.items c.pop.result c.pop.ensures.items c.requires.passes in
     subst (λ r. IfSome r (IsPassOf site)) c.in-Some.is all.1

@@ -2,7 +2,7 @@ use Rattle.std.proofs.Common.{All, rules, subst, ◌∷◌, ◌≡◌}
 use Rattle.std.proofs.lemmas.List.Elements.{All-head, All-tail}
 use Rattle.std.specs.Arc.{arc_value}
 use Rattle.std.specs.Vec.Iter.{into_iter_items}
-use Rattle.zq_serve.proofs.Crews.{AreComing, one_more}
+use Rattle.zq_serve.proofs.ThreadLists.{AreComing, one_more}
 use Rattle.zq_serve.proofs.opening.add_workers.Goals as goal
 use Rattle.zq_spread.specs.Passes.{IsPassOf}
 

@@ -1,7 +1,7 @@
 use Rattle.std.proofs.Common.{All, length, ◌≡◌}
 use Rattle.std.specs.Arc.{arc_value}
 use Rattle.std.specs.Vec.Iter.{into_iter_items, into_iter_len}
-use Rattle.zq_serve.proofs.Crews.{AreComing}
+use Rattle.zq_serve.proofs.ThreadLists.{AreComing}
 use Rattle.zq_serve.proofs.opening.add_workers.Given as goal
 use Rattle.zq_spread.specs.Passes.{IsPassOf}
 

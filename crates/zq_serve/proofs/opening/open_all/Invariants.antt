@@ -1,12 +1,12 @@
 use Rattle.std.proofs.Common.{length, ◌+◌, ◌≡◌, ◌≤◌}
 use Rattle.zq_serve.proofs.opening.open_all.Given as goal
-use Rattle.zq_serve.specs.Crews.{links_before, links_of, posts_before, posts_of}
+use Rattle.zq_serve.specs.SiteThreads.{links_before, links_of, served_before, served_by}
 
 abbrev pub invariant-loop-port : goal.invariant-loop-port
 invariant-loop-port g l =
     (l.place + length l.rest ≡ l.sites) × (l.sites ≤ 64)
-    × (posts_of l.crew.workers.items ≡ posts_before l.settings l.place)
-    × (links_of l.crew.linkers.items ≡ links_before l.settings l.sites l.place)
+    × (served_by l.threads.workers.items ≡ served_before l.settings l.place)
+    × (links_of l.threads.linkers.items ≡ links_before l.settings l.sites l.place)
 
 abbrev pub decreases-loop-port : goal.decreases-loop-port
 decreases-loop-port g l = length l.rest

@@ -13,7 +13,7 @@ returns-in-Welcome g c =
     subst (Consumes (g.R.Read.remaining c.args.reader.now) (g.R.Read.remaining c.read_some.new.reader)) (sym more)
     (consumes_join _ (g.R.Read.remaining c.loop.reader) _ c.loop.heard.items piece c.loop.invariant.read read) in
     let settled =
-    heard_on c.args.side.now held (g.W.Write.contents c.loop.writer) (g.W.Write.contents c.pay.new.writer) c.loop.heard.items piece c.read_some.new.heard.items c.deref.result.now
+    heard_on c.args.side.now held (g.W.Write.contents c.loop.writer) (g.W.Write.contents c.write_owed.new.writer) c.loop.heard.items piece c.read_some.new.heard.items c.deref.result.now
     c.loop.owed c.in_ok-owed.owed c.hear_opening.result c.in-Ok.opening c.answer_of.result c.loop.invariant.owed more c.deref.ensures.value c.hear_opening.ensures c.in-Ok.is
     c.answer_of.ensures c.in_ok-owed.ensures.paid in
     welcomed c.args.side.now _ _ held _ c.read_some.new.heard.items c.deref-in-Welcome.result.now c.in_ok-owed.owed c.in-Ok.opening c.in-Welcome.peer c.in-Welcome.answer c.in-Welcome.used
@@ -29,8 +29,8 @@ loop-preserved g c =
           subst (Consumes (g.R.Read.remaining c.args.reader.now) (g.R.Read.remaining c.read_some.new.reader)) (sym more)
           (consumes_join _ (g.R.Read.remaining c.loop.reader) _ c.loop.heard.items piece c.loop.invariant.read read);
       owed =
-          still_owed c.args.side.now held (g.W.Write.contents c.pay.new.writer) c.read_some.new.heard.items c.in_ok-owed.owed c.in-Ok.opening c.in_default.not-Welcome
-          (heard_on c.args.side.now held (g.W.Write.contents c.loop.writer) (g.W.Write.contents c.pay.new.writer) c.loop.heard.items piece c.read_some.new.heard.items
+          still_owed c.args.side.now held (g.W.Write.contents c.write_owed.new.writer) c.read_some.new.heard.items c.in_ok-owed.owed c.in-Ok.opening c.in_default.not-Welcome
+          (heard_on c.args.side.now held (g.W.Write.contents c.loop.writer) (g.W.Write.contents c.write_owed.new.writer) c.loop.heard.items piece c.read_some.new.heard.items
           c.deref.result.now c.loop.owed c.in_ok-owed.owed c.hear_opening.result c.in-Ok.opening c.answer_of.result c.loop.invariant.owed more c.deref.ensures.value
           c.hear_opening.ensures c.in-Ok.is c.answer_of.ensures c.in_ok-owed.ensures.paid);
     }

@@ -4,7 +4,7 @@ use Rattle.std.specs.Int.{w128, w64}
 use mir.Val.{SFits, of_z, to_z}
 use Rattle.zq_model.specs.Rows.{OfSite}
 use Rattle.zq_model.specs.Score.{value_of}
-use Rattle.zq_entry.specs.Held.{listed}
+use Rattle.zq_entry.specs.Storage.{listed}
 use Rattle.zq_entry.specs.Placed.{addition_of_put}
 use Rattle.zq_entry.proofs.SumLemmas.{value-put}
 use Rattle.zq_entry.proofs.additions.Additions.value_at.Goals as goal

@@ -1,0 +1,49 @@
+//! What is told of answers.
+
+ghost use Rattle.std.specs.Prelude.{option_copied, ◌≡◌};
+
+use std::snapshot::Snapshot;
+use std::sync::Wait;
+use zq_peers::Mailbox;
+use zq_resp::Reply;
+
+/// What is told of answers.
+pub trait Notifier {
+    ghost use Rattle.zq_resp.specs.declared.reply.Reply.{Reply as Answer};
+
+    /// What stands before, the answer, and what stands after.
+    ghost tells: { Self → Answer → Self → Type 0 };
+
+    /// An answer was made. Only proofs see it, so that it was made before, and all answers are told
+    /// of alike.
+    fn tell(&mut self, answer: Snapshot<Reply>)
+        ensures { tells self.old answer.value self.new };
+}
+
+/// Tells the link thread of a site, by a Tick in its mailbox, where there is one.
+#[derive(Drop)]
+pub struct Ticks<'a, R: Wait> {
+    rt: &'a R,
+    mailbox: Option<&'a Mailbox>,
+}
+
+impl<'a, R: Wait> Ticks<'a, R> {
+    /// To this mailbox.
+    pub fn new(rt: &'a R, mailbox: Option<&'a Mailbox>) -> Ticks<'a, R>
+        ensures { option_copied result.mailbox ≡ option_copied mailbox.entry }
+    {
+        Ticks { rt, mailbox }
+    }
+}
+
+impl<R: Wait> Notifier for Ticks<'_, R> {
+    ghost use Rattle.std.specs.Prelude.{option_copied, ◌≡◌};
+
+    ghost tells = { λ old answer new. option_copied new.mailbox ≡ option_copied old.mailbox };
+
+    fn tell(&mut self, _answer: Snapshot<Reply>) {
+        if let Some(mailbox) = self.mailbox {
+            mailbox.tick(self.rt);
+        }
+    }
+}
