@@ -13,13 +13,13 @@ write_keys-requires c =
 
 pub returns-clause-written : goal.returns-clause-written
 returns-clause-written c =
-    written_whole c.args.shard.now (map lent_row c.deref.result.now) c.new-out.result.items c.write_fields.new.out.items c.write_keys.new.out.items c.new-out.ensures.items (ap (map lent_row) c.deref.ensures.value ∙ c.in_ok-rows.ensures.rows) c.in_ok-write_frame.ensures c.in_ok-write_keys.ensures
+    written_whole c.args.shard.now (map lent_row c.deref.result.now) c.new-out.result.items c.write_fields.new.out.items c.write_keys.new.out.items c.new-out.ensures.items (ap (map lent_row) c.deref.ensures.value ∙ c.in_ok-rows.ensures.rows) c.in_ok-write_fields.ensures c.in_ok-write_keys.ensures
 
 pub returns-clause-again : goal.returns-clause-again
 returns-clause-again c =
     let s = c.args.shard.now in
     let items = c.in_ok-rows.rows.items in
-    let written : c.write_keys.new.out.items ≡ state_spelling Three s = written_whole s (map lent_row c.deref.result.now) c.new-out.result.items c.write_fields.new.out.items c.write_keys.new.out.items c.new-out.ensures.items (ap (map lent_row) c.deref.ensures.value ∙ c.in_ok-rows.ensures.rows) c.in_ok-write_frame.ensures c.in_ok-write_keys.ensures in
+    let written : c.write_keys.new.out.items ≡ state_spelling Three s = written_whole s (map lent_row c.deref.result.now) c.new-out.result.items c.write_fields.new.out.items c.write_keys.new.out.items c.new-out.ensures.items (ap (map lent_row) c.deref.ensures.value ∙ c.in_ok-rows.ensures.rows) c.in_ok-write_fields.ensures c.in_ok-write_keys.ensures in
     let size : length items < 2 ^ 64 = search rules in
     let same = ap length c.in_ok-rows.ensures.rows in
     let made = length-map items lent_row in
