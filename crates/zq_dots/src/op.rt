@@ -62,8 +62,6 @@ impl Op {
             ≡ record { heap = heap; site = dot.site; n = dot.n; seen = seen; key = key.items; member = member.items; act = act_of act } }
         ensures sound { IsRanged result }
     {
-        let _site = dot.site.value();
-        let _counter = seen.get(dot.site);
         Op {
             heap,
             heaps,
@@ -71,7 +69,7 @@ impl Op {
             seen,
             key,
             member,
-            act: act.ranged(),
+            act,
         }
     }
 

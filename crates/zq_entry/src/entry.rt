@@ -114,9 +114,8 @@ impl Entry {
         Ok(())
     }
 
-    /// Takes a Drop: the additions that it had seen go, and no others.
-    pub fn drop_seen(&mut self, seen: &Vector)
-        // The dot of the Drop says nothing.
+    /// Takes a Drop: the additions that it had seen go, and no others. Its dot adds none.
+    pub fn drop_seen(&mut self, _dot: Dot, seen: &Vector)
         ensures { (site n : ℕ) → self.new ≡ model.entry_after ActDrop site n seen.now self.old }
     {
         self.additions.drop_seen(seen);

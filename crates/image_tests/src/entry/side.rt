@@ -86,7 +86,7 @@ impl Side {
 
     fn drop_seen(&mut self, site: SiteNo) -> Option<()> {
         let dot = next(&self.seen, site)?;
-        self.entry.drop_seen(&self.seen);
+        self.entry.drop_seen(dot, &self.seen);
         self.seen.set(site, dot.n);
         Some(())
     }
