@@ -9,6 +9,10 @@ use Rattle.indexmap.specs.IndexMap.{IndexMap, IsUnique, Updates, set_value_at, w
 use Rattle.zq_posheap.proofs.Entries.{has_text, none_of, same_key_laws}
 use Rattle.zq_posheap.specs.Order.{same_key}
 
+-- what stands at an index, by the name under which it is lent on
+pub lent_at : {X : Type 0} (pairs : List (List ℕ × X)) (i : ℕ) (k : List ℕ) {x y : X} → slice_get pairs i ≡ Some (k, x) → y ≡ x → slice_get pairs i ≡ Some (k, y)
+lent_at pairs i k at same = at ∙ ap (λ z. Some (k, z)) (sym same)
+
 -- what stands at an index, written there, changes nothing
 pub rewritten_at : {X : Type 0} (pairs : List (List ℕ × X)) (i : ℕ) (k : List ℕ) (x : X) → slice_get pairs i ≡ Some (k, x) → set_value_at pairs i x ≡ pairs
 rewritten_at [] i k x at = refl

@@ -14,7 +14,7 @@ use Rattle.zq_posheap.proofs.Entries.{has_text}
 use Rattle.zq_posheap.specs.Order.{same_key}
 use Rattle.zq_queue.specs.Entries.{Entries, bytes_cmp}
 use Rattle.zq_queue.specs.Queued.{Queued}
-use Rattle.zq_shard.proofs.ByBytes.{found, others_twice, updated}
+use Rattle.zq_shard.proofs.ByBytes.{found, updated}
 use Rattle.zq_shard.specs.Queues.{AreQueues, HasAt, entries_in, entries_or_none, unless_empty}
 
 -- ---- a queue with members, or without
@@ -78,10 +78,15 @@ written_at k queue after old new is others same full =
     updated k (unless_empty after) old new (is ∙ sym (unless_some queue full) ∙ ap unless_empty same) others
 
 -- the key's queue was written, has no members, and was taken out
-pub removed_at : (k : List ℕ) (queue after : Queued) (old mid new : List (List ℕ × Queued)) → lookup (has_text k) new ≡ None → KeepsOthers same_key (has_text k) old mid →
-    KeepsOthers same_key (has_text k) mid new → queue ≡ after → queue.entries ≡ empty → HasAt k (unless_empty after) old new
-removed_at k queue after old mid new is first second same none =
-    updated k (unless_empty after) old new (is ∙ sym (unless_none queue none) ∙ ap unless_empty same) (others_twice k old mid new first second)
+pub removed_at : (k : List ℕ) (queue after : Queued) (old mid new : List (List ℕ × Queued)) → KeepsOthers same_key (has_text k) old mid → HasAt k None mid new →
+    queue ≡ after → queue.entries ≡ empty → HasAt k (unless_empty after) old new
+removed_at k queue after old mid new written gone same none q =
+    elim (eq_by_cmp bytes_cmp q k) as (λ b. eq_by_cmp bytes_cmp q k ≡ b → find bytes_cmp q new ≡ cond b (unless_empty after) (find bytes_cmp q old)) [
+      | true ↦ λ here. gone q ∙ ap (λ b. cond b None (find bytes_cmp q mid)) here ∙ sym (unless_none queue none) ∙ ap unless_empty same
+      | false ↦ λ away.
+          gone q ∙ ap (λ b. cond b None (find bytes_cmp q mid)) away
+          ∙ updated k (lookup (has_text k) mid) old mid refl written q ∙ ap (λ b. cond b (lookup (has_text k) mid) (find bytes_cmp q old)) away
+    ] refl
 
 -- a change at a key leaves queues of the rule, none of them empty
 pub kept_at : (rule : Rule) (k : List ℕ) (queue : Queued) (old new : List (List ℕ × Queued)) → AreQueues rule old → HasAt k (unless_empty queue) old new → queue.rule ≡ rule → AreQueues rule new

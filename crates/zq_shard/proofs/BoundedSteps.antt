@@ -1,17 +1,17 @@
 -- What a heap's bounds say of an operation that is new to it, and what keeps them.
 
-use Rattle.std.proofs.Common.{List, arith, subst, sym, true, ℕ, ◌∙◌, ◌+◌, ◌<◌, ◌≡◌}
+use Rattle.std.proofs.Common.{List, arith, length, subst, sym, true, ℕ, ◌∙◌, ◌+◌, ◌<◌, ◌≡◌, ◌≤◌}
 use Rattle.std.proofs.lemmas.Bool.Decides.{nat_tests}
 use Rattle.std.specs.Prelude.{slice_index, ◌*◌, ◌-◌}
-use Rattle.zq_dots.specs.Placed.{IsRanged, Placed}
+use Rattle.zq_dots.specs.Placed.{IsRanged, LONGEST, Placed}
 use Rattle.zq_entry.specs.Within.{AreSumsWithin}
 use Rattle.zq_model.proofs.BoundedImages.{bounded_step}
 use Rattle.zq_model.proofs.Bounds.{within_more}
 use Rattle.zq_model.proofs.Taken.{covers_from, taken_from, taken_new}
 use Rattle.zq_model.specs.Bounded.{IsBounded}
 use Rattle.zq_model.specs.Image.{entry_at, image_after, place_of}
-use Rattle.zq_model.specs.Operation.{MOST, Operation}
-use Rattle.zq_model.specs.Sets.{IsHeaps, IsOperation, New, covers, taken_of}
+use Rattle.zq_model.specs.Operation.{IsAct, MOST, Operation}
+use Rattle.zq_model.specs.Sets.{IsCounters, IsHeaps, IsOperation, LAST, New, SITES, covers, taken_of}
 use Rattle.zq_shard.specs.Shard.{HeapImage, IsHeapImage, IsOfHeap}
 
 -- an operation of this heap
@@ -24,6 +24,22 @@ is_operation s p sound here = record {
   seen = sound.seen;
   next = sound.next;
   bounded = sound.bounded;
+}
+
+-- an operation of this heap whose parts are in range
+pub is_ranged : (s : HeapImage) (p : Placed) → IsHeapImage s → IsOfHeap s p → p.operation.site < SITES → IsCounters p.operation.seen →
+    p.operation.n ≡ slice_index p.operation.seen p.operation.site + 1 → p.operation.n ≤ LAST → length p.operation.key ≤ LONGEST →
+    length p.operation.member ≤ LONGEST → IsAct p.operation.act → IsRanged p
+is_ranged s p is here site seen next bounded key member act = record {
+  heaps = subst IsHeaps (sym here.heaps) is.heaps;
+  heap = subst (λ h. h < p.heaps) (sym here.heap) (subst (λ count. s.heap < count) (sym here.heaps) is.heap);
+  site = site;
+  seen = seen;
+  next = next;
+  bounded = bounded;
+  key = key;
+  member = member;
+  act = act;
 }
 
 -- what is new keeps the bounds

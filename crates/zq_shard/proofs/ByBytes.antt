@@ -35,12 +35,6 @@ updated k w old new is others q =
       | false ↦ λ e. found new q ∙ others (has_text q) (is_test q) (apart k q e) ∙ sym (found old q)
     ] refl
 
--- two changes at a key
-pub others_twice : {X : Type 0} (k : List ℕ) (a b c : List (List ℕ × X)) → KeepsOthers same_key (has_text k) a b → KeepsOthers same_key (has_text k) b c →
-    KeepsOthers same_key (has_text k) a c
-unfolding KeepsOthers
-others_twice k a b c first second other is_query away = second other is_query away ∙ first other is_query away
-
 -- no change
 pub others_same : {X : Type 0} (k : List ℕ) (pairs : List (List ℕ × X)) → KeepsOthers same_key (has_text k) pairs pairs
 unfolding KeepsOthers

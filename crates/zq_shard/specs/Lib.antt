@@ -3,3 +3,4 @@ pub mod Shard
 pub mod ShardView
 pub mod Taken
 pub mod Listed
+pub mod Lending

@@ -4,6 +4,7 @@ ghost use Rattle.std.specs.FinMap as map;
 ghost use Rattle.zq_queue.specs.Entries.{bytes_cmp, joined_entries};
 ghost use Rattle.zq_shard.specs.Queues.{AreQueues, HasAt, and_then, entries_in, members_joined, queue_joined, unless_empty};
 
+use crate::boxed_queue::BoxedQueue;
 use crate::queues::{Queues, add};
 use indexmap::IndexMap;
 use std::alloc::{AllocError, Global};
@@ -59,12 +60,12 @@ impl Queues {
 /// Adds the join at each key of this side.
 fn join_mine(
     alloc: Global,
-    merged: &mut IndexMap<Name, Queue, Seeded>,
+    merged: &mut IndexMap<Name, BoxedQueue, Seeded>,
     none: &Queue,
     mine: &Vector,
-    my_queues: &IndexMap<Name, Queue, Seeded>,
+    my_queues: &IndexMap<Name, BoxedQueue, Seeded>,
     theirs: &Vector,
-    their_queues: &IndexMap<Name, Queue, Seeded>,
+    their_queues: &IndexMap<Name, BoxedQueue, Seeded>,
 ) -> Result<(), AllocError>
     requires empty { merged.old.entries ≡ [] }
     requires nothing { none.now.entries ≡ map.empty }
@@ -77,7 +78,15 @@ fn join_mine(
 {
     for (key, queue) in my_queues {
         let other = queue_or(their_queues, key.as_slice(), none);
-        join_at(merged, alloc, key.as_slice(), mine, queue, theirs, other)?;
+        join_at(
+            merged,
+            alloc,
+            key.as_slice(),
+            mine,
+            queue.get(),
+            theirs,
+            other,
+        )?;
     }
     Ok(())
 }
@@ -85,12 +94,12 @@ fn join_mine(
 /// Adds the join at each key that the other side alone has.
 fn join_theirs(
     alloc: Global,
-    merged: &mut IndexMap<Name, Queue, Seeded>,
+    merged: &mut IndexMap<Name, BoxedQueue, Seeded>,
     none: &Queue,
     mine: &Vector,
-    my_queues: &IndexMap<Name, Queue, Seeded>,
+    my_queues: &IndexMap<Name, BoxedQueue, Seeded>,
     theirs: &Vector,
-    their_queues: &IndexMap<Name, Queue, Seeded>,
+    their_queues: &IndexMap<Name, BoxedQueue, Seeded>,
 ) -> Result<(), AllocError>
     requires nothing { none.now.entries ≡ map.empty }
     requires their_kept { AreQueues none.now.rule their_queues.now.entries }
@@ -105,28 +114,40 @@ fn join_theirs(
 {
     for (key, queue) in their_queues {
         if !my_queues.contains_key(key) {
-            join_at(merged, alloc, key.as_slice(), mine, none, theirs, queue)?;
+            join_at(
+                merged,
+                alloc,
+                key.as_slice(),
+                mine,
+                none,
+                theirs,
+                queue.get(),
+            )?;
         }
     }
     Ok(())
 }
 
 /// The queue of a key, and `none` where the key is not there.
-fn queue_or<'a>(queues: &'a IndexMap<Name, Queue, Seeded>, key: &[u8], none: &'a Queue) -> &'a Queue
+fn queue_or<'a>(
+    queues: &'a IndexMap<Name, BoxedQueue, Seeded>,
+    key: &[u8],
+    none: &'a Queue,
+) -> &'a Queue
     requires nothing { none.now.entries ≡ map.empty }
     requires kept { AreQueues none.now.rule queues.now.entries }
     ensures rule { result.now.rule ≡ none.now.rule }
     ensures entries { result.now.entries ≡ entries_in queues.now.entries key.now }
 {
     match queues.get(NameRef(key)) {
-        Some(queue) => queue,
+        Some(queue) => queue.get(),
         None => none,
     }
 }
 
 /// Adds a key that is not there with the join of two queues, unless that has no members.
 fn join_at(
-    merged: &mut IndexMap<Name, Queue, Seeded>,
+    merged: &mut IndexMap<Name, BoxedQueue, Seeded>,
     alloc: Global,
     key: &[u8],
     mine: &Vector,

@@ -10,6 +10,7 @@ ghost use Rattle.zq_queue.specs.Entries.{bytes_cmp};
 ghost use Rattle.zq_shard.specs.Listed.{block, lent_key, lent_row};
 ghost use Rattle.zq_shard.specs.Queues.{entries_at};
 
+use crate::boxed_queue::BoxedQueue;
 use crate::queues::Queues;
 use crate::row::RowRef;
 use indexmap::IndexMap;
@@ -52,7 +53,7 @@ impl Queues {
 /// The keys, by their bytes.
 fn keys_in_order<'a>(
     alloc: Global,
-    queues: &'a IndexMap<Name, Queue, Seeded>,
+    queues: &'a IndexMap<Name, BoxedQueue, Seeded>,
 ) -> Result<Vec<&'a [u8]>, AllocError>
     ensures rising { IfOk result (λ keys. IsStrictlySortedBy bytes_cmp (map lent_key keys.items)) }
     ensures all { IfOk result (λ keys. (q : List ℕ) →
@@ -67,7 +68,7 @@ fn keys_in_order<'a>(
 /// The keys, in the map's order.
 fn keys_in_any_order<'a>(
     alloc: Global,
-    queues: &'a IndexMap<Name, Queue, Seeded>,
+    queues: &'a IndexMap<Name, BoxedQueue, Seeded>,
 ) -> Result<Vec<&'a [u8]>, AllocError>
     ensures keys { IfOk result (λ keys. map lent_key keys.items
         ≡ map (λ e. e.0) queues.now.entries) }

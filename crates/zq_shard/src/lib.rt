@@ -2,6 +2,7 @@
 //! operations, by taking those of others and by merging what others have.
 #![tactic(auto)]
 
+mod boxed_queue;
 mod faults;
 mod joins;
 mod lending;

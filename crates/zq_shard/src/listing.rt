@@ -79,9 +79,7 @@ impl Shard {
             (before ++ row_of ((key.now, member.now), entry) ∷ [])) }
         ensures refused { OnErr result (self.new ≡ self.old) }
     {
-        // The bounds that the members keep.
-        let _vector = self.vector();
-        self.put_back(alloc, key, member, Some(entry))
+        self.queues.put_back(alloc, key, member, Some(entry))
     }
 
     /// The heap of this vector and copies of these rows, by key and then by member, which keep the

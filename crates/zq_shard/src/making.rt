@@ -62,7 +62,6 @@ impl Shard {
             length member ≤ LONGEST → IsAct act →
             IsRanged (next_operation self.now site key member act)) }
     {
-        let _number = site.value();
         Ok(self.vector.next(site)?)
     }
 

@@ -13,6 +13,7 @@ ghost use Rattle.zq_queue.specs.Queued.{Queued};
 ghost use Rattle.zq_queue.specs.Listed.{listed};
 ghost use Rattle.zq_shard.specs.Queues.{AreQueues, HasAt, and_then, entries_at, entries_in, members_after, or_none, unless_empty};
 
+use crate::boxed_queue::BoxedQueue;
 use indexmap::IndexMap;
 use std::alloc::{AllocError, Global};
 use std::marker::Model;
@@ -21,12 +22,15 @@ use zq_entry::Entry;
 use zq_posheap::{Guess, Name, NameRef, Seeded};
 use zq_queue::{Effect, Queue};
 
+/// A table with room for so many keys, or for fewer, keeps it when keys go.
+const SMALL: usize = 64;
+
 /// The keys of a heap with their queues. A key without members is not there. A call looks one key
 /// up time after time, so a look-up begins where the last one ended.
 #[derive(Drop)]
 pub(crate) struct Queues {
     pub(crate) rule: Rule,
-    pub(crate) queues: IndexMap<Name, Queue, Seeded>,
+    pub(crate) queues: IndexMap<Name, BoxedQueue, Seeded>,
     pub(crate) guess: Guess,
 }
 
@@ -82,7 +86,10 @@ impl Queues {
         ensures no_list { IfNone result
             (queue_of self.now.rule key.now (self.now.members ∷ []) ≡ []) }
     {
-        self.guess.get(&self.queues, key)
+        match self.guess.get(&self.queues, key) {
+            Some(queue) => Some(queue.get()),
+            None => None,
+        }
     }
 
     /// The entry of a member of a key, and `None` where it does not stand.
@@ -190,7 +197,7 @@ impl Queues {
 
 /// Makes an ordered index of a key's members.
 fn index(
-    queues: &mut IndexMap<Name, Queue, Seeded>,
+    queues: &mut IndexMap<Name, BoxedQueue, Seeded>,
     guess: &Guess,
     alloc: Global,
     key: &[u8],
@@ -199,14 +206,14 @@ fn index(
     ensures { queues.new.entries ≡ queues.old.entries }
 {
     if let Some(place) = guess.find(queues, key) {
-        let (_, queue) = queues.pair_mut(place);
-        queue.index(alloc, most);
+        let (_, boxed) = queues.pair_mut(place);
+        boxed.get_mut().index(alloc, most);
     }
 }
 
 /// Takes the effect of a new operation on a member of a key, and answers what the member had.
 fn take(
-    queues: &mut IndexMap<Name, Queue, Seeded>,
+    queues: &mut IndexMap<Name, BoxedQueue, Seeded>,
     guess: &Guess,
     alloc: Global,
     rule: Rule,
@@ -227,10 +234,11 @@ fn take(
     ensures refused { OnErr result (queues.new.entries ≡ queues.old.entries) }
 {
     if let Some(index) = guess.find(queues, key) {
-        let (_, queue) = queues.pair_mut(index);
+        let (_, boxed) = queues.pair_mut(index);
+        let queue = boxed.get_mut();
         let before = queue.take(alloc, member, effect)?;
         if queue.is_empty() {
-            drop(queues.swap_remove(NameRef(key)));
+            remove(queues, key);
         }
         return Ok(before);
     }
@@ -242,7 +250,7 @@ fn take(
 
 /// Gives a member of a key this entry, and takes it out where there is none.
 fn put_back(
-    queues: &mut IndexMap<Name, Queue, Seeded>,
+    queues: &mut IndexMap<Name, BoxedQueue, Seeded>,
     guess: &Guess,
     alloc: Global,
     rule: Rule,
@@ -258,10 +266,11 @@ fn put_back(
     ensures refused { OnErr result (queues.new.entries ≡ queues.old.entries) }
 {
     if let Some(index) = guess.find(queues, key) {
-        let (_, queue) = queues.pair_mut(index);
+        let (_, boxed) = queues.pair_mut(index);
+        let queue = boxed.get_mut();
         queue.put_back(member, before)?;
         if queue.is_empty() {
-            drop(queues.swap_remove(NameRef(key)));
+            remove(queues, key);
         }
         return Ok(());
     }
@@ -272,7 +281,7 @@ fn put_back(
 
 /// Adds a key that is not there with its queue, unless that has no members.
 pub(crate) fn add(
-    queues: &mut IndexMap<Name, Queue, Seeded>,
+    queues: &mut IndexMap<Name, BoxedQueue, Seeded>,
     alloc: Global,
     key: &[u8],
     queue: Queue,
@@ -284,29 +293,45 @@ pub(crate) fn add(
 {
     if !queue.is_empty() {
         let key = Name::copied(alloc, key)?;
+        let queue = BoxedQueue::new(alloc, queue)?;
         drop(queues.insert(key, queue)?);
     }
     Ok(())
 }
 
+/// Takes a key out with its queue. Where three quarters of the table's room are free then, it gives
+/// half of the room back; where memory for the smaller table is refused, it stays as large.
+fn remove(queues: &mut IndexMap<Name, BoxedQueue, Seeded>, key: &[u8])
+    ensures { HasAt key.now None queues.old.entries queues.new.entries }
+{
+    drop(queues.swap_remove(NameRef(key)));
+    let room = queues.capacity();
+    if room > SMALL && queues.len() <= room / 4 {
+        queues.shrink_to(room / 2);
+    }
+}
+
 /// Adds copies of these queues where there are none.
 fn copy_into(
-    queues: &mut IndexMap<Name, Queue, Seeded>,
+    queues: &mut IndexMap<Name, BoxedQueue, Seeded>,
     alloc: Global,
-    source: &IndexMap<Name, Queue, Seeded>,
+    source: &IndexMap<Name, BoxedQueue, Seeded>,
 ) -> Result<(), AllocError>
     requires empty { queues.old.entries ≡ [] }
     ensures { OnOk result ((q : List ℕ) → map.find bytes_cmp q queues.new.entries
         ≡ and_then unless_empty (map.find bytes_cmp q source.now.entries)) }
 {
     for (key, queue) in source {
-        add(queues, alloc, key.as_slice(), queue.copy(alloc)?)?;
+        add(queues, alloc, key.as_slice(), queue.get().copy(alloc)?)?;
     }
     Ok(())
 }
 
 /// Whether both have the same keys with the same queues.
-fn are_same(queues: &IndexMap<Name, Queue, Seeded>, others: &IndexMap<Name, Queue, Seeded>) -> bool
+fn are_same(
+    queues: &IndexMap<Name, BoxedQueue, Seeded>,
+    others: &IndexMap<Name, BoxedQueue, Seeded>,
+) -> bool
     ensures { IsTrue result
         ↔ ((q : List ℕ) → map.find bytes_cmp q queues.now.entries
         ≡ map.find bytes_cmp q others.now.entries) }
@@ -316,8 +341,8 @@ fn are_same(queues: &IndexMap<Name, Queue, Seeded>, others: &IndexMap<Name, Queu
 
 /// Whether the others have each of these keys with the same queue.
 fn are_within(
-    queues: &IndexMap<Name, Queue, Seeded>,
-    others: &IndexMap<Name, Queue, Seeded>,
+    queues: &IndexMap<Name, BoxedQueue, Seeded>,
+    others: &IndexMap<Name, BoxedQueue, Seeded>,
 ) -> bool
     ensures { IsTrue result
         ↔ ((q : List ℕ) (queue : Queued) → map.find bytes_cmp q queues.now.entries ≡ Some queue →
@@ -325,7 +350,7 @@ fn are_within(
 {
     for (key, queue) in queues {
         match others.get(key) {
-            Some(other) if queue.same(other) => {}
+            Some(other) if queue.get().same(other.get()) => {}
             _ => return false,
         }
     }

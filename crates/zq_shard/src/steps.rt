@@ -1,7 +1,6 @@
 //! How a shard takes operations and undoes them.
 ghost use Rattle.std.specs.Prelude.{◌≡◌, ◌↔◌, ◌∷◌, IfErr, IfOk, IfSome, IsErrOf, IsOk, List, OnErr, OnOk, false};
 ghost use Rattle.std.specs.FinMap as map;
-ghost use Rattle.zq_dots.specs.Placed.{IsRanged};
 ghost use Rattle.zq_model.specs.Bounded.{IsBounded};
 ghost use Rattle.zq_model.specs.Image.{image_after, image_taken, is_bare, place_of};
 ghost use Rattle.zq_model.specs.Operation.{Operation};
@@ -36,7 +35,6 @@ impl Shard {
             HoldsImage self.new (op.now.operation ∷ S)) }
         ensures refused { OnErr result (self.new ≡ self.old) }
     {
-        ranged(op);
         let effect = Effect {
             dot: op.dot(),
             act: op.act(),
@@ -135,18 +133,4 @@ impl Shard {
             Taken::Early => Ok(Taken::Early),
         }
     }
-}
-
-/// What the type of an operation keeps of its numbers.
-fn ranged(op: &Op)
-    ensures { IsRanged op.now }
-{
-    let _heaps = op.heaps();
-    let _heap = op.heap();
-    let dot = op.dot();
-    let _site = dot.site.value();
-    let _seen = op.seen();
-    let _key = op.key();
-    let _member = op.member();
-    let _act = op.act();
 }

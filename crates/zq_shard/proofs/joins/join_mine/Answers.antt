@@ -31,13 +31,15 @@ join_at-requires-clause-absent c =
     c.loop-key.invariant c.next.ensures.steps (c.in-Some.key, c.in-Some.queue) c.in-Some.is
 
 pub join_at-requires-clause-rule : goal.join_at-requires-clause-rule
-join_at-requires-clause-rule c = c.queue_or-other.ensures.rule ∙ sym (has_rule (goal.at.join_at-requires-clause-rule c).In-Some)
+join_at-requires-clause-rule c =
+    c.queue_or-other.ensures.rule ∙ sym (has_rule (goal.at.join_at-requires-clause-rule c).In-Some) ∙ ap (λ (q : Queued). q.rule) (sym c.get.ensures)
 
 pub loop-key-preserved : goal.loop-key-preserved
 loop-key-preserved c =
     let d = (goal.at.loop-key-preserved c).In-Some in
     let queue = c.in-Some.queue.now in
-    let rule : queue.rule ≡ c.args.none.now.rule = has_rule d in
+    let lent : c.get.result.now ≡ queue = c.get.ensures in
+    let rule : c.get.result.now.rule ≡ c.args.none.now.rule = ap (λ (q : Queued). q.rule) lent ∙ has_rule d in
     let others : c.queue_or-other.result.now.entries ≡ entries_in c.args.their_queues.now.entries c.in-Some.key.now
     = c.queue_or-other.ensures.entries ∙ ap (entries_in c.args.their_queues.now.entries) c.as_slice.ensures in
     let old = c.loop-key.merged.entries in
@@ -46,7 +48,7 @@ loop-key-preserved c =
     c.loop-key.invariant c.next.ensures.steps (c.in-Some.key, c.in-Some.queue) c.in-Some.is c.join_at.new.merged.entries
     (subst (λ k. HasAt k (value_of d c.in-Some.key.now queue) old new) c.as_slice-in-loop-key.ensures
     (subst (λ (q : Queued). HasAt c.as_slice-in-loop-key.result.now (unless_empty q) old new)
-    (λ i. record { rule = rule i; entries = joined_entries c.args.mine.now c.args.theirs.now queue.entries (others i) }) c.in_ok-join_at.ensures))
+    (λ i. record { rule = rule i; entries = joined_entries c.args.mine.now c.args.theirs.now (lent i).entries (others i) }) c.in_ok-join_at.ensures))
 
 pub returns : goal.returns
 returns c = λ q.

@@ -45,7 +45,9 @@ join_at-requires-clause-absent c =
     (ap is_some (found c.args.my_queues.now.entries key) ∙ sym c.contains_key.ensures ∙ c.if-not-contains_key.true)
 
 pub join_at-requires-clause-rule : goal.join_at-requires-clause-rule
-join_at-requires-clause-rule c = (c.requires.their_kept c.in-Some.key.now c.in-Some.queue.now (source_is (goal.at.join_at-requires-clause-rule c).In-Some)).0
+join_at-requires-clause-rule c =
+    ap (λ (q : Queued). q.rule) c.get.ensures
+    ∙ (c.requires.their_kept c.in-Some.key.now c.in-Some.queue.now (source_is (goal.at.join_at-requires-clause-rule c).In-Some)).0
 
 pub loop-key-preserved-in-Continue-1 : goal.loop-key-preserved-in-Continue-1
 loop-key-preserved-in-Continue-1 c =
@@ -59,7 +61,9 @@ loop-key-preserved-in-Continue-1 c =
     c.loop-key.invariant c.next.ensures.steps (c.in-Some.key, c.in-Some.queue) c.in-Some.is c.join_at.new.merged.entries
     (subst (λ k. HasAt k (value_of d key c.in-Some.queue.now) old new) c.as_slice.ensures
     (subst (λ (es : Entries). HasAt c.as_slice.result.now (unless_empty (record { rule = c.args.none.now.rule; entries = joined_entries c.args.mine.now c.args.theirs.now es c.in-Some.queue.now.entries })) old new)
-    nothing c.in_ok-join_at.ensures))
+    nothing
+    (subst (λ (q : Queued). HasAt c.as_slice.result.now (unless_empty (record { rule = c.args.none.now.rule; entries = joined_entries c.args.mine.now c.args.theirs.now c.args.none.now.entries q.entries })) old new)
+    c.get.ensures c.in_ok-join_at.ensures)))
 
 pub loop-key-preserved : goal.loop-key-preserved
 loop-key-preserved c =

@@ -15,7 +15,8 @@ pub loop-key-preserved : goal.loop-key-preserved
 loop-key-preserved c =
     within_turn deref_pair c.args.queues.now.entries c.loop-key.key-iterator c.next.new.self c.args.others.now.entries c.next.result c.loop-key.invariant c.next.ensures.steps
     (c.in-Some.key, c.in-Some.queue) c.in-Some.is
-    (found c.args.others.now.entries c.in-Some.key.now ∙ sym c.in-Some-get.ensures.value ∙ ap Some (sym (c.same.ensures.0 c.if-same.true)))
+    (found c.args.others.now.entries c.in-Some.key.now ∙ sym c.in-Some-get.ensures.value
+    ∙ ap Some (sym (sym c.get-in-Some-get.ensures ∙ c.same.ensures.0 c.if-same.true ∙ c.get-in-Some-get-2.ensures)))
 
 pub returns-in_default : goal.returns-in_default
 returns-in_default c = (
@@ -25,7 +26,7 @@ returns-in_default c = (
       (c.in-Some.key, c.in-Some.queue) c.in-Some.is in
       let both : Some c.in-Some.queue.now ≡ Some c.in-Some-get.other.now
       = sym (all c.in-Some.key.now c.in-Some.queue.now mine) ∙ found c.args.others.now.entries c.in-Some.key.now ∙ sym c.in-Some-get.ensures.value in
-      absurd (true≢false (sym (c.same.ensures.1 (same_Some _ _ both)) ∙ c.if-same.false)),
+      absurd (true≢false (sym (c.same.ensures.1 (c.get-in-Some-get.ensures ∙ same_Some _ _ both ∙ sym c.get-in-Some-get-2.ensures)) ∙ c.if-same.false)),
 )
 
 pub returns-in_default-2 : goal.returns-in_default-2

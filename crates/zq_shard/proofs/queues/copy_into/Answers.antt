@@ -25,7 +25,7 @@ loop-key-preserved c =
     turn_more deref_pair (λ _ queue. unless_empty queue) (λ _. None) c.args.source.now.entries c.loop-key.key-iterator c.next.new.self c.loop-key.queues.entries c.next.result
     c.loop-key.invariant c.next.ensures.steps (c.in-Some.key, c.in-Some.queue) c.in-Some.is c.add.new.queues.entries
     (subst (λ k. HasAt k (unless_empty c.in-Some.queue.now) c.loop-key.queues.entries c.add.new.queues.entries) c.as_slice.ensures
-    (subst (λ (q : Queued). HasAt c.as_slice.result.now (unless_empty q) c.loop-key.queues.entries c.add.new.queues.entries) c.in_ok-copy.ensures c.in_ok-add.ensures.added))
+    (subst (λ (q : Queued). HasAt c.as_slice.result.now (unless_empty q) c.loop-key.queues.entries c.add.new.queues.entries) (c.in_ok-copy.ensures ∙ c.get.ensures) c.in_ok-add.ensures.added))
 
 pub returns : goal.returns
 returns c = λ q.

@@ -4,7 +4,7 @@ use Rattle.zq_dots.specs.Rule.{rule_of}
 use Rattle.zq_queue.proofs.Changing.{on_any_err}
 use Rattle.zq_queue.specs.Entries.{set_entry}
 use Rattle.zq_queue.specs.Queued.{Queued}
-use Rattle.zq_shard.proofs.AtIndex.{none_is, rewritten_at, updates_at, value_is}
+use Rattle.zq_shard.proofs.AtIndex.{lent_at, none_is, rewritten_at, updates_at, value_is}
 use Rattle.zq_shard.proofs.AtKeys.{entries_found, removed_at, written_at}
 use Rattle.zq_shard.proofs.ByBytes.{found}
 use Rattle.zq_shard.proofs.Outcomes.{ok_map}
@@ -15,8 +15,8 @@ use Rattle.zq_shard.proofs.queues.put_back.Goals.{In_ok-put_back, In_ok-put_back
 -- the key's queue with this entry
 is_after : (c : In_ok-put_back) → c.put_back.new.self ≡ record { rule = rule_of c.args.rule; entries = set_entry (entries_in c.args.queues.now.entries c.args.key.now) c.args.member.now (or_none c.args.before) }
 is_after c =
-    let rule = c.in_ok-put_back.ensures.rule ∙ (c.requires.kept c.args.key.now c.pair_mut-queue.result.1.now (found c.args.queues.now.entries c.args.key.now ∙ sym (value_is c.args.queues.now c.in-Some.index c.args.key.now _ c.pair_mut-queue.result.1.now c.in-Some.ensures.there c.pair_mut-queue.ensures.value c.in-Some.ensures.value))).0 in
-    let entries = c.in_ok-put_back.ensures.back ∙ ap (λ es. set_entry es c.args.member.now (or_none c.args.before)) (sym (entries_found c.args.queues.now.entries c.args.key.now (Some c.pair_mut-queue.result.1.now) (value_is c.args.queues.now c.in-Some.index c.args.key.now _ c.pair_mut-queue.result.1.now c.in-Some.ensures.there c.pair_mut-queue.ensures.value c.in-Some.ensures.value))) in
+    let rule = c.in_ok-put_back.ensures.rule ∙ (c.requires.kept c.args.key.now c.get_mut-queue.result.now (found c.args.queues.now.entries c.args.key.now ∙ sym (value_is c.args.queues.now c.in-Some.index c.args.key.now _ c.get_mut-queue.result.now c.in-Some.ensures.there (lent_at c.args.queues.now.entries c.in-Some.index _ c.pair_mut-boxed.ensures.value c.get_mut-queue.ensures.value) c.in-Some.ensures.value))).0 in
+    let entries = c.in_ok-put_back.ensures.back ∙ ap (λ es. set_entry es c.args.member.now (or_none c.args.before)) (sym (entries_found c.args.queues.now.entries c.args.key.now (Some c.get_mut-queue.result.now) (value_is c.args.queues.now c.in-Some.index c.args.key.now _ c.get_mut-queue.result.now c.in-Some.ensures.there (lent_at c.args.queues.now.entries c.in-Some.index _ c.pair_mut-boxed.ensures.value c.get_mut-queue.ensures.value) c.in-Some.ensures.value))) in
     λ i. record { rule = rule i; entries = entries i }
 
 is_new : (c : In_ok-put_back-2) → c.put_back-2.new.self ≡ record { rule = rule_of c.args.rule; entries = set_entry (entries_in c.args.queues.now.entries c.args.key.now) c.args.member.now (or_none c.args.before) }
@@ -28,20 +28,19 @@ is_new c =
 pub returns-in_err-put_back-clause-refused : goal.returns-in_err-put_back-clause-refused
 returns-in_err-put_back-clause-refused c =
     on_any_err c.from_residual.result (ap (set_value_at c.args.queues.now.entries c.in-Some.index) c.in_err-put_back.ensures.refused
-    ∙ rewritten_at c.args.queues.now.entries c.in-Some.index _ c.pair_mut-queue.result.1.now c.pair_mut-queue.ensures.value)
+    ∙ rewritten_at c.args.queues.now.entries c.in-Some.index _ c.get_mut-queue.result.now (lent_at c.args.queues.now.entries c.in-Some.index _ c.pair_mut-boxed.ensures.value c.get_mut-queue.ensures.value))
 
 pub returns-then-is_empty-clause-back : goal.returns-then-is_empty-clause-back
 returns-then-is_empty-clause-back c =
     let d = (goal.at.returns-then-is_empty-clause-back c).In_ok-put_back in
-    let written = updates_at c.args.queues.now c.in-Some.index c.args.key.now _ c.pair_mut-queue.result.1.now c.in-Some.ensures.there c.pair_mut-queue.ensures.value c.pair_mut-queue.ensures.unique c.put_back.new.self in
-    let updates = c.swap_remove.ensures.updates in
-    removed_at c.args.key.now c.put_back.new.self _ c.args.queues.now.entries (set_value_at c.args.queues.now.entries c.in-Some.index c.put_back.new.self) c.swap_remove.new.self.entries
-    updates.1 written.3 updates.3 (is_after d) (c.is_empty.ensures.0 c.if-is_empty.true)
+    let written = updates_at c.args.queues.now c.in-Some.index c.args.key.now _ c.get_mut-queue.result.now c.in-Some.ensures.there (lent_at c.args.queues.now.entries c.in-Some.index _ c.pair_mut-boxed.ensures.value c.get_mut-queue.ensures.value) c.pair_mut-boxed.ensures.unique c.put_back.new.self in
+    removed_at c.args.key.now c.put_back.new.self _ c.args.queues.now.entries (set_value_at c.args.queues.now.entries c.in-Some.index c.put_back.new.self) c.remove.new.queues.entries
+    written.3 c.remove.ensures (is_after d) (c.is_empty.ensures.0 c.if-is_empty.true)
 
 pub returns-else-is_empty-clause-back : goal.returns-else-is_empty-clause-back
 returns-else-is_empty-clause-back c =
     let d = (goal.at.returns-else-is_empty-clause-back c).In_ok-put_back in
-    let written = updates_at c.args.queues.now c.in-Some.index c.args.key.now _ c.pair_mut-queue.result.1.now c.in-Some.ensures.there c.pair_mut-queue.ensures.value c.pair_mut-queue.ensures.unique c.put_back.new.self in
+    let written = updates_at c.args.queues.now c.in-Some.index c.args.key.now _ c.get_mut-queue.result.now c.in-Some.ensures.there (lent_at c.args.queues.now.entries c.in-Some.index _ c.pair_mut-boxed.ensures.value c.get_mut-queue.ensures.value) c.pair_mut-boxed.ensures.unique c.put_back.new.self in
     written_at c.args.key.now c.put_back.new.self _ c.args.queues.now.entries (set_value_at c.args.queues.now.entries c.in-Some.index c.put_back.new.self)
     written.1 written.3 (is_after d) (λ is. true≢false (sym (c.is_empty.ensures.1 is) ∙ c.if-is_empty.false))
 
