@@ -1,6 +1,6 @@
 -- Where the clearing of a key stands, and what the clearing of several comes to.
 
-use Rattle.std.proofs.Common.{List, None, [], ap, arith, true, drop, length, map, option_map, refl, subst, suc, sym, zero, ℕ, ◌++◌, ◌+◌, ◌<◌, ◌∙◌, ◌∷◌, ◌≡◌, ◌≤◌, false}
+use Rattle.std.proofs.Common.{Bool, List, None, [], ap, arith, true, drop, length, map, option_map, refl, subst, suc, sym, zero, ℕ, ◌++◌, ◌+◌, ◌<◌, ◌∙◌, ◌∷◌, ◌≡◌, ◌≤◌, false}
 use Rattle.std.proofs.lemmas.List.{length-append, length-map, take-append-le, take_all}
 use Rattle.std.proofs.lemmas.Option.{slice_get-map}
 use Rattle.std.specs.Prelude.{Some, if◌then◌else◌, slice_get, take}
@@ -11,7 +11,7 @@ use Rattle.zq_commands.specs.Clearing.{Clears, IsLeft}
 use Rattle.zq_commands.specs.Stopped.{want_of}
 use Rattle.zq_commands.specs.FirstPairs.{DropsFirst, drop_of}
 use Rattle.zq_commands.specs.Lending.{Lending, lent_after, queues_in}
-use Rattle.zq_commands.specs.Running.{RunsOver, lent_after_all, part}
+use Rattle.zq_commands.specs.Running.{EndsOver, lent_after_all, part}
 use Rattle.zq_commands.specs.Stepping.{Steps}
 use Rattle.zq_commands.specs.declared.cleared.Cleared.{Cleared}
 use Rattle.zq_commands.specs.declared.stopped.Stopped.{Stopped}
@@ -146,9 +146,9 @@ module _ (site stamp : ℕ) (keys : List Word) (i : ℕ) (key : Word) (s t u : L
       ∙ ap (λ ys. moves_in_turn del_part (take i keys) (queues_in s) ++ moves_in_turn del_part ys (queues_in t)) (drop_at keys i key at)
 
   -- where a move of a key was refused
-  pub keys_cut : (cut : Stopped) → cleared.cut ≡ Some cut → (bytes : Word) → bytes ≡ bytes_of (cut_error cleared.done (want_of cut)) →
-      RunsOver site stamp ForCopies (in_turn del_part keys (queues_in s)) cut_error s u bytes
-  keys_cut cut some bytes says =
+  pub keys_cut : (cut : Stopped) → cleared.cut ≡ Some cut → (bytes : Word) → (short : Bool) → bytes ≡ bytes_of (cut_error cleared.done (want_of cut)) → (want_of cut ≡ Memory → short ≡ true) →
+      EndsOver site stamp ForCopies (in_turn del_part keys (queues_in s)) cut_error s u bytes short
+  keys_cut cut some bytes short says told =
       let front = moves_in_turn del_part (take i keys) (queues_in s) in
       let moves = drops key (queues_in t key) in
       let later = moves_in_turn del_part (drop (i + 1) keys) (after_all moves (queues_in t)) in
@@ -162,4 +162,4 @@ module _ (site stamp : ℕ) (keys : List Word) (i : ℕ) (key : Word) (s t u : L
       let next : slice_get (moves_in_turn del_part keys (queues_in s)) cleared.done ≡ slice_get (moves ++ later) k
       = ap (λ ms. slice_get ms cleared.done) whole_moves ∙ ap (slice_get (front ++ (moves ++ later))) at_k ∙ get_past front (moves ++ later) k in
       part cleared.done (want_of cut) (omega (arith, at_k, wide, ap length whole_moves, length-append front (moves ++ later), length-append moves later)) same
-      (subst (λ o. IsWhyOf ForCopies site o u.books (want_of cut)) (sym next) (why_longer site u.books moves later k (want_of cut) (subst (IsLeft site key t u k) some clears.left))) says (λ _. refl)
+      (subst (λ o. IsWhyOf ForCopies site o u.books (want_of cut)) (sym next) (why_longer site u.books moves later k (want_of cut) (subst (IsLeft site key t u k) some clears.left))) says told

@@ -7,16 +7,15 @@ use Rattle.zq_commands.proofs.InTurn.{StandsAfter, moves_split, stands_cut, stan
 use Rattle.zq_commands.specs.Stopped.{want_of}
 use Rattle.zq_commands.specs.Lending.{Lending, lent_after, queues_in}
 use Rattle.zq_commands.specs.Commands.{IsRunOver, is_reading}
-use Rattle.zq_commands.specs.Running.{EndsOver, IsRead, RunsOver, lent_after_all, part, whole}
+use Rattle.zq_commands.specs.Running.{EndsOver, IsReadAs, lent_after_all, part, whole}
 use Rattle.zq_commands.specs.declared.stopped.Stopped.{Stopped}
 use Rattle.zq_commands.specs.declared.stopped.Stopped.TheVariants.{NoMemory, Worn}
-use Rattle.zq_commands.specs.declared.ran.Ran.{Ran}
 use Rattle.zq_model.specs.Moves.{Move, Queues, after_all}
 use Rattle.zq_model.specs.Books.{Book}
 use Rattle.zq_semantics.specs.Plan.{Part, Plan, in_turn, lets, moves_in_turn, one, plan_of, raise, raise_if, raising, reading, sum_of}
 use Rattle.zq_semantics.specs.Replies.{Error, NullBulk, Reply, bytes_of, count_reply, number_text}
 use Rattle.zq_semantics.specs.Run as run
-use Rattle.zq_semantics.specs.Run.{ForMoves, ForReply, IsWhy, IsWhyOf, Memory, Number, Runs, Takes, Want, cut_error, cut_pop, cut_reply, popped_of, takes_of}
+use Rattle.zq_semantics.specs.Run.{ForMoves, ForReply, IsWhy, IsWhyOf, Memory, Number, Runs, Takes, Want, cut_error, takes_of}
 use Rattle.zq_resp.specs.Reply.{reply_bytes}
 use Rattle.zq_resp.specs.declared.reply.Reply as resp
 use Rattle.zq_words.specs.Command.{Command, Del, Ping, Zadd, ZaddIncr, Zcard, Zcount, Zincrby, Zpopmin, Zpopnear, Zrange, Zrank, Zrem, Zrevrank, Zscore}
@@ -39,9 +38,9 @@ why_made site books move Worn worn memory = worn refl
 why_made site books move NoMemory worn memory = memory refl
 
 module _ {X : Type 0} (f : Queues → X → Part) (site stamp : ℕ) (xs : List X) (s t : Lending) (counted done : ℕ) where
-  pub ran_whole : (takes : Takes) → StandsAfter f site stamp xs (length xs) s t counted done → (bytes : Word) → bytes ≡ bytes_of (count_reply counted) →
-      RunsOver site stamp takes (in_turn f xs (queues_in s)) cut_error s t bytes
-  ran_whole takes here bytes is =
+  pub ran_whole : (takes : Takes) → StandsAfter f site stamp xs (length xs) s t counted done → (bytes : Word) → (short : Bool) → bytes ≡ bytes_of (count_reply counted) →
+      EndsOver site stamp takes (in_turn f xs (queues_in s)) cut_error s t bytes short
+  ran_whole takes here bytes short is =
       let all = stands_whole f site stamp xs s t counted done here in
       whole all.0 (is ∙ ap (λ n. bytes_of (count_reply n)) all.1)
 
@@ -58,20 +57,20 @@ module _ {X : Type 0} (f : Queues → X → Part) (site stamp : ℕ) (xs : List 
 
   -- where the part at i, which was to make this move, was refused
   pub ran_cut : (cut : Stopped) (i : ℕ) (x : X) (move : Move) → StandsAfter f site stamp xs i s t counted done → slice_get xs i ≡ Some x → (f (queues_in t) x).moves ≡ move ∷ [] →
-      (cut ≡ Worn → IsWhy site (Some move) t.books Number) → (cut ≡ NoMemory → IsWhy site (Some move) t.books Number → ⊥) → (bytes : Word) → bytes ≡ bytes_of (cut_error done (want_of cut)) →
-      RunsOver site stamp ForMoves (in_turn f xs (queues_in s)) cut_error s t bytes
-  ran_cut cut i x move here at is worn memory bytes says =
+      (cut ≡ Worn → IsWhy site (Some move) t.books Number) → (cut ≡ NoMemory → IsWhy site (Some move) t.books Number → ⊥) → (bytes : Word) → (short : Bool) → bytes ≡ bytes_of (cut_error done (want_of cut)) →
+      (want_of cut ≡ Memory → short ≡ true) → EndsOver site stamp ForMoves (in_turn f xs (queues_in s)) cut_error s t bytes short
+  ran_cut cut i x move here at is worn memory bytes short says told =
       let stands = stands_cut f site stamp xs i s t counted done here in
       part done (want_of cut) stands.0 stands.1
-      (subst (λ o. IsWhyOf ForMoves site o t.books (want_of cut)) (sym (next_move i x move here at is)) (why_made site t.books move cut worn memory)) says (λ _. refl)
+      (subst (λ o. IsWhyOf ForMoves site o t.books (want_of cut)) (sym (next_move i x move here at is)) (why_made site t.books move cut worn memory)) says told
 
 -- a plan of one move, which was not made
-pub ran_refused : (site stamp : ℕ) (plan : Plan) (move : Move) (cut : Stopped) (old new : Lending) (bytes : Word) → plan.moves ≡ move ∷ [] → new ≡ old →
+pub ran_refused : (site stamp : ℕ) (plan : Plan) (move : Move) (cut : Stopped) (old new : Lending) (bytes : Word) (short : Bool) → plan.moves ≡ move ∷ [] → new ≡ old →
     (cut ≡ Worn → IsWhy site (Some move) old.books Number) → (cut ≡ NoMemory → IsWhy site (Some move) old.books Number → ⊥) → bytes ≡ bytes_of (cut_error 0 (want_of cut)) →
-    RunsOver site stamp ForMoves plan cut_error old new bytes
-ran_refused site stamp plan move cut old new bytes is same worn memory says =
-    subst (λ l. RunsOver site stamp ForMoves plan cut_error old l bytes) (sym same)
-    (part 0 (want_of cut) (omega arith) refl (subst (λ moves. IsWhyOf ForMoves site (slice_get moves 0) old.books (want_of cut)) (sym is) (why_made site old.books move cut worn memory)) says (λ _. refl))
+    (want_of cut ≡ Memory → short ≡ true) → EndsOver site stamp ForMoves plan cut_error old new bytes short
+ran_refused site stamp plan move cut old new bytes short is same worn memory says told =
+    subst (λ l. EndsOver site stamp ForMoves plan cut_error old l bytes short) (sym same)
+    (part 0 (want_of cut) (omega arith) refl (subst (λ moves. IsWhyOf ForMoves site (slice_get moves 0) old.books (want_of cut)) (sym is) (why_made site old.books move cut worn memory)) says told)
 
 -- the plan of a sum in range
 pub raise_in : (key member : Word) (old : Option ℤ) (increment : ℤ) → is_in_range (sum_of old increment) ≡ true →
@@ -87,49 +86,33 @@ raise_let flags key member old increment passes = cond-true (lets flags old (sum
 
 -- a plan that only reads, whole or without its reply for want of memory
 reading_ran : (site stamp : ℕ) (is_long : Bool) (counted : ℕ) (reply : Reply) (cut : ℕ → Want → Reply) (lent : Lending) (bytes : Word) (short : Bool) → cut 0 Memory ≡ cut_error 0 Memory →
-    IsRead (ForReply is_long counted) reply bytes → (bytes ≡ bytes_of (cut_error 0 Memory) → short ≡ true) →
-    EndsOver site stamp (ForReply is_long counted) (reading reply) cut lent lent bytes short
-reading_ran site stamp is_long counted reply cut lent bytes short error (inl says) told = whole refl says
-reading_ran site stamp is_long counted reply cut lent bytes short error (inr (lacks, says)) told = part 0 Memory (omega arith) refl lacks (says ∙ sym (ap bytes_of error)) (λ _. told says)
+    IsReadAs (ForReply is_long counted) reply bytes short → EndsOver site stamp (ForReply is_long counted) (reading reply) cut lent lent bytes short
+reading_ran site stamp is_long counted reply cut lent bytes short error (inl says) = whole refl says
+reading_ran site stamp is_long counted reply cut lent bytes short error (inr (lacks, says, told)) = part 0 Memory (omega arith) refl lacks (says ∙ sym (ap bytes_of error)) (λ _. told)
 
 -- one that counts none before may find no memory where it counts some
-pub read_wider : (is_long : Bool) (counted : ℕ) (reply : Reply) (bytes : Word) → IsRead (ForReply is_long 0) reply bytes → IsRead (ForReply is_long counted) reply bytes
-read_wider is_long counted reply bytes (inl says) = inl says
-read_wider is_long counted reply bytes (inr (inl long, says)) = inr (inl long, says)
-read_wider is_long counted reply bytes (inr (inr many, says)) = absurd (omega (arith, many))
+pub read_wider : (is_long : Bool) (counted : ℕ) (reply : Reply) (bytes : Word) (short : Bool) → IsReadAs (ForReply is_long 0) reply bytes short → IsReadAs (ForReply is_long counted) reply bytes short
+read_wider is_long counted reply bytes short (inl says) = inl says
+read_wider is_long counted reply bytes short (inr (inl long, says, told)) = inr (inl long, says, told)
+read_wider is_long counted reply bytes short (inr (inr many, says, told)) = absurd (omega (arith, many))
 
 -- a command that only reads
 pub ran_read : (site stamp : ℕ) (command : Command) (lent : Lending) (bytes : Word) (short : Bool) → is_reading command ≡ true →
-    IsRead (takes_of command (queues_in lent)) (plan_of command (queues_in lent)).reply bytes →
-    (bytes ≡ bytes_of (cut_error 0 Memory) → short ≡ true) → IsRunOver site stamp command lent lent bytes short
-ran_read site stamp (Ping message) lent bytes short reads says told = reading_ran site stamp _ _ _ _ lent bytes short refl says told
-ran_read site stamp (Zscore key member) lent bytes short reads says told = reading_ran site stamp _ _ _ _ lent bytes short refl says told
-ran_read site stamp (Zcard key) lent bytes short reads says told = reading_ran site stamp _ _ _ _ lent bytes short refl says told
-ran_read site stamp (Zcount key min max) lent bytes short reads says told = reading_ran site stamp _ _ _ _ lent bytes short refl says told
-ran_read site stamp (Zrank key member) lent bytes short reads says told = reading_ran site stamp _ _ _ _ lent bytes short refl says told
-ran_read site stamp (Zrevrank key member) lent bytes short reads says told = reading_ran site stamp _ _ _ _ lent bytes short refl says told
-ran_read site stamp (Zrange key range is_turned with_scores) lent bytes short reads says told = reading_ran site stamp _ _ _ _ lent bytes short refl says told
-ran_read site stamp (Zadd key flags pairs) lent bytes short reads says told = absurd (true≢false (sym reads))
-ran_read site stamp (ZaddIncr key flags increment member) lent bytes short reads says told = absurd (true≢false (sym reads))
-ran_read site stamp (Zincrby key increment member) lent bytes short reads says told = absurd (true≢false (sym reads))
-ran_read site stamp (Zrem key members) lent bytes short reads says told = absurd (true≢false (sym reads))
-ran_read site stamp (Zpopmin key count) lent bytes short reads says told = absurd (true≢false (sym reads))
-ran_read site stamp (Zpopnear key) lent bytes short reads says told = absurd (true≢false (sym reads))
-ran_read site stamp (Del keys) lent bytes short reads says told = absurd (true≢false (sym reads))
-
--- where want of memory is answered by an error, the reply says whether it is short
-pub ends_told : (site stamp : ℕ) (takes : Takes) (plan : Plan) (cut : ℕ → Want → Reply) (old new : Lending) (bytes : Word) (short : Bool) → ((k : ℕ) → cut k Memory ≡ cut_error k Memory) →
-    ((k : ℕ) → bytes ≡ bytes_of (cut_error k Memory) → short ≡ true) → RunsOver site stamp takes plan cut old new bytes → EndsOver site stamp takes plan cut old new bytes short
-ends_told site stamp takes plan cut old new bytes short error told (whole lent says) = whole lent says
-ends_told site stamp takes plan cut old new bytes short error told (part k Memory low lent why says memory) = part k Memory low lent why says (λ _. told k (says ∙ ap bytes_of (error k)))
-ends_told site stamp takes plan cut old new bytes short error told (part k Number low lent why says memory) = part k Number low lent why says (λ e. absurd (cc))
-
-pub run_told : (site stamp : ℕ) (command : Command) (old new : Lending) (reply told : resp.Reply) (short : Bool) → popped_of command ≡ None →
-    told ≡ reply → ((k : ℕ) → reply_bytes reply ≡ bytes_of (cut_error k Memory) → short ≡ true) → IsRunOver site stamp command old new (reply_bytes reply) true →
-    IsRunOver site stamp command old new (reply_bytes told) short
-run_told site stamp command old new reply told short other same says runs =
-    subst (λ r. IsRunOver site stamp command old new (reply_bytes r) short) (sym same)
-    (ends_told site stamp _ _ _ old new (reply_bytes reply) short (λ k. ap (λ popped. cut_pop popped (queues_in old) k Memory) other) says runs)
+    IsReadAs (takes_of command (queues_in lent)) (plan_of command (queues_in lent)).reply bytes short → IsRunOver site stamp command lent lent bytes short
+ran_read site stamp (Ping message) lent bytes short reads says = reading_ran site stamp _ _ _ _ lent bytes short refl says
+ran_read site stamp (Zscore key member) lent bytes short reads says = reading_ran site stamp _ _ _ _ lent bytes short refl says
+ran_read site stamp (Zcard key) lent bytes short reads says = reading_ran site stamp _ _ _ _ lent bytes short refl says
+ran_read site stamp (Zcount key min max) lent bytes short reads says = reading_ran site stamp _ _ _ _ lent bytes short refl says
+ran_read site stamp (Zrank key member) lent bytes short reads says = reading_ran site stamp _ _ _ _ lent bytes short refl says
+ran_read site stamp (Zrevrank key member) lent bytes short reads says = reading_ran site stamp _ _ _ _ lent bytes short refl says
+ran_read site stamp (Zrange key range is_turned with_scores) lent bytes short reads says = reading_ran site stamp _ _ _ _ lent bytes short refl says
+ran_read site stamp (Zadd key flags pairs) lent bytes short reads says = absurd (true≢false (sym reads))
+ran_read site stamp (ZaddIncr key flags increment member) lent bytes short reads says = absurd (true≢false (sym reads))
+ran_read site stamp (Zincrby key increment member) lent bytes short reads says = absurd (true≢false (sym reads))
+ran_read site stamp (Zrem key members) lent bytes short reads says = absurd (true≢false (sym reads))
+ran_read site stamp (Zpopmin key count) lent bytes short reads says = absurd (true≢false (sym reads))
+ran_read site stamp (Zpopnear key) lent bytes short reads says = absurd (true≢false (sym reads))
+ran_read site stamp (Del keys) lent bytes short reads says = absurd (true≢false (sym reads))
 
 -- what is short is not less so
 pub ends_shorter : (site stamp : ℕ) (takes : Takes) (plan : Plan) (cut : ℕ → Want → Reply) (old new : Lending) (reply told : resp.Reply) (less short : Bool) → told ≡ reply →
@@ -145,10 +128,9 @@ ran_foreseen site stamp asked command old seen new bytes short is same runs =
     subst (λ lent. IsRunOver site stamp command lent new bytes short) same (subst (λ q. IsRunOver site stamp q seen new bytes short) is runs)
 
 -- a reply that is read off, where it is not short
-pub read_whole : (takes : Takes) (reply : Reply) (read : resp.Reply) (ran : Ran) → ran.reply ≡ read → ((k : ℕ) → reply_bytes read ≡ bytes_of (cut_error k Memory) → ran.is_short ≡ true) →
-    IsRead takes reply (reply_bytes read) → ran.is_short ≡ false → reply_bytes ran.reply ≡ bytes_of reply
-read_whole takes reply read ran same told (inl says) not = ap reply_bytes same ∙ says
-read_whole takes reply read ran same told (inr (lacks, says)) not = absurd (true≢false (sym (told 0 says) ∙ not))
+pub read_whole : (takes : Takes) (reply : Reply) (bytes : Word) (short : Bool) → IsReadAs takes reply bytes short → short ≡ false → bytes ≡ bytes_of reply
+read_whole takes reply bytes short (inl says) not = says
+read_whole takes reply bytes short (inr (lacks, says, told)) not = absurd (true≢false (sym told ∙ not))
 
 -- it runs over the books alone
 pub ran_books : (site stamp : ℕ) (takes : Takes) (plan : Plan) (cut : ℕ → Want → Reply) (old new : Lending) (bytes : Word) (short : Bool) →

@@ -7,7 +7,9 @@ use Rattle.zq_commands.specs.declared.first_of_key.Top.{Top}
 use Rattle.zq_model.specs.Meaning.{Scored}
 use Rattle.zq_model.specs.Operation.{Drop}
 use Rattle.zq_model.specs.Moves.{Move, Queue, after}
+use Rattle.zq_semantics.specs.Plan.{drops}
 use Rattle.zq_semantics.specs.Replies.{parts_of_pair}
+use Rattle.zq_semantics.specs.Run.{IsWhy, Number}
 use Rattle.zq_resp.specs.Reply.{bulk}
 use Rattle.zq_words.specs.Words.{Word}
 
@@ -24,6 +26,11 @@ top_in lent key = slice_get (queues_in lent key) 0
 
 abbrev pub drop_of : List ℕ → Scored → Move
 drop_of key pair = record { key = key; member = pair.1; act = Drop }
+
+-- a number that dropping the first pair needs is at its last value
+abbrev pub IsFirstWorn : ℕ → List ℕ → Lending → Type 0
+IsFirstWorn site key lent =
+    IsWhy site (slice_get (drops key (queues_in lent key)) 0) lent.books Number
 
 -- the first pair is dropped, and the rest is left
 pub record DropsFirst (site stamp : ℕ) (key : List ℕ) (old new : Lending) : Type 0 where

@@ -3,7 +3,7 @@
 
 use Rattle.std.specs.Prelude.{List, Option, Some, filter, length, map, option_map, slice_get, true, ℕ, ◌++◌, ◌<◌, ◌≡◌, ◌≤◌}
 use Rattle.zq_model.specs.Books.{Book}
-use Rattle.zq_model.specs.Operation.{Operation}
+use Rattle.zq_model.specs.Operation.{Act, Operation}
 use Rattle.zq_model.specs.Rule.{Rule}
 use Rattle.zq_model.specs.Sets.{IsIn}
 use Rattle.zq_model.specs.Lent.{AreLent, HasHome, is_home, is_home_of, made, operation_in, queues_of}
@@ -35,6 +35,10 @@ pub record IsHomeAt (key member : List ℕ) (place : ℕ) (lent : Lending) : Typ
   pub inside : place < length lent.books
   pub home : (book : Book) → slice_get lent.books place ≡ Some book →
       is_home_of key member book ≡ true
+
+-- an act on a member of a key
+abbrev pub move_of : List ℕ → List ℕ → Act → Move
+move_of key member act = record { key = key; member = member; act = act }
 
 -- the operation that a move makes over books, which is that of the book of its heap
 abbrev pub operations_by : ℕ → Move → List Book → List Operation

@@ -1,6 +1,7 @@
 pub mod Lending
 pub mod Stopped
 pub mod Running
+pub mod Raising
 pub mod Stepping
 pub mod Wide
 pub mod FirstPairs

@@ -1,6 +1,6 @@
 -- How a plan runs over the books that are lent.
 
-use Rattle.std.specs.Prelude.{Bool, List, None, Option, [], length, slice_get, take, true, ℕ, ◌∷◌, ◌≡◌, ◌≤◌, ◌⊎◌}
+use Rattle.std.specs.Prelude.{Bool, List, None, Option, Some, [], length, slice_get, take, true, ℕ, ◌∷◌, ◌≡◌, ◌≤◌, ◌⊎◌}
 use Rattle.zq_commands.specs.Lending.{Lending, told_by}
 use Rattle.zq_model.specs.Books.{Book}
 use Rattle.zq_model.specs.Operation.{Operation}
@@ -8,7 +8,7 @@ use Rattle.zq_model.specs.Lent.{books_after, made}
 use Rattle.zq_model.specs.Moves.{Move}
 use Rattle.zq_semantics.specs.Plan.{Plan}
 use Rattle.zq_semantics.specs.Replies.{Reply, bytes_of}
-use Rattle.zq_semantics.specs.Run.{IsWhyOf, MayLack, Memory, Takes, Want, cut_error}
+use Rattle.zq_semantics.specs.Run.{IsWhy, IsWhyOf, MayLack, Memory, Number, Takes, Want, cut_error}
 use Rattle.zq_words.specs.Words.{Word}
 
 -- what is told after moves over books, one after the other
@@ -38,13 +38,17 @@ pub data EndsOver (site stamp : ℕ) (takes : Takes) (plan : Plan) (cut : ℕ �
       (want ≡ Memory → short ≡ true) →
       EndsOver site stamp takes plan cut old new reply short
 
--- the plan runs, whole or in part
-abbrev pub RunsOver : ℕ → ℕ → Takes → Plan → (ℕ → Want → Reply) → Lending → Lending → Word → Type 0
-RunsOver site stamp takes plan cut old new reply =
-    EndsOver site stamp takes plan cut old new reply true
+-- a number that a move needs of the book of its heap is at its last value
+abbrev pub IsWorn : ℕ → Move → Lending → Type 0
+IsWorn site move lent = IsWhy site (Some move) lent.books Number
 
 -- the bytes of a reply that is read off, or of the error for want of memory, where there may be
 -- none
 abbrev pub IsRead : Takes → Reply → Word → Type 0
 IsRead takes reply bytes =
     (bytes ≡ bytes_of reply) ⊎ (MayLack takes 0 None [] × (bytes ≡ bytes_of (cut_error 0 Memory)))
+
+-- the same of what a run is handed back as, where only what is short may have the error
+abbrev pub IsReadAs : Takes → Reply → Word → Bool → Type 0
+IsReadAs takes reply bytes short = (bytes ≡ bytes_of reply)
+    ⊎ (MayLack takes 0 None [] × (bytes ≡ bytes_of (cut_error 0 Memory)) × (short ≡ true))

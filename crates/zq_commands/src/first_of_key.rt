@@ -27,8 +27,8 @@ pub fn top_of<'a, B: Books>(books: &'a B, key: &[u8]) -> Option<Top<'a>>
     ensures home { IfSome result
         (λ top. IsHomeAt key.now top.pair.1.now top.place (B.lent books.now)) }
 {
-    // The first pair of the books from a place on is the least of that book's and of those behind
-    // it.
+    // For the proof: the first pair of the books from a place on is the least of that book's and
+    // of those behind it.
     heading();
     let mut top = None;
     let mut place = books.len();

@@ -1,20 +1,20 @@
 //! The first pair of a key, copied and dropped.
 
-ghost use Rattle.std.specs.Prelude.{IfOk, IfSome, IsErrOf, IsTrue, OnErr, OnOk, Some, length, option_map, slice_get, true, ◌≡◌, ◌≤◌};
+ghost use Rattle.std.specs.Prelude.{IfOk, IfSome, IsErrOf, IsTrue, OnErr, OnOk, Some, length, option_map, true, ◌≡◌, ◌≤◌};
 ghost use Rattle.zq_commands.specs.Arrays.{copied_parts};
 ghost use Rattle.zq_commands.specs.Lending.{IsDated, IsHomeAt, IsLending, queues_in};
-ghost use Rattle.zq_commands.specs.FirstPairs.{DropsFirst, top_in};
+ghost use Rattle.zq_commands.specs.FirstPairs.{DropsFirst, IsFirstWorn, top_in};
 ghost use Rattle.zq_model.specs.Operation.{LONGEST};
-ghost use Rattle.zq_semantics.specs.Plan.{drops, is_there};
+ghost use Rattle.zq_semantics.specs.Plan.{is_there};
 ghost use Rattle.zq_semantics.specs.Replies.{parts_of_pair};
-ghost use Rattle.zq_semantics.specs.Run.{IsWhy, Number};
 
 use crate::books::Books;
+use crate::call::Call;
 use crate::first_of_key::top_of;
 use crate::making::make_at;
 use crate::stopped::Stopped;
 use std::alloc::{AllocError, Global};
-use zq_dots::{Act, SiteNo};
+use zq_dots::Act;
 use zq_model::heading;
 use zq_resp::Text;
 
@@ -55,32 +55,29 @@ pub fn copy_top<B: Books>(books: &B, alloc: Global, key: &[u8]) -> Result<Option
 /// was found.
 pub fn drop_top<B: Books>(
     books: &mut B,
-    alloc: Global,
+    call: &Call,
     place: usize,
-    site: SiteNo,
-    stamp: u64,
     key: &[u8],
     member: &[u8],
 ) -> Result<(), Stopped>
     requires lent { IsLending (B.lent books.old) }
-    requires dated { IsDated stamp (B.lent books.old) }
+    requires dated { IsDated call.now.stamp (B.lent books.old) }
     requires key { length key.now ≤ LONGEST }
     requires home { IsHomeAt key.now member.now place (B.lent books.old) }
     requires top { option_map (λ pair. pair.1) (top_in (B.lent books.old) key.now)
         ≡ Some member.now }
     ensures dropped { OnOk result
-        (DropsFirst site stamp key.now (B.lent books.old) (B.lent books.new)) }
+        (DropsFirst call.now.site call.now.stamp key.now (B.lent books.old) (B.lent books.new)) }
     ensures refused { OnErr result (B.lent books.new ≡ B.lent books.old) }
     ensures worn { IsErrOf result Stopped.Worn →
-        IsWhy site (slice_get (drops key.now (queues_in (B.lent books.old) key.now)) 0)
-        (B.lent books.old).books Number }
+        IsFirstWorn call.now.site key.now (B.lent books.old) }
     ensures lent { IsLending (B.lent books.new) }
-    ensures dated { IsDated stamp (B.lent books.new) }
+    ensures dated { IsDated call.now.stamp (B.lent books.new) }
     ensures keeps { B.keeps books.old books.new }
 {
-    // Without its first member a queue is the rest.
+    // For the proof: without its first member a queue is the rest.
     heading();
-    match make_at(books, alloc, place, site, stamp, key, member, Act::Drop) {
+    match make_at(books, call, place, key, member, Act::Drop) {
         Ok(_) => Ok(()),
         Err(cut) => Err(cut),
     }

@@ -3,6 +3,7 @@
 
 mod beginning;
 mod books;
+mod call;
 mod cleared;
 mod del;
 mod first_of_key;
@@ -33,18 +34,11 @@ mod zrange;
 mod zrem;
 
 pub use books::Books;
-pub use del::clear_keys;
 pub use indexing::MOST_SCANNED;
 pub use one_book::{count_between, make_in};
 pub use ran::Ran;
-pub use reading::{read_count, read_rank, read_score, read_turned_rank, read_within};
 pub use replies::{cut_reply, message_reply};
 pub use running::{read_told, run, run_told};
 pub use site_books::SiteBooks;
 pub use stopped::Stopped;
-pub use zadd::put_pairs;
-pub use zincrby::{raise, raise_if};
-pub use zpopmin::pop;
 pub use zq_words::{Command, Heaps, Refused};
-pub use zrange::read_range;
-pub use zrem::drop_members;

@@ -66,6 +66,7 @@ pub fn make_in(
 {
     match book.make_here(alloc, site, stamp, key, member, act) {
         Ok(stood) => {
+            // For the proof: the book's state is within bounds.
             let _vector = book.shard().vector();
             Ok(stood)
         }

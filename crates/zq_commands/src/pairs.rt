@@ -3,27 +3,34 @@
 ghost use Rattle.std.specs.Prelude.{IfOk, IsTrue, OnErr, OnOk, [], drop, flat_map, map, ◌++◌, ◌∷◌, ◌≡◌};
 ghost use Rattle.zq_commands.specs.Arrays.{are_writable};
 ghost use Rattle.zq_commands.specs.FirstPairs.{lent_pair};
-ghost use Rattle.zq_commands.specs.Running.{IsRead};
+ghost use Rattle.zq_commands.specs.Running.{IsReadAs};
 ghost use Rattle.zq_semantics.specs.Plan.{is_there};
 ghost use Rattle.zq_semantics.specs.Replies as plan;
 ghost use Rattle.zq_semantics.specs.Run.{ForReply};
 ghost use Rattle.zq_resp.specs.Reply.{bulk, is_writable, reply_bytes};
 
-use crate::replies::{array_reply, cut_reply};
+use crate::ran::Outcome;
+use crate::replies::array_reply;
 use crate::stopped::Stopped;
 use std::alloc::{AllocError, Global};
 use zq_resp::{Reply, Text};
 
 /// The members of these pairs from a place on, each with its score behind it where scores are asked
 /// for.
-pub fn pairs_reply(alloc: Global, pairs: &[(i128, &[u8])], from: usize, with_scores: bool) -> Reply
-    ensures read { IsRead (ForReply (is_there (drop from (map lent_pair pairs.now))) 0)
-        (plan.pairs_reply with_scores (drop from (map lent_pair pairs.now))) (reply_bytes result) }
-    ensures writable { IsTrue (is_writable result) }
+pub fn pairs_reply<O: Outcome>(
+    alloc: Global,
+    pairs: &[(i128, &[u8])],
+    from: usize,
+    with_scores: bool,
+) -> O
+    ensures read { IsReadAs (ForReply (is_there (drop from (map lent_pair pairs.now))) 0)
+        (plan.pairs_reply with_scores (drop from (map lent_pair pairs.now)))
+        (reply_bytes (O.reply result)) (O.is_short result) }
+    ensures writable { IsTrue (is_writable (O.reply result)) }
 {
     match copy_parts(alloc, pairs, from, with_scores) {
-        Ok(parts) => array_reply(parts),
-        Err(AllocError) => cut_reply(Stopped::NoMemory, 0),
+        Ok(parts) => O::of_reply(array_reply(parts)),
+        Err(AllocError) => O::of_cut(Stopped::NoMemory, 0),
     }
 }
 

@@ -1,11 +1,14 @@
 //! What running a command gives.
 
-ghost use Rattle.std.specs.Prelude.{Bool, true, ℕ, ◌≡◌};
+ghost use Rattle.std.specs.Prelude.{Bool, IsTrue, true, ◌≡◌};
+ghost use Rattle.zq_commands.specs.Stopped.{want_of};
 ghost use Rattle.zq_semantics.specs.Replies.{bytes_of};
 ghost use Rattle.zq_semantics.specs.Run.{Memory, cut_error};
-ghost use Rattle.zq_resp.specs.Reply.{reply_bytes};
+ghost use Rattle.zq_resp.specs.Reply.{is_writable, reply_bytes};
 ghost use Rattle.zq_resp.specs.declared.reply.Reply.{Reply as Replies};
 
+use crate::replies::cut_reply;
+use crate::stopped::Stopped;
 use zq_resp::Reply;
 
 /// The reply of a command, and whether memory was refused before it was whole.
@@ -25,11 +28,15 @@ pub trait Outcome: Sized {
     /// Whether memory may have been refused.
     ghost is_short: { Self → Bool };
 
-    /// That of a command that answers an error where memory is refused.
+    /// That of a command that was not cut.
     fn of_reply(given: Reply) -> Self
-        ensures reply { reply result ≡ given }
-        ensures short { (k : ℕ) → reply_bytes given ≡ bytes_of (cut_error k Memory) →
-            is_short result ≡ true };
+        ensures { reply result ≡ given };
+
+    /// The error of a command of which the first `done` moves stand.
+    fn of_cut(cut: Stopped, done: u64) -> Self
+        ensures bytes { reply_bytes (reply result) ≡ bytes_of (cut_error done (want_of cut)) }
+        ensures writable { IsTrue (is_writable (reply result)) }
+        ensures short { want_of cut ≡ Memory → is_short result ≡ true };
 
     /// That of one that may answer what it did until then.
     fn of_ran(ran: Ran) -> Self
@@ -48,6 +55,11 @@ impl Outcome for Reply {
     }
 
     #[inline(always)]
+    fn of_cut(cut: Stopped, done: u64) -> Reply {
+        cut_reply(cut, done)
+    }
+
+    #[inline(always)]
     fn of_ran(ran: Ran) -> Reply {
         ran.reply
     }
@@ -59,28 +71,20 @@ impl Outcome for Ran {
     ghost is_short = { λ ran. ran.is_short };
 
     fn of_reply(given: Reply) -> Ran {
-        let is_short = is_memory_error(&given);
         Ran {
             reply: given,
-            is_short,
+            is_short: false,
+        }
+    }
+
+    fn of_cut(cut: Stopped, done: u64) -> Ran {
+        Ran {
+            reply: cut_reply(cut, done),
+            is_short: cut.is_memory(),
         }
     }
 
     fn of_ran(ran: Ran) -> Ran {
         ran
-    }
-}
-
-/// Whether it is the error for want of memory, which is the only one whose text does not begin with
-/// `E`.
-fn is_memory_error(reply: &Reply) -> bool
-    ensures { (k : ℕ) → reply_bytes reply.now ≡ bytes_of (cut_error k Memory) → result ≡ true }
-{
-    match reply {
-        Reply::Error { text, .. } => match text.as_bytes() {
-            [b'E', ..] => false,
-            _ => true,
-        },
-        _ => false,
     }
 }

@@ -1,13 +1,14 @@
 //! Replies of commands.
 
-ghost use Rattle.std.specs.Prelude.{IfOk, IsTrue, None, OnErr, Some, map, option_map, ◌<◌, ◌^◌, ◌≡◌};
+ghost use Rattle.std.specs.Prelude.{IsTrue, None, Some, map, option_map, ◌<◌, ◌^◌, ◌≡◌};
 ghost use Rattle.zq_commands.specs.Arrays.{are_writable, array_bytes};
 ghost use Rattle.zq_commands.specs.Stopped.{want_of};
-ghost use Rattle.zq_commands.specs.Running.{IsRead};
+ghost use Rattle.zq_commands.specs.Running.{IsRead, IsReadAs};
 ghost use Rattle.zq_semantics.specs.Replies as plan;
-ghost use Rattle.zq_semantics.specs.Run.{ForReply, Memory, cut_text, is_long};
+ghost use Rattle.zq_semantics.specs.Run.{ForReply, cut_text, is_long};
 ghost use Rattle.zq_resp.specs.Reply.{is_writable, reply_bytes};
 
+use crate::ran::Outcome;
 use crate::stopped::Stopped;
 use std::alloc::{AllocError, Global};
 use zq_resp::{Reply, Text};
@@ -27,9 +28,22 @@ pub fn message_reply(alloc: Global, message: Option<&[u8]>) -> Reply
         (plan.ping_reply (option_map (λ m. m.now) message.entry)) (reply_bytes result) }
     ensures writable { IsTrue (is_writable result) }
 {
+    answer_message(alloc, message)
+}
+
+/// The same, with whether memory was refused.
+pub fn answer_message<O: Outcome>(alloc: Global, message: Option<&[u8]>) -> O
+    ensures read { IsReadAs (ForReply (is_long (option_map (λ m. m.now) message.entry)) 0)
+        (plan.ping_reply (option_map (λ m. m.now) message.entry)) (reply_bytes (O.reply result))
+        (O.is_short result) }
+    ensures writable { IsTrue (is_writable (O.reply result)) }
+{
     match message {
-        None => Reply::Simple("PONG"),
-        Some(message) => text_reply(Text::from_slice(alloc, message)),
+        None => O::of_reply(Reply::Simple("PONG")),
+        Some(message) => match Text::from_slice(alloc, message) {
+            Ok(text) => O::of_reply(Reply::Bulk(text)),
+            Err(AllocError) => O::of_cut(Stopped::NoMemory, 0),
+        },
     }
 }
 
@@ -41,19 +55,6 @@ pub fn score_reply(score: Option<i128>) -> Reply
     match score {
         None => Reply::NullBulk,
         Some(score) => Reply::Number(score),
-    }
-}
-
-/// The text, and an error where there was no memory for it.
-fn text_reply(text: Result<Text, AllocError>) -> Reply
-    ensures text { IfOk text (λ text. reply_bytes result ≡ plan.bytes_of (plan.Bulk text.items)) }
-    ensures refused { OnErr text
-        (reply_bytes result ≡ plan.bytes_of (plan.Error (cut_text Memory) (Some 0))) }
-    ensures writable { IsTrue (is_writable result) }
-{
-    match text {
-        Ok(text) => Reply::Bulk(text),
-        Err(AllocError) => cut_reply(Stopped::NoMemory, 0),
     }
 }
 

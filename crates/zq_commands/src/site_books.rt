@@ -183,6 +183,7 @@ fn empty(alloc: Global, heap: u8, heaps: u8, rule: Rule, hasher: Seeded) -> Book
     ensures bounded { IsBounded result.heaps result.heap result.state }
 {
     let book = Book::new(alloc, Shard::new_ruled(alloc, heap, heaps, rule, hasher));
+    // For the proof: the book's state is within bounds.
     let _vector = book.shard().vector();
     book
 }
@@ -197,6 +198,7 @@ fn take_in(book: &mut Book, alloc: Global, stamp: u64, op: &Op) -> Result<Taken,
     ensures stamp { book.new.stamp ≤ stamp }
 {
     let taken = book.take(alloc, stamp, op);
+    // For the proof: the book's state is within bounds.
     let _vector = book.shard().vector();
     taken
 }
@@ -211,6 +213,7 @@ fn merge_in(book: &mut Book, alloc: Global, stamp: u64, other: &Shard) -> Result
     ensures stamp { book.new.stamp ≤ stamp }
 {
     let merged = book.merge(alloc, stamp, other);
+    // For the proof: the book's state is within bounds.
     let _vector = book.shard().vector();
     merged
 }

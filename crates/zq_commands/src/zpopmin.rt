@@ -1,56 +1,48 @@
 //! ZPOPMIN and ZPOPNEAR.
 
-ghost use Rattle.std.specs.Prelude.{IsErrOf, IsTrue, Ok, OnErr, Some, [], false, length, map, slice_get, true, ◌<◌, ◌≡◌, ◌≤◌};
+ghost use Rattle.std.specs.Prelude.{IsErrOf, IsTrue, Ok, OnErr, Some, [], false, length, map, true, ◌<◌, ◌≡◌, ◌≤◌};
 ghost use Rattle.zq_commands.specs.Arrays.{are_writable, array_bytes};
 ghost use Rattle.zq_commands.specs.Stopped.{want_of};
 ghost use Rattle.zq_commands.specs.Lending.{IsDated, IsLending, queues_in};
 ghost use Rattle.zq_commands.specs.Running.{EndsOver};
-ghost use Rattle.zq_commands.specs.FirstPairs.{PopsFirst};
+ghost use Rattle.zq_commands.specs.FirstPairs.{IsFirstWorn, PopsFirst};
 ghost use Rattle.zq_model.specs.Operation.{LONGEST};
 ghost use Rattle.zq_semantics.specs.Plan as plan;
 ghost use Rattle.zq_semantics.specs.Replies as replies;
-ghost use Rattle.zq_semantics.specs.Run.{ForCopies, IsWhy, Memory, Number, cut_pop, cut_text};
+ghost use Rattle.zq_semantics.specs.Run.{ForCopies, cut_pop, cut_text};
 ghost use Rattle.zq_resp.specs.Reply.{is_writable, reply_bytes};
 
 use crate::books::Books;
+use crate::call::Call;
 use crate::first_pair::{Copied, copy_top, drop_top};
-use crate::ran::Ran;
+use crate::ran::{Outcome, Ran};
 use crate::replies::{array_reply, cut_reply};
 use crate::stopped::Stopped;
-use std::alloc::Global;
-use zq_dots::SiteNo;
 use zq_resp::Reply;
 
 /// Drops the first so many pairs of a key, one after the other, and answers them with their scores.
 /// Where one is refused, it answers those before, and an error where there are none. It is short
 /// where memory was refused.
-pub fn pop<B: Books>(
-    books: &mut B,
-    alloc: Global,
-    site: SiteNo,
-    stamp: u64,
-    key: &[u8],
-    count: u64,
-) -> Ran
+pub fn pop<B: Books>(books: &mut B, call: &Call, key: &[u8], count: u64) -> Ran
     requires lent { IsLending (B.lent books.old) }
-    requires dated { IsDated stamp (B.lent books.old) }
+    requires dated { IsDated call.now.stamp (B.lent books.old) }
     requires key { length key.now ≤ LONGEST }
-    ensures ran { EndsOver site stamp ForCopies
-        (plan.pop key.now (count) (queues_in (B.lent books.old)))
+    ensures ran { EndsOver call.now.site call.now.stamp ForCopies
+        (plan.pop key.now count (queues_in (B.lent books.old)))
         (cut_pop (Some (key.now, count)) (queues_in (B.lent books.old)))
         (B.lent books.old) (B.lent books.new) (reply_bytes result.reply) result.is_short }
     ensures lent { IsLending (B.lent books.new) }
-    ensures dated { IsDated stamp (B.lent books.new) }
+    ensures dated { IsDated call.now.stamp (B.lent books.new) }
     ensures keeps { B.keeps books.old books.new }
     ensures writable { IsTrue (is_writable result.reply) }
 {
     if count == 1 {
-        return pop_first(books, alloc, site, stamp, key);
+        return pop_first(books, call, key);
     }
-    let mut parts = Vec::new(alloc);
+    let mut parts = Vec::new(call.alloc);
     let mut done = 0;
     while done < count {
-        match pop_one(books, alloc, site, stamp, key, &mut parts) {
+        match pop_one(books, call, key, &mut parts) {
             Ok(true) => done += 1,
             Ok(false) => return whole(parts),
             Err(cut) => {
@@ -65,47 +57,35 @@ pub fn pop<B: Books>(
 }
 
 /// A pop of one pair. Its reply takes no memory where the member has at most 16 bytes.
-fn pop_first<B: Books>(books: &mut B, alloc: Global, site: SiteNo, stamp: u64, key: &[u8]) -> Ran
+fn pop_first<B: Books>(books: &mut B, call: &Call, key: &[u8]) -> Ran
     requires lent { IsLending (B.lent books.old) }
-    requires dated { IsDated stamp (B.lent books.old) }
+    requires dated { IsDated call.now.stamp (B.lent books.old) }
     requires key { length key.now ≤ LONGEST }
-    ensures ran { EndsOver site stamp ForCopies (plan.pop key.now 1 (queues_in (B.lent books.old)))
+    ensures ran { EndsOver call.now.site call.now.stamp ForCopies
+        (plan.pop key.now 1 (queues_in (B.lent books.old)))
         (cut_pop (Some (key.now, 1)) (queues_in (B.lent books.old)))
         (B.lent books.old) (B.lent books.new) (reply_bytes result.reply) result.is_short }
     ensures lent { IsLending (B.lent books.new) }
-    ensures dated { IsDated stamp (B.lent books.new) }
+    ensures dated { IsDated call.now.stamp (B.lent books.new) }
     ensures keeps { B.keeps books.old books.new }
     ensures writable { IsTrue (is_writable result.reply) }
 {
-    let pair = match copy_top(books, alloc, key) {
+    let pair = match copy_top(books, call.alloc, key) {
         Ok(Some(pair)) => pair,
-        Ok(None) => return whole(Vec::new(alloc)),
-        Err(cut) => return refused(cut),
+        Ok(None) => return whole(Vec::new(call.alloc)),
+        Err(cut) => return Ran::of_cut(cut, 0),
     };
-    match drop_top(books, alloc, pair.place, site, stamp, key, &pair.member) {
+    match drop_top(books, call, pair.place, key, &pair.member) {
         Ok(()) => {}
         Err(cut) => {
             drop(pair);
-            return refused(cut);
+            return Ran::of_cut(cut, 0);
         }
     }
     let Copied { member, score, .. } = pair;
     Ran {
         reply: Reply::Pair(member, score),
         is_short: false,
-    }
-}
-
-/// The error of a pop that dropped nothing.
-fn refused(cut: Stopped) -> Ran
-    ensures bytes { reply_bytes result.reply
-        ≡ replies.bytes_of (replies.Error (cut_text (want_of cut)) (Some 0)) }
-    ensures writable { IsTrue (is_writable result.reply) }
-    ensures short { want_of cut ≡ Memory → result.is_short ≡ true }
-{
-    Ran {
-        reply: cut_reply(cut, 0),
-        is_short: cut.is_memory(),
     }
 }
 
@@ -141,17 +121,15 @@ fn cut_pop_reply(parts: Vec<Reply>, done: u64, cut: Stopped) -> Reply
 /// There is room for them first.
 fn pop_one<B: Books>(
     books: &mut B,
-    alloc: Global,
-    site: SiteNo,
-    stamp: u64,
+    call: &Call,
     key: &[u8],
     parts: &mut Vec<Reply>,
 ) -> Result<bool, Stopped>
     requires lent { IsLending (B.lent books.old) }
-    requires dated { IsDated stamp (B.lent books.old) }
+    requires dated { IsDated call.now.stamp (B.lent books.old) }
     requires key { length key.now ≤ LONGEST }
     ensures popped { result ≡ Ok true →
-        PopsFirst site stamp key.now (B.lent books.old) (B.lent books.new)
+        PopsFirst call.now.site call.now.stamp key.now (B.lent books.old) (B.lent books.new)
         (map reply_bytes parts.old.items) (map reply_bytes parts.new.items) }
     ensures empty { result ≡ Ok false → queues_in (B.lent books.old) key.now ≡ [] }
     ensures idle { result ≡ Ok false → B.lent books.new ≡ B.lent books.old }
@@ -159,16 +137,15 @@ fn pop_one<B: Books>(
     ensures refused { OnErr result (B.lent books.new ≡ B.lent books.old) }
     ensures kept { OnErr result (parts.new.items ≡ parts.old.items) }
     ensures worn { IsErrOf result Stopped.Worn →
-        IsWhy site (slice_get (plan.drops key.now (queues_in (B.lent books.old) key.now)) 0)
-        (B.lent books.old).books Number }
+        IsFirstWorn call.now.site key.now (B.lent books.old) }
     ensures there { OnErr result (IsTrue (plan.is_there (queues_in (B.lent books.old) key.now))) }
     ensures lent { IsLending (B.lent books.new) }
-    ensures dated { IsDated stamp (B.lent books.new) }
+    ensures dated { IsDated call.now.stamp (B.lent books.new) }
     ensures keeps { B.keeps books.old books.new }
     ensures writable { IsTrue (are_writable parts.old.items) →
         IsTrue (are_writable parts.new.items) }
 {
-    let pair = match copy_top(books, alloc, key)? {
+    let pair = match copy_top(books, call.alloc, key)? {
         Some(pair) => pair,
         None => return Ok(false),
     };
@@ -176,7 +153,7 @@ fn pop_one<B: Books>(
         drop(pair);
         return Err(Stopped::NoMemory);
     }
-    match drop_top(books, alloc, pair.place, site, stamp, key, &pair.member) {
+    match drop_top(books, call, pair.place, key, &pair.member) {
         Ok(()) => {}
         Err(cut) => {
             drop(pair);

@@ -3,7 +3,7 @@
 ghost use Rattle.std.specs.Prelude.{IfOk, IsTrue, OnErr, Some, [], count_by, drop, filter, length, map, option_map, slice_get, slice_range, take, ◌∷◌, ◌<◌, ◌≡◌};
 ghost use Rattle.zq_commands.specs.FirstPairs.{lent_pair};
 ghost use Rattle.zq_commands.specs.Lending.{IsLending, queues_in};
-ghost use Rattle.zq_commands.specs.Running.{IsRead};
+ghost use Rattle.zq_commands.specs.Running.{IsReadAs};
 ghost use Rattle.zq_commands.specs.Starts.{is_read};
 ghost use Rattle.zq_model.specs.Books.{Book};
 ghost use Rattle.zq_model.specs.Lent.{queues_of};
@@ -17,44 +17,43 @@ use crate::books::Books;
 use crate::merging::merge;
 use crate::pairs::pairs_reply;
 use crate::places::{count_ahead, first_place};
+use crate::ran::Outcome;
 use crate::range_section::Section;
 use crate::range_start::find_start;
-use crate::replies::cut_reply;
 use crate::stopped::Stopped;
 use crate::totals::{total_members, total_within};
 use std::alloc::{AllocError, Global};
-use zq_resp::Reply;
 use zq_words::Range;
 
 /// The pairs that a range takes of a key's queue, or of it turned round.
-pub fn read_range<B: Books>(
+pub fn read_range<B: Books, O: Outcome>(
     books: &B,
     alloc: Global,
     key: &[u8],
     range: &Range,
     is_turned: bool,
     with_scores: bool,
-) -> Reply
+) -> O
     requires { IsLending (B.lent books.now) }
-    ensures read { IsRead
+    ensures read { IsReadAs
         (ForReply (is_there (ranged range.now
         (turned_if is_turned (queues_in (B.lent books.now) key.now))))
         (length (queues_in (B.lent books.now) key.now)))
         (plan.pairs_reply with_scores
         (ranged range.now (turned_if is_turned (queues_in (B.lent books.now) key.now))))
-        (reply_bytes result) }
-    ensures writable { IsTrue (is_writable result) }
+        (reply_bytes (O.reply result)) (O.is_short result) }
+    ensures writable { IsTrue (is_writable (O.reply result)) }
 {
     let Some(size) = total_members(books, key) else {
-        return cut_reply(Stopped::NoMemory, 0);
+        return O::of_cut(Stopped::NoMemory, 0);
     };
     let section = Section::of_range(range, size);
     let Some(within) = total_within(books, key, &section.min, &section.max) else {
-        return cut_reply(Stopped::NoMemory, 0);
+        return O::of_cut(Stopped::NoMemory, 0);
     };
     match section_pairs(books, alloc, key, is_turned, &section, within) {
         Ok((pairs, before)) => pairs_reply(alloc, &pairs, before, with_scores),
-        Err(AllocError) => cut_reply(Stopped::NoMemory, 0),
+        Err(AllocError) => O::of_cut(Stopped::NoMemory, 0),
     }
 }
 

@@ -1,4 +1,4 @@
-use Rattle.std.proofs.Common.{[], arith, length, subst, ◌≡◌}
+use Rattle.std.proofs.Common.{[], ap, arith, length, subst, ◌∙◌, ◌≡◌}
 use Rattle.std.proofs.lemmas.List.{length-map}
 use Rattle.std.proofs.lemmas.List.Elements.{All-get_or}
 use Rattle.std.proofs.lemmas.Option.{get_or_from_slice_get}
@@ -8,6 +8,7 @@ use Rattle.zq_commands.proofs.RanPlans.{ran_whole}
 use Rattle.zq_commands.proofs.WordsAt.{word_at}
 use Rattle.zq_semantics.specs.Plan.{del_part}
 use Rattle.zq_semantics.specs.Run.{ForCopies}
+use Rattle.zq_resp.specs.Reply.{reply_bytes}
 use Rattle.zq_words.specs.Limits.{IsShort}
 use Rattle.zq_words.specs.Words.{views}
 use Rattle.zq_commands.proofs.del.clear_keys.Goals as goal
@@ -24,10 +25,10 @@ pub returns-in-Some-clause-ran : goal.returns-in-Some-clause-ran
 returns-in-Some-clause-ran g c =
     let words = c.args.keys.now in
     let i = c.loop-key.key-index in
-    keys_cut c.args.site c.args.stamp (views words) i c.deref.result.now (g.B.Books.lent c.args.books.now) (g.B.Books.lent c.loop-key.books) (g.B.Books.lent c.clear_key-cleared.new.books)
+    keys_cut c.args.call.now.site c.args.call.now.stamp (views words) i c.deref.result.now (g.B.Books.lent c.args.books.now) (g.B.Books.lent c.loop-key.books) (g.B.Books.lent c.clear_key-cleared.new.books)
     c.loop-key.counted c.loop-key.done c.loop-key.invariant.stands
     (word_at words i c.key-item.result c.deref.result.now c.loop-key-test.true c.key-item.is c.deref.ensures.value)
-    c.clear_key-cleared.result c.clear_key-cleared.ensures.cleared c.in-Some.cut c.in-Some.is _ c.cut_reply.ensures.bytes
+    c.clear_key-cleared.result c.clear_key-cleared.ensures.cleared c.in-Some.cut c.in-Some.is _ _ c.of_cut.ensures.bytes c.of_cut.ensures.short
 
 pub loop-key-preserved : goal.loop-key-preserved
 loop-key-preserved g c =
@@ -37,7 +38,7 @@ loop-key-preserved g c =
     let few = c.loop-key.invariant.few in
     record {
       stands =
-          keys_next c.args.site c.args.stamp (views words) i c.deref.result.now (g.B.Books.lent c.args.books.now) (g.B.Books.lent c.loop-key.books) (g.B.Books.lent c.clear_key-cleared.new.books)
+          keys_next c.args.call.now.site c.args.call.now.stamp (views words) i c.deref.result.now (g.B.Books.lent c.args.books.now) (g.B.Books.lent c.loop-key.books) (g.B.Books.lent c.clear_key-cleared.new.books)
           c.loop-key.counted c.loop-key.done c.loop-key.invariant.stands
           (word_at words i c.key-item.result c.deref.result.now c.loop-key-test.true c.key-item.is c.deref.ensures.value)
           c.clear_key-cleared.result c.clear_key-cleared.ensures.cleared c.one_if_more-counted.result c.in-None.is c.one_if_more-counted.ensures.more c.one_if_more-counted.ensures.none;
@@ -51,6 +52,6 @@ pub returns-clause-ran : goal.returns-clause-ran
 returns-clause-ran g c =
     let words = c.args.keys.now in
     let all : c.loop-key.key-index ≡ length (views words) = omega (arith, c.loop-key-test.false, c.loop-key.auto.key-index-end, length-map words (λ w. w.items)) in
-    ran_whole del_part c.args.site c.args.stamp (views words) (g.B.Books.lent c.args.books.now) (g.B.Books.lent c.loop-key.books) c.loop-key.counted c.loop-key.done ForCopies
-    (subst (λ n. StandsAfter del_part c.args.site c.args.stamp (views words) n (g.B.Books.lent c.args.books.now) (g.B.Books.lent c.loop-key.books) c.loop-key.counted c.loop-key.done) all c.loop-key.invariant.stands)
-    _ c.count_reply.ensures.bytes
+    ran_whole del_part c.args.call.now.site c.args.call.now.stamp (views words) (g.B.Books.lent c.args.books.now) (g.B.Books.lent c.loop-key.books) c.loop-key.counted c.loop-key.done ForCopies
+    (subst (λ n. StandsAfter del_part c.args.call.now.site c.args.call.now.stamp (views words) n (g.B.Books.lent c.args.books.now) (g.B.Books.lent c.loop-key.books) c.loop-key.counted c.loop-key.done) all c.loop-key.invariant.stands)
+    _ _ (ap reply_bytes c.of_reply.ensures ∙ c.count_reply.ensures.bytes)

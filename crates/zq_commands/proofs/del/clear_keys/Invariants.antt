@@ -7,9 +7,9 @@ use Rattle.zq_commands.proofs.del.clear_keys.Given as goal
 
 abbrev pub invariant-loop-key : goal.invariant-loop-key
 invariant-loop-key g l = record {
-  stands : StandsAfter del_part l.site l.stamp (views l.keys) l.key-index (g.B.Books.lent l.initial.books) (g.B.Books.lent l.books) l.counted l.done;
+  stands : StandsAfter del_part l.call.site l.call.stamp (views l.keys) l.key-index (g.B.Books.lent l.initial.books) (g.B.Books.lent l.books) l.counted l.done;
   few : l.counted ≤ l.key-index;
   keeps : g.B.Books.keeps l.initial.books l.books;
-  dated : IsDated l.stamp (g.B.Books.lent l.books);
+  dated : IsDated l.call.stamp (g.B.Books.lent l.books);
   lent : IsLending (g.B.Books.lent l.books);
 }

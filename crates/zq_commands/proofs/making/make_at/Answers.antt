@@ -12,8 +12,8 @@ use Rattle.zq_commands.proofs.making.make_at.Goals as goal
 pub returns-clause-queues : goal.returns-clause-queues
 returns-clause-queues g c =
     let move : Move = record { key = c.args.key.now; member = c.args.member.now; act = act_of c.args.act } in
-    let below : c.args.site < SITES = omega (arith, c.value-number.ensures.same, c.value-number.ensures.below) in
-    on_ok_weaker c.make.result (queues_moved c.args.site c.args.stamp move (g.B.Books.lent c.args.books.now) (g.B.Books.lent c.make.new.self) below c.requires.lent (has_book c.args.key.now c.args.member.now c.args.place (g.B.Books.lent c.args.books.now) c.requires.home)) c.make.ensures.made
+    let below : c.args.call.now.site < SITES = omega (arith, c.value-number.ensures.same, c.value-number.ensures.below) in
+    on_ok_weaker c.make.result (queues_moved c.args.call.now.site c.args.call.now.stamp move (g.B.Books.lent c.args.books.now) (g.B.Books.lent c.make.new.self) below c.requires.lent (has_book c.args.key.now c.args.member.now c.args.place (g.B.Books.lent c.args.books.now) c.requires.home)) c.make.ensures.made
 
 pub returns-clause-stood : goal.returns-clause-stood
 returns-clause-stood g c =
@@ -26,6 +26,6 @@ returns-clause-homes g c = λ key member home.
     let old = g.B.Books.lent c.args.books.now in
     let new = g.B.Books.lent c.make.new.self in
     on_both c.make.result
-    (λ (is : new ≡ lent_after c.args.site c.args.stamp move old). subst (HasBook key member) (sym is) (home_kept c.args.site c.args.stamp move key member old home))
+    (λ (is : new ≡ lent_after c.args.call.now.site c.args.call.now.stamp move old). subst (HasBook key member) (sym is) (home_kept c.args.call.now.site c.args.call.now.stamp move key member old home))
     (λ (same : new ≡ old). subst (HasBook key member) (sym same) home)
     c.make.ensures.made c.make.ensures.refused

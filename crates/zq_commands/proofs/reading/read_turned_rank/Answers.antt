@@ -8,6 +8,7 @@ use Rattle.zq_commands.specs.Lending.{queues_in}
 use Rattle.zq_model.specs.Moves.{score_in}
 use Rattle.zq_model.specs.Readings.{is_before}
 use Rattle.zq_semantics.specs.Run.{ForReply}
+use Rattle.zq_resp.specs.Reply.{reply_bytes}
 use Rattle.zq_commands.proofs.reading.read_turned_rank.Goals as goal
 
 pub returns-in-Some-total_after-clause-read : goal.returns-in-Some-total_after-clause-read
@@ -17,4 +18,4 @@ returns-in-Some-total_after-clause-read g c =
     let there : score_in q c.args.member.now ≡ Some score = sym c.score_of.ensures.score ∙ c.in-Some.is in
     let fits : SFits w128 score = search rules in
     turned_rank_read q c.args.member.now score c.in-Some-total_after.total _ there
-    (c.in-Some-total_after.ensures.total ∙ ap (λ s. count_by (λ pair. is_before (s, c.args.member.now) pair) q) (to_z-of_z w128 score fits)) c.count_reply.ensures.bytes (ForReply false (length q))
+    (c.in-Some-total_after.ensures.total ∙ ap (λ s. count_by (λ pair. is_before (s, c.args.member.now) pair) q) (to_z-of_z w128 score fits)) (ap reply_bytes c.of_reply-in-Some-total_after.ensures ∙ c.count_reply.ensures.bytes) (ForReply false (length q)) _

@@ -1,7 +1,7 @@
 use Rattle.std.proofs.Common.{subst, sym}
 use Rattle.zq_commands.specs.Commands.{HasBooks}
 use Rattle.zq_commands.specs.Lending.{queues_in}
-use Rattle.zq_commands.specs.Running.{IsRead}
+use Rattle.zq_commands.specs.Running.{IsReadAs}
 use Rattle.zq_semantics.specs.Plan.{plan_of}
 use Rattle.zq_semantics.specs.Run.{takes_of}
 use Rattle.zq_resp.specs.Reply.{reply_bytes}
@@ -20,11 +20,11 @@ read_turned_rank-requires-clause-home g c = subst (λ kind. HasBooks (shown kind
 
 pub returns-in-Zcount-clause-read : goal.returns-in-Zcount-clause-read
 returns-in-Zcount-clause-read g c =
-    subst (λ kind. IsRead (takes_of (shown kind) (queues_in (g.B.Books.lent c.args.books.now))) (plan_of (shown kind) (queues_in (g.B.Books.lent c.args.books.now))).reply (reply_bytes c.read_within.result)) (sym c.in-Zcount.is) c.read_within.ensures.read
+    subst (λ kind. IsReadAs (takes_of (shown kind) (queues_in (g.B.Books.lent c.args.books.now))) (plan_of (shown kind) (queues_in (g.B.Books.lent c.args.books.now))).reply (reply_bytes (g.O.Outcome.reply c.read_within.result)) (g.O.Outcome.is_short c.read_within.result)) (sym c.in-Zcount.is) c.read_within.ensures.read
 
 pub returns-in-Zrange-clause-read : goal.returns-in-Zrange-clause-read
 returns-in-Zrange-clause-read g c =
-    subst (λ kind. IsRead (takes_of (shown kind) (queues_in (g.B.Books.lent c.args.books.now))) (plan_of (shown kind) (queues_in (g.B.Books.lent c.args.books.now))).reply (reply_bytes c.read_range.result)) (sym c.in-Zrange.is) c.read_range.ensures.read
+    subst (λ kind. IsReadAs (takes_of (shown kind) (queues_in (g.B.Books.lent c.args.books.now))) (plan_of (shown kind) (queues_in (g.B.Books.lent c.args.books.now))).reply (reply_bytes (g.O.Outcome.reply c.read_range.result)) (g.O.Outcome.is_short c.read_range.result)) (sym c.in-Zrange.is) c.read_range.ensures.read
 
 pub read_score-requires-clause-key : goal.read_score-requires-clause-key
 read_score-requires-clause-key g c = (subst (λ kind. IsWithinLimits (shown kind)) c.in-Zscore.is c.requires.limits).0

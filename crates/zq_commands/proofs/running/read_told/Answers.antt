@@ -17,6 +17,6 @@ read-requires-clause-reads g c = subst (λ command. is_reading command ≡ true)
 
 pub returns-clause-read : goal.returns-clause-read
 returns-clause-read g c = λ whole.
-    let read : reply_bytes c.of_reply.result.reply ≡ bytes_of (plan_of (shown c.kind.result.now) (queues_in (g.B.Books.lent c.args.books.now))).reply
-    = read_whole _ _ c.read.result c.of_reply.result c.of_reply.ensures.reply c.of_reply.ensures.short c.read.ensures.read whole in
-    subst (λ (command : Command). reply_bytes c.of_reply.result.reply ≡ bytes_of (plan_of command (queues_in (g.B.Books.lent c.args.books.now))).reply) c.kind.ensures.kind read
+    let read : reply_bytes c.read.result.reply ≡ bytes_of (plan_of (shown c.kind.result.now) (queues_in (g.B.Books.lent c.args.books.now))).reply
+    = read_whole _ _ _ _ c.read.ensures.read whole in
+    subst (λ (command : Command). reply_bytes c.read.result.reply ≡ bytes_of (plan_of command (queues_in (g.B.Books.lent c.args.books.now))).reply) c.kind.ensures.kind read

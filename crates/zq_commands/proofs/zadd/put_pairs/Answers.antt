@@ -8,6 +8,7 @@ use Rattle.zq_commands.proofs.RanPlans.{ran_cut, ran_whole}
 use Rattle.zq_commands.specs.Lending.{HasBook}
 use Rattle.zq_semantics.specs.Plan.{zadd_part}
 use Rattle.zq_semantics.specs.Run.{ForMoves}
+use Rattle.zq_resp.specs.Reply.{reply_bytes}
 use Rattle.zq_words.specs.Limits.{IsPair}
 use Rattle.zq_words.specs.Shown.{pair_shown}
 use Rattle.zq_words.specs.declared.pair.Pair.{Pair}
@@ -43,16 +44,16 @@ returns-in-Err-clause-ran g c =
     let pairs = c.args.pairs.now in
     let i = c.loop-pair.pair-index in
     rw c.in-Err.ensures.refused
-    (ran_cut (zadd_part c.args.key.now c.args.flags) c.args.site c.args.stamp (map pair_shown pairs) (g.B.Books.lent c.args.books.now) (g.B.Books.lent c.loop-pair.books) c.loop-pair.counted c.loop-pair.done
+    (ran_cut (zadd_part c.args.key.now c.args.flags) c.args.call.now.site c.args.call.now.stamp (map pair_shown pairs) (g.B.Books.lent c.args.books.now) (g.B.Books.lent c.loop-pair.books) c.loop-pair.counted c.loop-pair.done
     c.in-Err.cut i _ _ c.loop-pair.invariant.stands (pair_at pairs i c.loop-pair-test.true) c.in-Err.ensures.there
-    (λ e. c.in-Err.ensures.worn (ap (λ cut. Err cut) e)) (λ e. c.in-Err.ensures.memory (ap (λ cut. Err cut) e)) _ c.cut_reply.ensures.bytes)
+    (λ e. c.in-Err.ensures.worn (ap (λ cut. Err cut) e)) (λ e. c.in-Err.ensures.memory (ap (λ cut. Err cut) e)) _ _ c.of_cut.ensures.bytes c.of_cut.ensures.short)
 
 pub loop-pair-preserved : goal.loop-pair-preserved
 loop-pair-preserved g c =
     let pairs = c.args.pairs.now in
     let i = c.loop-pair.pair-index in
     record {
-      stands = stands_next (zadd_part c.args.key.now c.args.flags) c.args.site c.args.stamp (map pair_shown pairs) i _ (g.B.Books.lent c.args.books.now) (g.B.Books.lent c.loop-pair.books)
+      stands = stands_next (zadd_part c.args.key.now c.args.flags) c.args.call.now.site c.args.call.now.stamp (map pair_shown pairs) i _ (g.B.Books.lent c.args.books.now) (g.B.Books.lent c.loop-pair.books)
           (g.B.Books.lent c.put_one.new.books) c.loop-pair.counted c.loop-pair.done c.in-Ok.made
           c.loop-pair.invariant.stands (pair_at pairs i c.loop-pair-test.true) c.in-Ok.ensures.steps;
       few = omega (arith, c.loop-pair.invariant.few, c.in-Ok.ensures.one);
@@ -67,9 +68,9 @@ pub returns-clause-ran : goal.returns-clause-ran
 returns-clause-ran g c =
     let pairs = c.args.pairs.now in
     let all : c.loop-pair.pair-index ≡ length (map pair_shown pairs) = omega (arith, c.loop-pair-test.false, c.loop-pair.auto.pair-index-end, length-map pairs pair_shown) in
-    ran_whole (zadd_part c.args.key.now c.args.flags) c.args.site c.args.stamp (map pair_shown pairs) (g.B.Books.lent c.args.books.now) (g.B.Books.lent c.loop-pair.books) c.loop-pair.counted c.loop-pair.done ForMoves
-    (subst (λ n. StandsAfter (zadd_part c.args.key.now c.args.flags) c.args.site c.args.stamp (map pair_shown pairs) n (g.B.Books.lent c.args.books.now) (g.B.Books.lent c.loop-pair.books) c.loop-pair.counted c.loop-pair.done) all c.loop-pair.invariant.stands)
-    _ c.count_reply.ensures.bytes
+    ran_whole (zadd_part c.args.key.now c.args.flags) c.args.call.now.site c.args.call.now.stamp (map pair_shown pairs) (g.B.Books.lent c.args.books.now) (g.B.Books.lent c.loop-pair.books) c.loop-pair.counted c.loop-pair.done ForMoves
+    (subst (λ n. StandsAfter (zadd_part c.args.key.now c.args.flags) c.args.call.now.site c.args.call.now.stamp (map pair_shown pairs) n (g.B.Books.lent c.args.books.now) (g.B.Books.lent c.loop-pair.books) c.loop-pair.counted c.loop-pair.done) all c.loop-pair.invariant.stands)
+    _ _ (ap reply_bytes c.of_reply.ensures ∙ c.count_reply.ensures.bytes)
 
 pub returns-clause-lent : goal.returns-clause-lent
 returns-clause-lent g c = c.loop-pair.invariant.lent

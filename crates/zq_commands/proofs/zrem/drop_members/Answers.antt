@@ -1,4 +1,4 @@
-use Rattle.std.proofs.Common.{Err, ap, arith, length, subst, true, ◌+◌, ◌≡◌}
+use Rattle.std.proofs.Common.{Err, ap, arith, length, subst, true, ◌+◌, ◌∙◌, ◌≡◌}
 use Rattle.std.proofs.lemmas.List.{length-map}
 use Rattle.std.proofs.lemmas.List.Elements.{All-get_or}
 use Rattle.std.proofs.lemmas.Option.{get_or_from_slice_get}
@@ -9,6 +9,7 @@ use Rattle.zq_commands.proofs.WordsAt.{word_at}
 use Rattle.zq_commands.specs.Lending.{HasBook}
 use Rattle.zq_semantics.specs.Plan.{zrem_part}
 use Rattle.zq_semantics.specs.Run.{ForMoves}
+use Rattle.zq_resp.specs.Reply.{reply_bytes}
 use Rattle.zq_words.specs.Limits.{IsShort}
 use Rattle.zq_words.specs.Words.{views}
 use Rattle.zq_commands.proofs.zrem.drop_members.Goals as goal
@@ -38,19 +39,19 @@ returns-in-Err-clause-ran g c =
     let words = c.args.members.now in
     let i = c.loop-member.member-index in
     rw c.in-Err.ensures.refused
-    (ran_cut (zrem_part c.args.key.now) c.args.site c.args.stamp (views words) (g.B.Books.lent c.args.books.now) (g.B.Books.lent c.loop-member.books) c.loop-member.removed c.loop-member.removed
+    (ran_cut (zrem_part c.args.key.now) c.args.call.now.site c.args.call.now.stamp (views words) (g.B.Books.lent c.args.books.now) (g.B.Books.lent c.loop-member.books) c.loop-member.removed c.loop-member.removed
     c.in-Err.cut i c.deref.result.now _ c.loop-member.invariant.stands (word_at words i c.member-item.result c.deref.result.now c.loop-member-test.true c.member-item.is c.deref.ensures.value) c.in-Err.ensures.there
-    (λ e. c.in-Err.ensures.worn (ap (λ cut. Err cut) e)) (λ e. c.in-Err.ensures.memory (ap (λ cut. Err cut) e)) _ c.cut_reply.ensures.bytes)
+    (λ e. c.in-Err.ensures.worn (ap (λ cut. Err cut) e)) (λ e. c.in-Err.ensures.memory (ap (λ cut. Err cut) e)) _ _ c.of_cut.ensures.bytes c.of_cut.ensures.short)
 
 pub loop-member-preserved : goal.loop-member-preserved
 loop-member-preserved g c =
     let words = c.args.members.now in
     let i = c.loop-member.member-index in
-    let next = stands_next (zrem_part c.args.key.now) c.args.site c.args.stamp (views words) i c.deref.result.now (g.B.Books.lent c.args.books.now) (g.B.Books.lent c.loop-member.books)
+    let next = stands_next (zrem_part c.args.key.now) c.args.call.now.site c.args.call.now.stamp (views words) i c.deref.result.now (g.B.Books.lent c.args.books.now) (g.B.Books.lent c.loop-member.books)
     (g.B.Books.lent c.drop_one.new.books) c.loop-member.removed c.loop-member.removed c.in-Ok.made
     c.loop-member.invariant.stands (word_at words i c.member-item.result c.deref.result.now c.loop-member-test.true c.member-item.is c.deref.ensures.value) c.in-Ok.ensures.steps in
     record {
-      stands = subst (λ n. StandsAfter (zrem_part c.args.key.now) c.args.site c.args.stamp (views words) (i + 1) (g.B.Books.lent c.args.books.now) (g.B.Books.lent c.drop_one.new.books) (c.loop-member.removed + n) (c.loop-member.removed + c.in-Ok.made.moves)) c.in-Ok.ensures.one next;
+      stands = subst (λ n. StandsAfter (zrem_part c.args.key.now) c.args.call.now.site c.args.call.now.stamp (views words) (i + 1) (g.B.Books.lent c.args.books.now) (g.B.Books.lent c.drop_one.new.books) (c.loop-member.removed + n) (c.loop-member.removed + c.in-Ok.made.moves)) c.in-Ok.ensures.one next;
       few = omega (arith, c.loop-member.invariant.few, c.in-Ok.ensures.most);
       keeps = g.met.B.Books.keeps_through _ _ _ c.loop-member.invariant.keeps c.in-Ok.ensures.keeps;
       dated = c.in-Ok.ensures.dated;
@@ -62,9 +63,9 @@ pub returns-clause-ran : goal.returns-clause-ran
 returns-clause-ran g c =
     let words = c.args.members.now in
     let all : c.loop-member.member-index ≡ length (views words) = omega (arith, c.loop-member-test.false, c.loop-member.auto.member-index-end, length-map words (λ w. w.items)) in
-    ran_whole (zrem_part c.args.key.now) c.args.site c.args.stamp (views words) (g.B.Books.lent c.args.books.now) (g.B.Books.lent c.loop-member.books) c.loop-member.removed c.loop-member.removed ForMoves
-    (subst (λ n. StandsAfter (zrem_part c.args.key.now) c.args.site c.args.stamp (views words) n (g.B.Books.lent c.args.books.now) (g.B.Books.lent c.loop-member.books) c.loop-member.removed c.loop-member.removed) all c.loop-member.invariant.stands)
-    _ c.count_reply.ensures.bytes
+    ran_whole (zrem_part c.args.key.now) c.args.call.now.site c.args.call.now.stamp (views words) (g.B.Books.lent c.args.books.now) (g.B.Books.lent c.loop-member.books) c.loop-member.removed c.loop-member.removed ForMoves
+    (subst (λ n. StandsAfter (zrem_part c.args.key.now) c.args.call.now.site c.args.call.now.stamp (views words) n (g.B.Books.lent c.args.books.now) (g.B.Books.lent c.loop-member.books) c.loop-member.removed c.loop-member.removed) all c.loop-member.invariant.stands)
+    _ _ (ap reply_bytes c.of_reply.ensures ∙ c.count_reply.ensures.bytes)
 
 pub returns-clause-lent : goal.returns-clause-lent
 returns-clause-lent g c = c.loop-member.invariant.lent

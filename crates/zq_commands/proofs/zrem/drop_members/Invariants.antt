@@ -7,10 +7,10 @@ use Rattle.zq_commands.proofs.zrem.drop_members.Given as goal
 
 abbrev pub invariant-loop-member : goal.invariant-loop-member
 invariant-loop-member g l = record {
-  stands : StandsAfter (zrem_part l.key) l.site l.stamp (views l.members) l.member-index (g.B.Books.lent l.initial.books) (g.B.Books.lent l.books) l.removed l.removed;
+  stands : StandsAfter (zrem_part l.key) l.call.site l.call.stamp (views l.members) l.member-index (g.B.Books.lent l.initial.books) (g.B.Books.lent l.books) l.removed l.removed;
   few : l.removed ≤ l.member-index;
   keeps : g.B.Books.keeps l.initial.books l.books;
-  dated : IsDated l.stamp (g.B.Books.lent l.books);
+  dated : IsDated l.call.stamp (g.B.Books.lent l.books);
   lent : IsLending (g.B.Books.lent l.books);
   homes : (k m : List ℕ) → HasBook k m (g.B.Books.lent l.initial.books) → HasBook k m (g.B.Books.lent l.books);
 }
