@@ -11,7 +11,7 @@ use Rattle.zq_model.specs.Sets.{IsIn}
 use Rattle.zq_notes.proofs.GatheredSets.{AreOnce}
 use Rattle.zq_notes.specs.Does.{AreHeapsFor, Does}
 use Rattle.zq_notes.specs.Notes.{Answer, Asked, Copied, Handed, Joined, Replied, Shown, ToCopy, ToMerge, ToRun, ToShow, ToTake, ToTell, Told}
-use Rattle.zq_spread.specs.Drawn.{drawn, first_drawn, second_drawn}
+use Rattle.zq_semantics.specs.Doing.{drawn, first_drawn, second_drawn}
 use Rattle.zq_words.specs.Command.{Command}
 use Rattle.zq_words.specs.Heaps.{heaps_of}
 use Rattle.zq_words.specs.declared.heaps.Heaps.{Heaps}

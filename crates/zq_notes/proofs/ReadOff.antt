@@ -44,6 +44,7 @@ use Rattle.zq_notes.specs.Readings.{AreLacked, IsAnswerOf, IsCutAt, IsOrShort, I
 use Rattle.zq_semantics.proofs.FewMembers.{few_members}
 use Rattle.zq_semantics.proofs.Lifted.{cut_same, not_popping, takes_same}
 use Rattle.zq_semantics.proofs.Narrow.{plans_same}
+use Rattle.zq_semantics.specs.Doing.{drawn}
 use Rattle.zq_semantics.specs.Plan.{Plan, plan_of}
 use Rattle.zq_semantics.specs.Replies.{bytes_of}
 use Rattle.zq_semantics.specs.Run.{ForCopies, ForMoves, ForReply, IsReadShort, IsRun, IsWhy, IsWhyOf, MayLack, Memory, Number, Takes, Want, cut_error, cut_pop, part, popped_of, takes_of, whole}
@@ -53,7 +54,6 @@ use Rattle.zq_shard.specs.declared.taken.Taken.{Taken}
 use Rattle.zq_spread.specs.Answers.{IsCopied, IsMerged, IsShown, IsSince, IsTaken}
 use Rattle.zq_spread.specs.Commanded.{IsAnswered}
 use Rattle.zq_spread.specs.Dispatch.{HasNear}
-use Rattle.zq_spread.specs.Drawn.{drawn}
 use Rattle.zq_spread.specs.declared.faults.ReadFault.{ReadFault}
 use Rattle.zq_spread.specs.declared.faults.ReadFault.TheVariants as unread
 use Rattle.zq_words.specs.Command.{Command, Del, Ping, Zadd, ZaddIncr, Zcard, Zcount, Zincrby, Zpopmin, Zpopnear, Zrange, Zrank, Zrem, Zrevrank, Zscore}

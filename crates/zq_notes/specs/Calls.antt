@@ -6,9 +6,9 @@ use Rattle.zq_model.specs.Books.{Book}
 use Rattle.zq_notes.specs.Does.{Does}
 use Rattle.zq_notes.specs.Notes.{Answer, Asked, Books, Note}
 use Rattle.zq_notes.specs.Thread.{left_by_all}
+use Rattle.zq_semantics.specs.Doing.{drawn}
 use Rattle.zq_spread.specs.Calls.{IsCall, heaps_of}
 use Rattle.zq_spread.specs.Dispatch.{DoesCommand, HasFoundNone, IsTurnedAway, IsWornOut, all_heaps}
-use Rattle.zq_spread.specs.Drawn.{drawn}
 use Rattle.zq_spread.specs.declared.locked_heap.LockedHeap.{LockedHeap}
 use Rattle.zq_spread.specs.declared.pass.Pass.{Pass}
 use Rattle.zq_spread.specs.declared.site.Site.{Site}

@@ -20,6 +20,7 @@ use Rattle.zq_model.specs.Sets.{AreSame, IsIn, New, in_heap, taken_of, vector_of
 use Rattle.zq_model.specs.Tail.{lacking}
 use Rattle.zq_model.specs.Moves.{Move, Queues}
 use Rattle.zq_notes.specs.Notes.{Answer, Asked, Copied, Handed, Joined, Note, Replied, Shown, ToCopy, ToMerge, ToRun, ToShow, ToTake, ToTell, Told}
+use Rattle.zq_semantics.specs.Doing.{drawn}
 use Rattle.zq_semantics.specs.Plan.{is_there, plan_of}
 use Rattle.zq_semantics.specs.Ranges.{ranged, turned_if}
 use Rattle.zq_semantics.specs.Replies.{bytes_of}
@@ -28,7 +29,6 @@ use Rattle.zq_semantics.specs.Reading.{heaps_in, queues_over}
 use Rattle.zq_shard.specs.Shard.{HeapImage}
 use Rattle.zq_shard.specs.Taken.{answer_of}
 use Rattle.zq_shard.specs.declared.taken.Taken.{Taken}
-use Rattle.zq_spread.specs.Drawn.{drawn}
 use Rattle.zq_spread.specs.declared.faults.ReadFault.{ReadFault}
 use Rattle.zq_spread.specs.declared.faults.ReadFault.TheVariants as unread
 use Rattle.zq_words.specs.Command.{Command, Reading, Zpopnear, Zrange}

@@ -29,7 +29,7 @@ use Rattle.zq_spread.proofs.LeftAsGiven.{left_through, none_held, worked_after}
 use Rattle.zq_spread.specs.Calls.{AreWorkedIn, greatest_stamp, heaps_of}
 use Rattle.zq_spread.specs.Dispatch.{HasFoundNone, HasHeldEach, HasPassedOver, HasQueued, IsCommand, IsNear, IsWornOut, all_heaps}
 use Rattle.zq_spread.specs.LockedHeaps.{Follows, follows_further}
-use Rattle.zq_spread.specs.Passes.{IsCountOf, IsPassOf, IsRoomAt, IsSeatOf, IsSeenLater, IsStopped, seen_at, seen_in}
+use Rattle.zq_spread.specs.Passes.{IsCountOf, IsPassOf, IsSlotAt, IsSeatOf, IsSeenLater, IsStopped, seen_at, seen_in}
 use Rattle.zq_spread.specs.Several.{AreBack, AreBegunAt, AreBooksAt, AreHeapsOf, HasMemberIn, IsBookAt}
 use Rattle.zq_spread.specs.Turns.{IsLeftAsGiven, turns_at, turns_in}
 use Rattle.zq_spread.specs.Worn.{HasFoundBusy, HasFoundLast, IsBusyIn, IsPassedOver}
@@ -280,7 +280,7 @@ queue_some rule key b books here some =
         subst (IsIn y) (sym (queue_merged rule key c bs)) (in_merged (queues_of rule (c ∷ []) key) (queues_of rule bs key) y (inr (queued_first bs there y is)))
 
 -- what was found is of the site's rule
-found_rule : (site : Site) (slots : (h : ℕ) (slot : HeapSlot) → slice_get site.slots.items h ≡ Some slot → IsRoomAt site h slot) (before : Pass) (stamp : ℕ) (heaps : List ℕ) (helds : List (Held LockedHeap))
+found_rule : (site : Site) (slots : (h : ℕ) (slot : HeapSlot) → slice_get site.slots.items h ≡ Some slot → IsSlotAt site h slot) (before : Pass) (stamp : ℕ) (heaps : List ℕ) (helds : List (Held LockedHeap))
     (found : List LockedHeap) (x : LockedHeap) → AreBegunAt site before stamp heaps helds found → IsIn x found → x.book.rule ≡ rule_of site.rule
 found_rule site slots before stamp [] [] [] x are here = absurd here
 found_rule site slots before stamp [] [] (y ∷ found) x are here = absurd are
@@ -291,7 +291,7 @@ found_rule site slots before stamp (h ∷ heaps) (held ∷ helds) (y ∷ found) 
     ap (λ (k : LockedHeap). k.book.rule) (sym same) ∙ are.0.of.rule ∙ ap rule_of (slots h are.0.slot are.0.at).2
 found_rule site slots before stamp (h ∷ heaps) (held ∷ helds) (y ∷ found) x are (inr there) = found_rule site slots before stamp heaps helds found x are.1 there
 
-pub queued_found : (site : Site) (slots : (h : ℕ) (slot : HeapSlot) → slice_get site.slots.items h ≡ Some slot → IsRoomAt site h slot) (before : Pass) (stamp : ℕ) (heaps key : List ℕ) (helds : List (Held LockedHeap))
+pub queued_found : (site : Site) (slots : (h : ℕ) (slot : HeapSlot) → slice_get site.slots.items h ≡ Some slot → IsSlotAt site h slot) (before : Pass) (stamp : ℕ) (heaps key : List ℕ) (helds : List (Held LockedHeap))
     (found : List LockedHeap) → AreBegunAt site before stamp heaps helds found → HasMemberIn key found → HasQueued (rule_of site.rule) key (map (λ (x : LockedHeap). x.book) found)
 queued_found site slots before stamp heaps key helds found are has =
     let x = has.0 in

@@ -244,10 +244,10 @@ on_err (Ok x) is = tt
 on_err (Err e) is = is
 
 -- there is room for one more
-pub has_room : (site : Site) (q : Pass) (heaps key : List ℕ) (next : LockScan) (helds : List (Held LockedHeap)) (slot : ℕ) (r : Result ℕ Stop) → IfOk r (λ stamp. HasBegun site q heaps key next stamp helds) →
-    length heaps + 1 ≤ slot → OnOk r (length helds < slot)
-has_room site q heaps key next helds slot (Ok stamp) begun most = let long = begun_length site q stamp heaps helds begun.found begun.each in omega (arith, long, most)
-has_room site q heaps key next helds slot (Err stop) begun most = tt
+pub has_room : (site : Site) (q : Pass) (heaps key : List ℕ) (next : LockScan) (helds : List (Held LockedHeap)) (room : ℕ) (r : Result ℕ Stop) → IfOk r (λ stamp. HasBegun site q heaps key next stamp helds) →
+    length heaps + 1 ≤ room → OnOk r (length helds < room)
+has_room site q heaps key next helds room (Ok stamp) begun most = let long = begun_length site q stamp heaps helds begun.found begun.each in omega (arith, long, most)
+has_room site q heaps key next helds room (Err stop) begun most = tt
 
 pub begun_on_more : (site : Site) (p q : Pass) (h : ℕ) (heaps key : List ℕ) (scan next : LockScan) (held : Held LockedHeap) (mid last : List (Held LockedHeap)) (r s : Result ℕ Stop) → s ≡ r →
     AreHeapsOf site (h ∷ heaps) → IsHeldAt site h held → FollowsSeen Follows (value_of held) (seen_at p h) → held_logged held ≡ turns_at p h → IsSameOutside (h ∷ []) p q → next.stamp ≡ max scan.stamp (value_of held).book.stamp →
@@ -315,6 +315,40 @@ ended_more site p q r h heaps held helds are left steps others later rest =
       },
       ended_before p q r heaps helds (λ k here. (others k (λ e. let low = are.1 k here in absurd (omega (arith, e, low)))).1) rest,
     )
+
+-- outside of these heaps nothing has changed of what the pass has seen, its steps and its turns
+abbrev pub IsSameBeside : List ℕ → Pass → Pass → Type 0
+IsSameBeside heaps before after = (k : ℕ) → (IsIn k heaps → ⊥) → (seen_at after k ≡ seen_at before k) × (steps_at after k ≡ steps_at before k) × (turns_at after k ≡ turns_at before k)
+
+-- a call is being ended in these heaps, and is left to be ended in some: where it has ended there, it has in all
+pub record IsEnding (site : Site) (heaps : List ℕ) (helds : List (Held LockedHeap)) (before now : Pass) (left : List ℕ) (held : List (Held LockedHeap)) : Type 0 where
+  pub are : AreHeapsOf site left
+  pub but : IsPassBut site left now
+  pub may : MayEndIn site left held
+  pub rest : (after : Pass) → HasEndedIn now after left held → IsSameBeside left now after → HasEndedIn before after heaps helds × IsSameBeside heaps before after
+
+-- one of those that are left was ended
+pub ending_more : (site : Site) (heaps : List ℕ) (helds : List (Held LockedHeap)) (p q r : Pass) (h : ℕ) (left : List ℕ) (one : Held LockedHeap) (held : List (Held LockedHeap)) →
+    IsEnding site heaps helds p q (h ∷ left) (one ∷ held) → ((out : List ℕ) → IsPassBut site (h ∷ out) q → IsPassBut site out r) →
+    ((x : LockedHeap) × (seen_at r h ≡ Some x) × (x.book ≡ (value_of one).book) × IfSome (given one) (λ found. HasTurn found x (turns_at r h) (held_logged one))) →
+    IfSome (given one) (λ found. steps_at r h + found.book.count ≡ steps_at q h + (value_of one).book.count) →
+    ((k : ℕ) → (k ≡ h → ⊥) → (seen_at r k ≡ seen_at q k) × (steps_at r k ≡ steps_at q k) × (turns_at r k ≡ turns_at q k)) → IsEnding site heaps helds p r left held
+ending_more site heaps helds p q r h left one held is home seen steps others = record {
+  are = is.are.2;
+  but = home left is.but;
+  may = is.may.1;
+  rest = λ after ended beside. is.rest after (ended_more site q r after h left one held is.are seen steps others beside ended) (λ k out.
+      let later = beside k (λ here. out (inr here)) in
+      let first = others k (λ e. out (inl (sym e))) in (later.0 ∙ first.0, later.1 ∙ first.1, later.2 ∙ first.2));
+}
+
+-- none is left
+pub ending_done : (site : Site) (heaps : List ℕ) (helds : List (Held LockedHeap)) (p q r : Pass) (held : List (Held LockedHeap)) → IsEnding site heaps helds p q [] held → r.seats ≡ q.seats → r.counts ≡ q.counts →
+    r.stamp ≤ LAST_STAMP → IsPassOf site r × HasEndedIn p r heaps helds × IsSameBeside heaps p r
+ending_done site heaps helds p q r [] is seats counts stamp =
+    let both = is.rest r tt (λ k out. (ap (λ l. seen_in (slice_get l.items k)) seats, ap (λ l. steps_in (slice_get l.items k)) counts, ap (λ l. turns_in (slice_get l.items k)) seats)) in
+    (stamped_home site q r is.but seats counts stamp, both.0, both.1)
+ending_done site heaps helds p q r (one ∷ held) is seats counts stamp = absurd is.may
 
 -- the first of those that may end
 pub may_end_first : (site : Site) (h : ℕ) (heaps : List ℕ) (helds : List (Held LockedHeap)) → MayEndIn site (h ∷ heaps) helds → 0 < length helds

@@ -6,6 +6,7 @@ use Rattle.std.specs.Prelude.{Err, IfOk, IfSome, IsErrOf, IsSome, List, Ok, OnEr
 use Rattle.zq_dots.specs.Placed.{Placed}
 use Rattle.zq_dots.specs.Rule.{rule_of}
 use Rattle.zq_model.specs.Books.{Book, Merged, Step}
+use Rattle.zq_model.specs.Reach as reach
 use Rattle.zq_model.specs.Reach.{IsWorked}
 use Rattle.zq_journal.specs.Books.{LAST_STAMP, state_of, steps_taken, steps_when}
 use Rattle.zq_journal.specs.declared.faults.MergeFault.{MergeFault}
@@ -22,7 +23,7 @@ use Rattle.zq_spread.proofs.Counted.{if_some}
 use Rattle.zq_spread.proofs.LeftAsGiven.{worked_once}
 use Rattle.zq_spread.specs.Answers.{HasWorked, IsMerged, IsTaken}
 use Rattle.zq_spread.specs.Calls.{IsCall, IsLikeSite, IsOfSite, heaps_of}
-use Rattle.zq_spread.specs.Passes.{IsRoomAt, seen_at, steps_at}
+use Rattle.zq_spread.specs.Passes.{IsSlotAt, seen_at, steps_at}
 use Rattle.zq_spread.specs.HeapSlots.{IsBegun, IsOf, IsWorkedOn}
 use Rattle.zq_spread.specs.Turns.{HasTurn, turns_at}
 use Rattle.zq_spread.specs.Worn.{IsBusyIn, IsWornIn}
@@ -33,6 +34,22 @@ use Rattle.zq_spread.specs.declared.site.Site.{Site}
 use Rattle.zq_ticketlock.proofs.Told.{seen_some}
 use Rattle.zq_ticketlock.specs.Seats.{given, held_logged, value_of}
 use Rattle.zq_ticketlock.specs.declared.held.Held.{Held}
+
+-- a call's work begins with a cut and a stamp
+pub work_starts : (a : Book) (stamp : ℕ) → IsWorked (reach.begun stamp a) a stamp []
+work_starts a stamp = record {
+  heap = refl;
+  heaps = refl;
+  rule = refl;
+  limits = refl;
+  handed = refl;
+  legal = refl;
+  state = refl;
+  own = refl;
+  stamp_is = refl;
+  count = omega arith;
+  is = refl;
+}
 
 -- what a book answers to an operation is what a call answers
 pub taken_by : (old new a : Book) (stamp : ℕ) (p : Placed) (r : Result Taken TakeFault) → IsOfHeap (state_of old) p →
@@ -79,7 +96,7 @@ merged_by old new a stamp s (Err unmerged.NoMemory) same rule worn heap other wo
     ([], subst (λ b. IsWorked b a stamp []) (sym stays) begun, (not_worn, refl))
 
 -- the heap of an operation of the site, where a call has begun
-pub begun_of_heap : (site : Site) (slot : HeapSlot) (h floor stamp : ℕ) (p : Placed) (now found : LockedHeap) → IsRoomAt site h slot → IsWorked now.book found.book stamp [] → IsOf slot found →
+pub begun_of_heap : (site : Site) (slot : HeapSlot) (h floor stamp : ℕ) (p : Placed) (now found : LockedHeap) → IsSlotAt site h slot → IsWorked now.book found.book stamp [] → IsOf slot found →
     IsOfSite site p → p.operation.heap ≡ h → IsOfHeap (state_of now.book) p
 begun_of_heap site slot h floor stamp p now found at worked of is here =
     let heap : now.book.heap ≡ h = worked.heap ∙ of.heap ∙ at.0 in
@@ -91,12 +108,12 @@ begun_of_heap site slot h floor stamp p now found at worked of is here =
     }
 
 -- and another heap that is like the site's
-pub begun_same_heap : (site : Site) (slot : HeapSlot) (h stamp : ℕ) (s : HeapImage) (now found : LockedHeap) → IsRoomAt site h slot → IsWorked now.book found.book stamp [] → IsOf slot found →
+pub begun_same_heap : (site : Site) (slot : HeapSlot) (h stamp : ℕ) (s : HeapImage) (now found : LockedHeap) → IsSlotAt site h slot → IsWorked now.book found.book stamp [] → IsOf slot found →
     IsLikeSite site s → s.heap ≡ h → IsSameHeap (state_of now.book) s
 begun_same_heap site slot h stamp s now found at worked of is here =
     record { heap = worked.heap ∙ of.heap ∙ at.0 ∙ sym here; heaps = worked.heaps ∙ of.heaps ∙ at.1 ∙ sym is.heaps }
 
-pub begun_same_rule : (site : Site) (slot : HeapSlot) (h stamp : ℕ) (s : HeapImage) (now found : LockedHeap) → IsRoomAt site h slot → IsWorked now.book found.book stamp [] → IsOf slot found →
+pub begun_same_rule : (site : Site) (slot : HeapSlot) (h stamp : ℕ) (s : HeapImage) (now found : LockedHeap) → IsSlotAt site h slot → IsWorked now.book found.book stamp [] → IsOf slot found →
     IsLikeSite site s → now.book.rule ≡ s.rule
 begun_same_rule site slot h stamp s now found at worked of is = worked.rule ∙ of.rule ∙ ap rule_of at.2 ∙ sym is.rule
 

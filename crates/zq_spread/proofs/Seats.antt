@@ -47,11 +47,11 @@ seat_home site pass new heap out slot seat within at seats counts stamp fits is 
       seats = ap length seats ∙ length-set pass.seats.items heap (Some seat) ∙ is.seats;
       counts = ap (λ c. length c.items) counts ∙ is.counts;
       slots = is.slots;
-      seat = λ h other_room away at_h. elim (cases_eq h heap) [
+      seat = λ h other_slot away at_h. elim (cases_eq h heap) [
         | inl same ↦ (
-            let one : Some slot ≡ Some other_room = sym at ∙ ap (slice_get site.slots.items) (sym same) ∙ at_h in
-            subst (λ r. IsSeatOf r (slice_get new.seats.items h)) (same_Some slot other_room one) (subst (IsSeatOf slot) (sym (ap (slice_get new.seats.items) same ∙ here)) fits))
-        | inr other ↦ subst (IsSeatOf other_room) (sym (there h other)) (is.seat h other_room (λ here. elim here [ inl e ↦ other (sym e) | inr later ↦ away later ]) at_h)
+            let one : Some slot ≡ Some other_slot = sym at ∙ ap (slice_get site.slots.items) (sym same) ∙ at_h in
+            subst (λ r. IsSeatOf r (slice_get new.seats.items h)) (same_Some slot other_slot one) (subst (IsSeatOf slot) (sym (ap (slice_get new.seats.items) same ∙ here)) fits))
+        | inr other ↦ subst (IsSeatOf other_slot) (sym (there h other)) (is.seat h other_slot (λ here. elim here [ inl e ↦ other (sym e) | inr later ↦ away later ]) at_h)
       ];
       count = λ h slot at. subst (λ c. IsCountOf slot (slice_get c.items h)) (sym counts) (is.count h slot at);
       stamp = subst (λ n. n ≤ LAST_STAMP) (sym stamp) is.stamp;
@@ -88,11 +88,11 @@ count_back site pass new out heap slot x count within at seats counts stamp fits
       counts = ap length counts ∙ length-set (slice_set pass.counts.items heap x) heap (Some count) ∙ long;
       slots = is.slots;
       seat = λ h slot other at. subst (λ l. IsSeatOf slot (slice_get l.items h)) (sym seats) (is.seat h slot other at);
-      count = λ h other_room at_h. elim (cases_eq h heap) [
+      count = λ h other_slot at_h. elim (cases_eq h heap) [
         | inl same ↦ (
-            let one : Some slot ≡ Some other_room = sym at ∙ ap (slice_get site.slots.items) (sym same) ∙ at_h in
-            subst (λ r. IsCountOf r (slice_get new.counts.items h)) (same_Some slot other_room one) (subst (IsCountOf slot) (sym (ap (slice_get new.counts.items) same ∙ here)) fits))
-        | inr other ↦ subst (IsCountOf other_room) (sym (there h other)) (is.count h other_room at_h)
+            let one : Some slot ≡ Some other_slot = sym at ∙ ap (slice_get site.slots.items) (sym same) ∙ at_h in
+            subst (λ r. IsCountOf r (slice_get new.counts.items h)) (same_Some slot other_slot one) (subst (IsCountOf slot) (sym (ap (slice_get new.counts.items) same ∙ here)) fits))
+        | inr other ↦ subst (IsCountOf other_slot) (sym (there h other)) (is.count h other_slot at_h)
       ];
       stamp = stamp;
     }

@@ -12,7 +12,7 @@ use Rattle.zq_model.specs.Books.{Book}
 use Rattle.zq_posheap.proofs.Lists.{slice_get-set_other, slice_get-set_same, there_is}
 use Rattle.zq_spread.proofs.Places.{behind, zip_at, zip_length}
 use Rattle.zq_spread.specs.Companies.{opening_of}
-use Rattle.zq_spread.specs.SiteBuilders.{AreSettled, HasPlaces, IsCounted, IsGround, IsNewIn, IsReady, IsRoomOver, IsSeated}
+use Rattle.zq_spread.specs.SiteBuilders.{AreSettled, HasPlaces, IsCounted, IsGround, IsNewIn, IsReady, IsSlotOver, IsSeated}
 use Rattle.zq_spread.specs.Makers.{IsMade}
 use Rattle.zq_spread.specs.Passes.{IsCountOf, IsPassOf, IsSeatOf, seen_in, steps_at, steps_in}
 use Rattle.zq_spread.specs.HeapSlots.{IsOf}
@@ -68,7 +68,7 @@ given_others h k t lock kept slot book before mid after other counted seated new
 
 -- one heap more has its book
 pub settled_more : (K n : ℕ) (rule : Rule) (books : List Book) (slots : List HeapSlot) (slot : HeapSlot) (kept : LockedHeap) (before mid after : List Pass) → AreSettled K n rule books slots before →
-    length slots < K → IsRoomOver K n rule (length slots) kept.book slot → IsOf slot kept → AllZip (IsCounted slot.tally (length slots)) before mid →
+    length slots < K → IsSlotOver K n rule (length slots) kept.book slot → IsOf slot kept → AllZip (IsCounted slot.tally (length slots)) before mid →
     AllZip (IsSeated slot.lock (Some kept) (length slots)) mid after → AreSettled K n rule (books ++ kept.book ∷ []) (slots ++ slot ∷ []) after
 settled_more K n rule books slots slot kept before mid after is within over of counted seated =
     let h : ℕ = length slots in
@@ -83,7 +83,7 @@ settled_more K n rule books slots slot kept before mid after is within over of c
       places = λ i pass at. let p = was i pass at in given_places K h slot.tally slot.lock kept p.1 p.0 pass p.3 p.4 (is.places i p.1 p.2);
       slot = λ k r b at_r at_b. elim (behind slots slot r k at_r) [
         | inl there ↦ is.slot k r b there (before_end k r b there at_b)
-        | inr last ↦ subst (λ r'. IsRoomOver K n rule k b r') last.1 (subst (λ b'. IsRoomOver K n rule k b' slot) (at_end k b last.0 at_b) (subst (λ j. IsRoomOver K n rule j kept.book slot) (sym last.0) over))
+        | inr last ↦ subst (λ r'. IsSlotOver K n rule k b r') last.1 (subst (λ b'. IsSlotOver K n rule k b' slot) (at_end k b last.0 at_b) (subst (λ j. IsSlotOver K n rule j kept.book slot) (sym last.0) over))
       ];
       new = λ i k pass r b at at_r at_b. let p = was i pass at in elim (behind slots slot r k at_r) [
         | inl there ↦ (
@@ -114,10 +114,10 @@ made number n books site passes named some ruled is =
     let slots = site.slots.items in
     let book_at : (h : ℕ) (slot : HeapSlot) → slice_get slots h ≡ Some slot → (book : Book) × (slice_get books h ≡ Some book) =
     λ h slot at. there_is books h (let low = slice_get_within slots h slot at in let same = is.number in omega (arith, low, same)) in
-    let room_at : (h : ℕ) (book : Book) → slice_get books h ≡ Some book → (slot : HeapSlot) × (slice_get slots h ≡ Some slot) =
+    let slot_at : (h : ℕ) (book : Book) → slice_get books h ≡ Some book → (slot : HeapSlot) × (slice_get slots h ≡ Some slot) =
     λ h book at. there_is slots h (let low = slice_get_within books h book at in let same = is.number in omega (arith, low, same)) in
     let new_at : (i h : ℕ) (pass : Pass) (slot : HeapSlot) → slice_get passes i ≡ Some pass → slice_get slots h ≡ Some slot → (book : Book) × IsNewIn slot h book pass =
-    λ i h pass slot at at_room. let b = book_at h slot at_room in (b.0, is.new i h pass slot b.0 at at_room b.1) in
+    λ i h pass slot at at_slot. let b = book_at h slot at_slot in (b.0, is.new i h pass slot b.0 at at_slot b.1) in
     let steps_of : (i : ℕ) (pass : Pass) → slice_get passes i ≡ Some pass → (h : ℕ) → steps_at pass h ≡ 0 =
     λ i pass at h. elim (cases_lt h (length slots)) [
       | inl low ↦ (let slot = there_is slots h low in (new_at i h pass slot.0 at slot.1).1.none)
@@ -127,16 +127,16 @@ made number n books site passes named some ruled is =
     λ i pass at. record {
       seats = (is.places i pass at).seats ∙ sym is.number;
       counts = (is.places i pass at).counts ∙ sym is.number;
-      slots = λ h slot at_room. let b = book_at h slot at_room in let over = is.slot h slot b.0 at_room b.1 in (over.heap_is, over.heaps_are ∙ sym is.number, over.rule_is);
-      seat = λ h slot at_room. (new_at i h pass slot at at_room).1.seat;
-      count = λ h slot at_room. (new_at i h pass slot at at_room).1.count;
+      slots = λ h slot at_slot. let b = book_at h slot at_slot in let over = is.slot h slot b.0 at_slot b.1 in (over.heap_is, over.heaps_are ∙ sym is.number, over.rule_is);
+      seat = λ h slot at_slot. (new_at i h pass slot at at_slot).1.seat;
+      count = λ h slot at_slot. (new_at i h pass slot at at_slot).1.count;
       stamp = let zero = (is.places i pass at).stamp in omega (arith, zero);
     } in
     record {
       number_is = named;
       heaps = is.number;
       rule = ruled;
-      opening = λ h book at. let slot = room_at h book at in ap opening_of slot.1 ∙ (is.slot h slot.0 book slot.1 at).opening;
+      opening = λ h book at. let slot = slot_at h book at in ap opening_of slot.1 ∙ (is.slot h slot.0 book slot.1 at).opening;
       passes_are = is.passes_are;
       all = record {
         some = let same = is.passes_are in omega (arith, some, same);
@@ -146,7 +146,7 @@ made number n books site passes named some ruled is =
       new = λ i pass at. record {
         stamp = (is.places i pass at).stamp;
         steps = steps_of i pass at;
-        seen = λ h book at_book. let slot = room_at h book at_book in (is.new i h pass slot.0 book at slot.1 at_book).seen;
+        seen = λ h book at_book. let slot = slot_at h book at_book in (is.new i h pass slot.0 book at slot.1 at_book).seen;
       };
     }
 
@@ -155,13 +155,13 @@ pub ready : (K n : ℕ) (rule : Rule) (books : List Book) (builder : SiteBuilder
 ready K n rule books builder is low few =
     let number = is.settled.number in
     let empty_slots = is.empty_slots in
-    let slot = is.slot in
+    let room = is.room in
     let heaps = is.heaps_are in
     let many = is.settled.passes_are in
     record {
       empty_slot = omega (arith, low, number, empty_slots);
       heap = omega (arith, low, number, heaps);
-      slot = omega (arith, low, number, slot);
+      room = omega (arith, low, number, room);
       passes = omega (arith, many, few);
       places = λ i pass at. subst (λ k. HasPlaces k pass) (sym is.heaps_are) (is.settled.places i pass at);
     }
@@ -169,16 +169,16 @@ ready K n rule books builder is low few =
 -- the builder where one heap more has its book
 pub settled_next : (K n : ℕ) (rule : Rule) (books : List Book) (builder new : SiteBuilder) (slot : HeapSlot) (kept : LockedHeap) (mid : List Pass) → IsGround K n rule books builder →
     length builder.empty_slots.items ≡ length new.empty_slots.items + 1 → new.slots.items ≡ builder.slots.items ++ slot ∷ [] → vec_capacity new.slots ≡ vec_capacity builder.slots →
-    new.heaps ≡ builder.heaps → new.rule ≡ builder.rule → length builder.slots.items < K → IsRoomOver K n rule (length builder.slots.items) kept.book slot → IsOf slot kept →
+    new.heaps ≡ builder.heaps → new.rule ≡ builder.rule → length builder.slots.items < K → IsSlotOver K n rule (length builder.slots.items) kept.book slot → IsOf slot kept →
     AllZip (IsCounted slot.tally (length builder.slots.items)) builder.passes.items mid → AllZip (IsSeated slot.lock (Some kept) (length builder.slots.items)) mid new.passes.items →
     IsGround K n rule (books ++ kept.book ∷ []) new
 settled_next K n rule books builder new slot kept mid is empty_slots slots capacity heaps ruled low over of counted seated =
     let before = is.empty_slots in
-    let cap = is.slot in
+    let cap = is.room in
     let long : length new.slots.items ≡ length builder.slots.items + 1 = ap length slots ∙ length_push builder.slots.items slot in
     record {
       empty_slots = omega (arith, before, empty_slots, long);
-      slot = omega (arith, cap, capacity);
+      room = omega (arith, cap, capacity);
       heaps_are = heaps ∙ is.heaps_are;
       rule_is = ruled ∙ is.rule_is;
       settled = subst (λ l. AreSettled K n rule (books ++ kept.book ∷ []) l new.passes.items) (sym slots)

@@ -18,7 +18,7 @@ use Rattle.zq_spread.proofs.Twins.{AreTwins, begun_twin, run_twins}
 use Rattle.zq_spread.specs.Calls.{AreWorkedIn, greatest_stamp, heaps_of}
 use Rattle.zq_spread.specs.Commanded.{AreAppended}
 use Rattle.zq_spread.specs.Dispatch.{HasHeldEach, IsCommandOver}
-use Rattle.zq_spread.specs.Passes.{IsRoomAt, seen_at, steps_at}
+use Rattle.zq_spread.specs.Passes.{IsSlotAt, seen_at, steps_at}
 use Rattle.zq_spread.specs.HeapSlots.{IsWorkedOn}
 use Rattle.zq_spread.specs.Several.{AreBegunAt, AreBooksAt, AreHeapsOf, AreHeldOn, HasEndedIn, IsBegunAt, IsHeldOn, IsSameOutside, MayEndIn, books_of}
 use Rattle.zq_spread.specs.Turns.{HasHeldOnce, HasTurn, turns_at}
@@ -33,7 +33,7 @@ use Rattle.zq_words.specs.Words.{Word}
 
 -- ---- the books may be lent
 
-module _ (site : Site) (slots : (h : ℕ) (slot : HeapSlot) → slice_get site.slots.items h ≡ Some slot → IsRoomAt site h slot) where
+module _ (site : Site) (slots : (h : ℕ) (slot : HeapSlot) → slice_get site.slots.items h ≡ Some slot → IsSlotAt site h slot) where
   pub begun_books : (before : Pass) (stamp : ℕ) (heaps : List ℕ) (helds : List (Held LockedHeap)) (found : List LockedHeap) → AreBegunAt site before stamp heaps helds found → AreBooksAt site heaps (books_of helds)
   begun_books before stamp [] [] [] are = tt
   begun_books before stamp [] [] (x ∷ found) are = absurd are

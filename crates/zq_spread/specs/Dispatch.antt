@@ -7,9 +7,9 @@ use Rattle.zq_model.specs.Books.{Book, Step}
 use Rattle.zq_model.specs.Rule.{Rule}
 use Rattle.zq_model.specs.Sets.{IsIn}
 use Rattle.zq_model.specs.Lent.{queues_of}
+use Rattle.zq_semantics.specs.Doing.{drawn}
 use Rattle.zq_spread.specs.Calls.{IsCall, heaps_of}
 use Rattle.zq_spread.specs.Commanded.{IsAnswered, short_reply, worn_reply}
-use Rattle.zq_spread.specs.Drawn.{drawn}
 use Rattle.zq_spread.specs.Turns.{HasHeldOnce}
 use Rattle.zq_spread.specs.Worn.{IsBusyIn, IsPassedOver, IsWornIn}
 use Rattle.zq_spread.specs.declared.locked_heap.LockedHeap.{LockedHeap}

@@ -11,7 +11,6 @@ pub mod Companies
 pub mod Makers
 pub mod SiteBuilders
 pub mod Meetings
-pub mod Drawn
 pub mod Dispatch
 pub mod Several
 pub mod Worn

@@ -43,8 +43,8 @@ IsCountOf slot (Some (Some count)) = tally.count_table count ≡ tally.id_of slo
 IsCountOf slot other = ⊥
 
 -- the slot is that of this heap
-abbrev pub IsRoomAt : Site → ℕ → HeapSlot → Type 0
-IsRoomAt site h slot = (slot.heap ≡ h) × (slot.heaps ≡ length site.slots.items)
+abbrev pub IsSlotAt : Site → ℕ → HeapSlot → Type 0
+IsSlotAt site h slot = (slot.heap ≡ h) × (slot.heaps ≡ length site.slots.items)
     × (slot.rule ≡ site.rule)
 
 -- the pass is one of the site's, and calls work in these heaps, where its seats are out
@@ -52,7 +52,7 @@ pub record IsPassBut (site : Site) (out : List ℕ) (pass : Pass) : Type 0 where
   pub seats : length pass.seats.items ≡ length site.slots.items
   pub counts : length pass.counts.items ≡ length site.slots.items
   pub slots : (h : ℕ) (slot : HeapSlot) → slice_get site.slots.items h ≡ Some slot →
-      IsRoomAt site h slot
+      IsSlotAt site h slot
   pub seat : (h : ℕ) (slot : HeapSlot) → (IsIn h out → ⊥) →
       slice_get site.slots.items h ≡ Some slot → IsSeatOf slot (slice_get pass.seats.items h)
   pub count : (h : ℕ) (slot : HeapSlot) → slice_get site.slots.items h ≡ Some slot →
@@ -64,7 +64,7 @@ pub record IsPassOf (site : Site) (pass : Pass) : Type 0 where
   pub seats : length pass.seats.items ≡ length site.slots.items
   pub counts : length pass.counts.items ≡ length site.slots.items
   pub slots : (h : ℕ) (slot : HeapSlot) → slice_get site.slots.items h ≡ Some slot →
-      IsRoomAt site h slot
+      IsSlotAt site h slot
   pub seat : (h : ℕ) (slot : HeapSlot) → slice_get site.slots.items h ≡ Some slot →
       IsSeatOf slot (slice_get pass.seats.items h)
   pub count : (h : ℕ) (slot : HeapSlot) → slice_get site.slots.items h ≡ Some slot →

@@ -43,7 +43,7 @@ pub record IsSeated (lock : TicketLock LockedHeap) (value : Option LockedHeap) (
   pub seen_is : seen seat ≡ value
 
 -- the slot is that of this heap, over this book, for so many passes
-pub record IsRoomOver (heaps n : ℕ) (rule : Rule) (h : ℕ) (book : Book) (slot : HeapSlot) : Type 0
+pub record IsSlotOver (heaps n : ℕ) (rule : Rule) (h : ℕ) (book : Book) (slot : HeapSlot) : Type 0
   where
     pub heap_is : slot.heap ≡ h
     pub heaps_are : slot.heaps ≡ heaps
@@ -65,7 +65,7 @@ pub record AreSettled (heaps n : ℕ) (rule : Rule) (books : List Book) (slots :
   pub passes_are : length passes ≡ n
   pub places : (i : ℕ) (pass : Pass) → slice_get passes i ≡ Some pass → HasPlaces heaps pass
   pub slot : (h : ℕ) (slot : HeapSlot) (book : Book) → slice_get slots h ≡ Some slot →
-      slice_get books h ≡ Some book → IsRoomOver heaps n rule h book slot
+      slice_get books h ≡ Some book → IsSlotOver heaps n rule h book slot
   pub new : (i h : ℕ) (pass : Pass) (slot : HeapSlot) (book : Book) →
       slice_get passes i ≡ Some pass → slice_get slots h ≡ Some slot →
       slice_get books h ≡ Some book → IsNewIn slot h book pass
@@ -74,7 +74,7 @@ pub record AreSettled (heaps n : ℕ) (rule : Rule) (books : List Book) (slots :
 pub record IsGround (heaps n : ℕ) (rule : Rule) (books : List Book) (builder : SiteBuilder) : Type 0
   where
     pub empty_slots : length builder.empty_slots.items + length builder.slots.items ≡ heaps
-    pub slot : heaps ≤ vec_capacity builder.slots
+    pub room : heaps ≤ vec_capacity builder.slots
     pub heaps_are : builder.heaps ≡ heaps
     pub rule_is : builder.rule ≡ rule
     pub settled : AreSettled heaps n rule books builder.slots.items builder.passes.items
@@ -83,7 +83,7 @@ pub record IsGround (heaps n : ℕ) (rule : Rule) (books : List Book) (builder :
 pub record IsReady (builder : SiteBuilder) : Type 0 where
   pub empty_slot : 0 < length builder.empty_slots.items
   pub heap : length builder.slots.items < builder.heaps
-  pub slot : length builder.slots.items < vec_capacity builder.slots
+  pub room : length builder.slots.items < vec_capacity builder.slots
   pub passes : length builder.passes.items ≤ 128
   pub places : (i : ℕ) (pass : Pass) → slice_get builder.passes.items i ≡ Some pass →
       HasPlaces builder.heaps pass

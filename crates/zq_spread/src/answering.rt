@@ -34,7 +34,7 @@ impl LockedHeap {
             self.new.book a stamp }
         ensures writable { IsTrue (is_writable result) }
     {
-        // What a book says of its bounds.
+        // For the proof: a book is within its bounds.
         let _vector = self.book.shard().vector();
         run(self, alloc, site, stamp, command)
     }

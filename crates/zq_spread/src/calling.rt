@@ -15,6 +15,7 @@ use crate::pass::Pass;
 use crate::site::Site;
 use std::alloc::Global;
 use std::sync::Wait;
+use zq_commands::{Stopped, cut_reply};
 use zq_resp::Reply;
 use zq_ticketlock::TryFault;
 use zq_words::Command;
@@ -24,10 +25,7 @@ pub(crate) fn worn() -> Reply
     ensures bytes { reply_bytes result ≡ worn_reply }
     ensures writable { IsTrue (is_writable result) }
 {
-    Reply::Error {
-        text: "ERR worn after",
-        after: Some(0),
-    }
+    cut_reply(Stopped::Worn, 0)
 }
 
 /// The reply where there is no memory to hold more heaps than one.
@@ -35,10 +33,7 @@ pub(crate) fn short() -> Reply
     ensures bytes { reply_bytes result ≡ short_reply }
     ensures writable { IsTrue (is_writable result) }
 {
-    Reply::Error {
-        text: "OOM after",
-        after: Some(0),
-    }
+    cut_reply(Stopped::NoMemory, 0)
 }
 
 impl Site {
@@ -69,7 +64,6 @@ impl Site {
         let Ok((mut held, stamp)) = self.begin_in(rt, pass, heap) else {
             return worn();
         };
-        held.was_given();
         let reply = held.value_mut().answer(alloc, self.number, stamp, command);
         self.end_in(pass, heap, held, stamp);
         reply
@@ -99,7 +93,6 @@ impl Site {
         let heap = usize::from(heap);
         match self.try_begin_in(pass, heap) {
             Ok((mut held, stamp)) => {
-                held.was_given();
                 let reply = held.value_mut().answer(alloc, self.number, stamp, command);
                 self.end_in(pass, heap, held, stamp);
                 Ok(reply)

@@ -1,7 +1,7 @@
 //! The two heaps that ZPOPNEAR draws.
 ghost use Rattle.std.specs.Prelude.{◌≡◌, ◌∷◌, [], max, min};
+ghost use Rattle.zq_semantics.specs.Doing.{drawn};
 ghost use Rattle.zq_spread.specs.Calls.{heaps_of};
-ghost use Rattle.zq_spread.specs.Drawn.{drawn};
 ghost use Rattle.zq_spread.specs.Several.{AreHeapsOf};
 
 use crate::site::Site;

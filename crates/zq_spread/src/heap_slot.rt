@@ -1,5 +1,5 @@
 //! A heap of a site, under its lock.
-ghost use Rattle.std.specs.Prelude.{◌≡◌, ◌≤◌, ◌+◌, ◌⊎◌, Some, [], IfErr, IfOk, IfSome, max};
+ghost use Rattle.std.specs.Prelude.{◌≡◌, ◌≤◌, ◌+◌, ◌⊎◌, Some, [], IfErr, IfOk, IfSome, IsSome, max};
 ghost use Rattle.zq_model.specs.Reach.{IsWorked};
 ghost use Rattle.zq_journal.specs.Books.{LAST_STAMP};
 ghost use Rattle.zq_spread.specs.LockedHeaps.{Follows, IsAtHome};
@@ -44,6 +44,7 @@ impl HeapSlot {
         requires seen { IfSome (seen seat) (IsOf self.now) }
         ensures lock { IfOk result (λ begun. held_lock begun.0 ≡ id_of self.now.lock) }
         ensures bounded { IfOk result (λ begun. begun.1 ≤ LAST_STAMP) }
+        ensures given { IfOk result (λ begun. IsSome (given begun.0)) }
         ensures begun { IfOk result
             (λ begun. IfSome (given begun.0)
             (IsBegun self.now (seen seat) floor begun.1 (value_of begun.0))) }
@@ -71,6 +72,7 @@ impl HeapSlot {
         requires seen { IfSome (seen seat) (IsOf self.now) }
         ensures lock { IfOk result (λ begun. held_lock begun.0 ≡ id_of self.now.lock) }
         ensures bounded { IfOk result (λ begun. begun.1 ≤ LAST_STAMP) }
+        ensures given { IfOk result (λ begun. IsSome (given begun.0)) }
         ensures begun { IfOk result
             (λ begun. IfSome (given begun.0)
             (IsBegun self.now (seen seat) floor begun.1 (value_of begun.0))) }
@@ -104,7 +106,8 @@ impl HeapSlot {
         requires home { IsAtHome (value_of held) }
         ensures lock { IfOk result (λ begun. held_lock begun.0 ≡ id_of self.now.lock) }
         ensures bounded { IfOk result (λ begun. begun.1 ≤ LAST_STAMP) }
-        ensures given { IfOk result (λ begun. given begun.0 ≡ Some (value_of held)) }
+        ensures given { IfOk result (λ begun. IsSome (given begun.0)) }
+        ensures found { IfOk result (λ begun. given begun.0 ≡ Some (value_of held)) }
         ensures begun { IfOk result (λ begun. begun.1 ≡ max floor (value_of held).book.stamp + 1) }
         ensures worked { IfOk result
             (λ begun. IsWorked (value_of begun.0).book (value_of held).book begun.1 []) }
@@ -154,6 +157,7 @@ impl HeapSlot {
             + tally.total_of (value_of held).total ≡ tally.steps_of count.old
             + (value_of held).book.count }
     {
+        // For the proof: a value that is held was always given.
         held.was_given();
         self.count_up(held.value_mut(), count);
         self.lock.unlock(held)

@@ -43,7 +43,6 @@ impl Site {
     {
         let heap = usize::from(heap);
         let seat = self.take_seat(&mut pass, heap);
-        seat.has_seen();
         match self.slots[heap].lock.try_lock(seat) {
             Ok(held) => Ok(Holding { pass, heap, held }),
             Err((fault, seat)) => {

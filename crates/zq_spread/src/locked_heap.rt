@@ -10,7 +10,6 @@ use crate::faults::ReadFault;
 use std::alloc::Global;
 use zq_dots::{Op, Vector};
 use zq_journal::{Book, MergeFault, Since, TakeFault};
-use zq_model::working;
 use zq_shard::{Shard, Taken};
 use zq_tally::Total;
 use zq_ticketlock::Keeps;
@@ -39,14 +38,13 @@ impl Keeps for LockedHeap {
 
 impl LockedHeap {
     /// Cuts the tail to its limits, and raises the stamp to that of a call.
+    #[tactic(auto, using(crate::proofs::OneHeap::work_starts))]
     pub(crate) fn begin(&mut self, stamp: u64)
         requires stamp { self.old.book.stamp ≤ stamp }
         requires bounded { stamp ≤ LAST_STAMP }
         ensures total { self.new.total ≡ self.old.total }
         ensures worked { IsWorked self.new.book self.old.book stamp [] }
     {
-        // A call's work begins with a cut and a stamp.
-        working();
         self.book.cut();
         self.book.touch(stamp);
     }

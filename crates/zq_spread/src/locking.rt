@@ -1,13 +1,12 @@
 //! How a call locks one of several heaps, and puts it home as it was.
-ghost use Rattle.std.specs.Prelude.{◌≡◌, ◌<◌, ◌∷◌, IfErr, IfOk, IsErrOf, OnErr, Some, [], length, slice_get, ℕ};
+ghost use Rattle.std.specs.Prelude.{◌≡◌, ◌<◌, ◌∷◌, IfErr, IfOk, IsErrOf, OnErr, Some, [], length};
 ghost use Rattle.zq_spread.specs.Calls.{heaps_of};
 ghost use Rattle.zq_spread.specs.LockedHeaps.{Follows};
-ghost use Rattle.zq_spread.specs.Passes.{IsSeatOf, seen_at};
+ghost use Rattle.zq_spread.specs.Passes.{seen_at};
 ghost use Rattle.zq_spread.specs.Several.{AreBack, HasSeatsIn, IsHeldAt, IsSameOutside};
 ghost use Rattle.zq_spread.specs.Turns.{HasTurn, turns_at};
 ghost use Rattle.zq_spread.specs.Worn.{IsUnlocked, reached_at, served_at};
-ghost use Rattle.zq_spread.specs.declared.heap_slot.HeapSlot.{HeapSlot as Rooms};
-ghost use Rattle.zq_ticketlock.specs.Seats.{held_logged, logged, reached, seen, served, value_of};
+ghost use Rattle.zq_ticketlock.specs.Seats.{held_logged, value_of};
 ghost use Rattle.zq_ticketlock.specs.Steps.{FollowsSeen};
 
 use crate::lock_scan::Stop;
@@ -15,41 +14,9 @@ use crate::locked_heap::LockedHeap;
 use crate::pass::Pass;
 use crate::site::Site;
 use std::sync::Wait;
-use zq_ticketlock::{Held, Seat, TryFault};
+use zq_ticketlock::Held;
 
 impl Site {
-    /// Takes a seat out.
-    fn seat_out(&self, pass: &mut Pass, heap: usize) -> Seat<LockedHeap>
-        requires seats { HasSeatsIn self.now (heap ∷ []) pass.old }
-        requires heap { heap < heaps_of self.now }
-        ensures seat { (slot : Rooms) → slice_get self.now.slots.items heap ≡ Some slot →
-            IsSeatOf slot (Some (Some result)) }
-        ensures seen { seen result ≡ seen_at pass.old heap }
-        ensures turns { logged result ≡ turns_at pass.old heap }
-        ensures outside { IsSameOutside (heap ∷ []) pass.old pass.new }
-    {
-        let Some(seat) = pass.seats[heap].take() else {
-            unreachable!()
-        };
-        seat
-    }
-
-    /// Puts a seat back.
-    fn seat_in(&self, pass: &mut Pass, heap: usize, seat: Seat<LockedHeap>)
-        requires number { length pass.old.seats.items ≡ heaps_of self.now }
-        requires heap { heap < heaps_of self.now }
-        requires seat { (slot : Rooms) → slice_get self.now.slots.items heap ≡ Some slot →
-            IsSeatOf slot (Some (Some seat)) }
-        ensures seats { HasSeatsIn self.now (heap ∷ []) pass.new }
-        ensures seen { seen_at pass.new heap ≡ seen seat }
-        ensures turns { turns_at pass.new heap ≡ logged seat }
-        ensures served { served_at pass.new heap ≡ served seat }
-        ensures reached { reached_at pass.new heap ≡ reached seat }
-        ensures outside { IsSameOutside (heap ∷ []) pass.old pass.new }
-    {
-        pass.seats[heap] = Some(seat);
-    }
-
     /// Locks a heap, and waits for it. The pass has no seat there until the heap is put home. Where
     /// the lock is exhausted the pass has its seat again.
     pub(crate) fn lock_in<R: Wait>(
@@ -70,12 +37,11 @@ impl Site {
             (λ stop. IsUnlocked stop (served_at pass.new heap) (reached_at pass.new heap)) }
         ensures waits { IsErrOf result Stop.Busy → ⊥ }
     {
-        let seat = self.seat_out(pass, heap);
-        seat.has_seen();
+        let seat = self.take_seat(pass, heap);
         match self.slots[heap].lock.lock(rt, seat) {
             Ok(held) => Ok(held),
             Err((_, seat)) => {
-                self.seat_in(pass, heap, seat);
+                self.put_seat(pass, heap, seat);
                 Err(Stop::Worn)
             }
         }
@@ -94,12 +60,11 @@ impl Site {
         ensures why { IfErr result
             (λ stop. IsUnlocked stop (served_at pass.new heap) (reached_at pass.new heap)) }
     {
-        let seat = self.seat_out(pass, heap);
-        seat.has_seen();
+        let seat = self.take_seat(pass, heap);
         match self.slots[heap].lock.try_lock(seat) {
             Ok(held) => Ok(held),
             Err((fault, seat)) => {
-                self.seat_in(pass, heap, seat);
+                self.put_seat(pass, heap, seat);
                 Err(Stop::from(fault))
             }
         }
@@ -117,6 +82,6 @@ impl Site {
         ensures outside { IsSameOutside (heap ∷ []) pass.old pass.new }
     {
         let seat = self.slots[heap].lock.unlock(held);
-        self.seat_in(pass, heap, seat);
+        self.put_seat(pass, heap, seat);
     }
 }

@@ -1,17 +1,14 @@
 //! How a call begins and ends in several heaps.
-ghost use Rattle.std.specs.Prelude.{◌≡◌, ◌≤◌, ◌<◌, ◌+◌, ◌⊎◌, ◌∷◌, IfErr, IfOk, IsErrOf, OnErr, OnOk, Some, [], false, length, max, slice_get, true, vec_capacity, ℕ};
+ghost use Rattle.std.specs.Prelude.{◌≡◌, ◌≤◌, ◌<◌, ◌+◌, ◌⊎◌, ◌∷◌, IfErr, IfOk, IsErrOf, OnErr, OnOk, Some, [], false, length, max, true, vec_capacity, ℕ};
 ghost use Rattle.zq_journal.specs.Books.{LAST_STAMP, state_of};
 ghost use Rattle.zq_model.specs.Sets.{IsIn};
 ghost use Rattle.zq_shard.specs.Shard.{queue_at};
 ghost use Rattle.zq_spread.specs.Calls.{heaps_of};
-ghost use Rattle.zq_spread.specs.LockedHeaps.{Follows};
-ghost use Rattle.zq_spread.specs.Passes.{IsPassBut, IsPassOf, IsSeatOf, seen_at, steps_at};
+ghost use Rattle.zq_spread.specs.Passes.{IsPassBut, IsPassOf, seen_at, steps_at};
 ghost use Rattle.zq_spread.specs.Several.{AreBack, AreHeapsOf, HasBegun, HasEndedIn, HasPushed, HasSeatsIn, IsHeldAt, IsSameOutside, MayEndIn, helds_of};
 ghost use Rattle.zq_spread.specs.Turns.{HasTurn, turns_at};
 ghost use Rattle.zq_spread.specs.Worn.{IsStopOf};
-ghost use Rattle.zq_spread.specs.declared.heap_slot.HeapSlot.{HeapSlot as Rooms};
 ghost use Rattle.zq_ticketlock.specs.Seats.{held_logged, value_of};
-ghost use Rattle.zq_ticketlock.specs.Steps.{FollowsSeen};
 
 use crate::lock_scan::{LockScan, Stop};
 use crate::locked_heap::{LAST, LockedHeap};
@@ -72,7 +69,7 @@ impl Site {
         requires number { length pass.old.seats.items ≡ heaps_of self.now }
         requires heap { heap < heaps_of self.now }
         requires held { IsHeldAt self.now heap held }
-        requires slot { OnOk begins (length (helds_of holds.old) < vec_capacity holds.old.helds) }
+        requires room { OnOk begins (length (helds_of holds.old) < vec_capacity holds.old.helds) }
         requires later { IfOk begins (λ stamp. (value_of held).book.stamp < stamp) }
         requires last { IfOk begins (λ stamp. stamp ≤ LAST_STAMP) }
         ensures same { result ≡ begins }
@@ -113,7 +110,7 @@ impl Site {
         requires heaps { AreHeapsOf self.now heaps.now }
         requires seats { HasSeatsIn self.now heaps.now pass.old }
         requires empty { helds_of holds.old ≡ [] }
-        requires slot { length heaps.now ≤ vec_capacity holds.old.helds }
+        requires room { length heaps.now ≤ vec_capacity holds.old.helds }
         ensures outside { IsSameOutside heaps.now pass.old pass.new }
         ensures begun { IfOk result
             (λ stamp. HasBegun self.now pass.old heaps.now key.now scan stamp
@@ -147,7 +144,7 @@ impl Site {
         requires heaps { AreHeapsOf self.now heaps.now }
         requires seats { HasSeatsIn self.now heaps.now pass.old }
         requires empty { helds_of holds.old ≡ [] }
-        requires slot { length heaps.now ≤ vec_capacity holds.old.helds }
+        requires room { length heaps.now ≤ vec_capacity holds.old.helds }
         ensures outside { IsSameOutside heaps.now pass.old pass.new }
         ensures begun { IfOk result
             (λ stamp. HasBegun self.now pass.old heaps.now key.now scan stamp
@@ -182,13 +179,10 @@ impl Site {
             × (turns_at pass.new k ≡ turns_at pass.old k) }
         ensures empty { helds_of holds.new ≡ [] }
     {
-        let Some((first, others)) = heaps.split_first() else {
-            pass.stamp = stamp;
-            return;
-        };
-        let heap = usize::from(*first);
-        let held = holds.pop();
-        self.finish(pass, heap, held, stamp);
-        self.end_all(pass, others, holds, stamp);
+        for heap in heaps {
+            let held = holds.pop();
+            self.finish(pass, usize::from(*heap), held, stamp);
+        }
+        pass.stamp = stamp;
     }
 }

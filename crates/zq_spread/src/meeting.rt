@@ -41,6 +41,7 @@ impl HeapSlot {
             (λ seats. HaveLeft (logged first) (logged second) (logged seats.0) (logged seats.1)) }
         ensures last { IfErr result (λ seats. last_ticket ≤ reached seats.0) }
     {
+        // For the proof: a seat has always seen a value.
         first.has_seen();
         second.has_seen();
         match self.lock.lock_after(rt, first, second) {

@@ -52,7 +52,6 @@ impl Site {
         let Ok((mut held, stamp)) = self.begin_in(rt, pass, heap) else {
             return Err(MergeFault::Worn);
         };
-        held.was_given();
         let merged = held.value_mut().merge(alloc, stamp, other);
         self.end_in(pass, heap, held, stamp);
         merged

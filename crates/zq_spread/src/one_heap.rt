@@ -1,5 +1,5 @@
 //! How a call begins and ends in one heap.
-ghost use Rattle.std.specs.Prelude.{◌≡◌, ◌≤◌, ◌<◌, ◌+◌, ◌∷◌, [], List, IfErr, IfOk, IfSome, OnErr, OnOk, Some, length, slice_get, ℕ};
+ghost use Rattle.std.specs.Prelude.{◌≡◌, ◌≤◌, ◌<◌, ◌+◌, ◌∷◌, [], List, IfErr, IfOk, IfSome, IsSome, OnErr, OnOk, Some, length, slice_get, ℕ};
 ghost use Rattle.zq_journal.specs.Books.{LAST_STAMP};
 ghost use Rattle.zq_spread.specs.Passes.{IsPassBut, IsPassOf, seen_at, steps_at};
 ghost use Rattle.zq_spread.specs.HeapSlots.{IsBegun, IsWorkedOn};
@@ -30,6 +30,7 @@ impl Site {
         ensures bounded { IfOk result (λ begun. begun.1 ≤ LAST_STAMP) }
         ensures lock { IfOk result (λ begun. (slot : HeapSlot) →
             slice_get self.now.slots.items heap ≡ Some slot → held_lock begun.0 ≡ id_of slot.lock) }
+        ensures given { IfOk result (λ begun. IsSome (given begun.0)) }
         ensures begun { IfOk result (λ begun. (slot : HeapSlot) →
             slice_get self.now.slots.items heap ≡ Some slot →
             IfSome (given begun.0)
@@ -42,13 +43,11 @@ impl Site {
         ensures refused { OnErr result (IsPassOf self.now pass.new
             × IsWornIn (heap ∷ []) pass.old pass.new) }
     {
-        let Some(seat) = pass.seats[heap].take() else {
-            unreachable!()
-        };
+        let seat = self.take_seat(pass, heap);
         match self.slots[heap].begin(rt, seat, pass.stamp) {
             Ok(begun) => Ok(begun),
             Err(seat) => {
-                pass.seats[heap] = Some(seat);
+                self.put_seat(pass, heap, seat);
                 Err(Worn)
             }
         }
@@ -67,6 +66,7 @@ impl Site {
         ensures bounded { IfOk result (λ begun. begun.1 ≤ LAST_STAMP) }
         ensures lock { IfOk result (λ begun. (slot : HeapSlot) →
             slice_get self.now.slots.items heap ≡ Some slot → held_lock begun.0 ≡ id_of slot.lock) }
+        ensures given { IfOk result (λ begun. IsSome (given begun.0)) }
         ensures begun { IfOk result (λ begun. (slot : HeapSlot) →
             slice_get self.now.slots.items heap ≡ Some slot →
             IfSome (given begun.0)

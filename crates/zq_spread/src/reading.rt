@@ -53,7 +53,6 @@ impl Site {
         let Ok((held, stamp)) = self.begin_in(rt, pass, heap) else {
             return Err(Worn);
         };
-        held.was_given();
         let vector = *held.value().book.shard().vector();
         self.end_in(pass, heap, held, stamp);
         Ok(vector)
@@ -79,7 +78,6 @@ impl Site {
         let Ok((held, stamp)) = self.begin_in(rt, pass, heap) else {
             return Err(ReadFault::Worn);
         };
-        held.was_given();
         let copy = held.value().copy(alloc);
         self.end_in(pass, heap, held, stamp);
         copy
@@ -113,7 +111,6 @@ impl Site {
         let Ok((held, stamp)) = self.begin_in(rt, pass, heap) else {
             return Err(ReadFault::Worn);
         };
-        held.was_given();
         let since = held.value().since(alloc, vector);
         self.end_in(pass, heap, held, stamp);
         since

@@ -16,7 +16,7 @@ pub(crate) fn begun(mut held: Held<LockedHeap>, stamp: u64) -> Held<LockedHeap>
     ensures { IsBegunFrom stamp held result }
 {
     held.value_mut().begin(stamp);
-    // What a book says of its bounds.
+    // For the proof: a book is within its bounds.
     let _vector = held.value().book.shard().vector();
     held
 }
@@ -25,7 +25,7 @@ impl LockedHeaps {
     /// An empty stack with room for so many heaps.
     pub(crate) fn with_room(alloc: Global, heaps: usize) -> Result<LockedHeaps, AllocError>
         ensures empty { IfOk result (λ holds. helds_of holds ≡ []) }
-        ensures slot { IfOk result (λ holds. heaps ≤ vec_capacity holds.helds) }
+        ensures room { IfOk result (λ holds. heaps ≤ vec_capacity holds.helds) }
     {
         let helds = Vec::with_capacity(alloc, heaps)?;
         Ok(LockedHeaps { helds })
@@ -33,9 +33,9 @@ impl LockedHeaps {
 
     /// Puts a heap onto the stack.
     pub(crate) fn push(&mut self, held: Held<LockedHeap>)
-        requires slot { length (helds_of self.old) < vec_capacity self.old.helds }
+        requires room { length (helds_of self.old) < vec_capacity self.old.helds }
         ensures pushed { helds_of self.new ≡ held ∷ helds_of self.old }
-        ensures slot { vec_capacity self.new.helds ≡ vec_capacity self.old.helds }
+        ensures room { vec_capacity self.new.helds ≡ vec_capacity self.old.helds }
     {
         self.helds.push_reserved(held);
     }
@@ -44,7 +44,7 @@ impl LockedHeaps {
     pub(crate) fn pop(&mut self) -> Held<LockedHeap>
         requires some { 0 < length (helds_of self.old) }
         ensures popped { helds_of self.old ≡ result ∷ helds_of self.new }
-        ensures slot { vec_capacity self.new.helds ≡ vec_capacity self.old.helds }
+        ensures room { vec_capacity self.new.helds ≡ vec_capacity self.old.helds }
     {
         self.helds.take_last()
     }

@@ -52,7 +52,6 @@ impl Site {
         let Ok((mut held, stamp)) = self.begin_in(rt, pass, heap) else {
             return Err(TakeFault::Worn);
         };
-        held.was_given();
         let taken = held.value_mut().take(alloc, stamp, op);
         self.end_in(pass, heap, held, stamp);
         taken

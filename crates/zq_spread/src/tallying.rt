@@ -61,7 +61,6 @@ impl Site {
         };
         let slot = &self.slots[heap];
         let seat = self.take_seat(first, heap);
-        seat.has_seen();
         match slot.lock.lock(rt, seat) {
             Ok(mut held) => {
                 slot.gather(&mut held.value_mut().total, first, others, heap);

@@ -4,9 +4,9 @@ ghost use Rattle.zq_commands.specs.Commands.{HasBooks};
 ghost use Rattle.zq_commands.specs.VecBooks.{lending_of};
 ghost use Rattle.zq_model.specs.Books.{Book as Books};
 ghost use Rattle.zq_resp.specs.Reply.{is_writable, reply_bytes};
+ghost use Rattle.zq_semantics.specs.Doing.{drawn};
 ghost use Rattle.zq_spread.specs.Calls.{heaps_of};
 ghost use Rattle.zq_spread.specs.Dispatch.{HasAnswered, HasHeldEach, IsCommand, IsNear, IsTurnedAway, IsWornOut, all_heaps};
-ghost use Rattle.zq_spread.specs.Drawn.{drawn};
 ghost use Rattle.zq_spread.specs.Passes.{IsPassOf, IsStopped};
 ghost use Rattle.zq_spread.specs.Several.{AreBooksAt, AreHeapsOf, helds_of};
 ghost use Rattle.zq_spread.specs.Worn.{IsBusyIn, IsStopOf};
@@ -41,7 +41,7 @@ impl Site {
         requires homes { (books : List Books) → AreBooksAt self.now heaps.now books →
             HasBooks command.now (lending_of books) }
         requires empty { helds_of holds.old ≡ [] }
-        requires slot { length heaps.now ≤ vec_capacity holds.old.helds }
+        requires room { length heaps.now ≤ vec_capacity holds.old.helds }
         ensures pass { IsPassOf self.now pass.new }
         ensures called { IfOk result
             (λ reply. HasAnswered self.now command.now key.now is_enough
@@ -73,7 +73,7 @@ impl Site {
     ) -> Result<Reply, Busy>
         requires pass { IsPassOf self.now pass.old }
         requires empty { helds_of holds.old ≡ [] }
-        requires slot { heaps_of self.now ≤ vec_capacity holds.old.helds }
+        requires room { heaps_of self.now ≤ vec_capacity holds.old.helds }
         ensures pass { IsPassOf self.now pass.new }
         ensures called { IfOk result
             (λ reply. (IsCommand self.now command.now (reply_bytes reply) pass.old pass.new
@@ -110,7 +110,7 @@ impl Site {
         requires few { length drawn.now ≤ heaps_of self.now }
         requires near { command.now ≡ Zpopnear key.now }
         requires empty { helds_of holds.old ≡ [] }
-        requires slot { heaps_of self.now ≤ vec_capacity holds.old.helds }
+        requires room { heaps_of self.now ≤ vec_capacity holds.old.helds }
         ensures pass { IsPassOf self.now pass.new }
         ensures called { IfOk result
             (λ reply. IsNear self.now command.now (reply_bytes reply) pass.old pass.new drawn.now) }

@@ -9,7 +9,7 @@ ghost use Rattle.zq_spread.specs.Calls.{greatest_stamp};
 ghost use Rattle.zq_spread.specs.Dispatch.{IsCommandOver};
 ghost use Rattle.zq_spread.specs.Passes.{IsPassBut, IsPassOf};
 ghost use Rattle.zq_spread.specs.Several.{AreBegunAt, AreHeapsOf, IsSameOutside, books_of, helds_of};
-ghost use Rattle.zq_spread.specs.declared.locked_heap.LockedHeap.{LockedHeap as Value};
+ghost use Rattle.zq_spread.specs.declared.locked_heap.LockedHeap.{LockedHeap};
 ghost use Rattle.zq_spread.specs.declared.pass.Pass.{Pass as Passes};
 
 use crate::locked_heaps::LockedHeaps;
@@ -35,11 +35,11 @@ impl Site {
         requires heaps { AreHeapsOf self.now heaps.now }
         requires pass { IsPassBut self.now heaps.now pass.old }
         requires last { stamp ≤ LAST_STAMP }
-        requires begun { (before : Passes) × (found : List Value)
+        requires begun { (before : Passes) × (found : List LockedHeap)
             × AreBegunAt self.now before stamp heaps.now (helds_of holds.old) found }
         requires homes { HasBooks command.now (lending_of (books_of (helds_of holds.old))) }
         ensures pass { IsPassOf self.now pass.new }
-        ensures called { (before : Passes) (found : List Value) →
+        ensures called { (before : Passes) (found : List LockedHeap) →
             AreBegunAt self.now before stamp heaps.now (helds_of holds.old) found →
             IsSameOutside heaps.now before pass.old →
             stamp ≡ max before.stamp (greatest_stamp found) + 1 →

@@ -30,14 +30,14 @@ begin_all-begins-requires g t c κs within =
     let has = subst (λ l. HasSeatsIn site l c.args.pass.now) cut c.requires.seats in
     let long = ap length cut in (
       omega (arith, c.decreases, long),
-      (within, (are.2, (seats_rest site h rest are c.args.pass.now c.lock_in.new.pass has c.in_ok-held.ensures.outside, (c.requires.empty, (let most = c.requires.slot in omega (arith, long, most)))))),
+      (within, (are.2, (seats_rest site h rest are c.args.pass.now c.lock_in.new.pass has c.in_ok-held.ensures.outside, (c.requires.empty, (let most = c.requires.room in omega (arith, long, most)))))),
     )
 
-pub go_on-requires-clause-slot : goal.go_on-requires-clause-slot
-go_on-requires-clause-slot g t c =
+pub go_on-requires-clause-room : goal.go_on-requires-clause-room
+go_on-requires-clause-room g t c =
     let rest : List ℕ = c.in-Some.others.now in
     let long = ap length c.in-Some.ensures.cases.0 in
-    let most = c.requires.slot in
+    let most = c.requires.room in
     let stays = c.begin_all-begins.ensures.stays in
     has_room c.args.self.now c.lock_in.new.pass rest c.args.key.now c.with-now.result _ _ c.begin_all-begins.result c.begin_all-begins.ensures.begun (omega (arith, long, most, stays))
 

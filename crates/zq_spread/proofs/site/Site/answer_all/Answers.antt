@@ -21,12 +21,12 @@ call_in-requires-clause-homes g c = λ books are.
     let all = c.every-heaps.ensures ∙ ap (range_with_len 0) (c.len.ensures ∙ c.args.self.now.slots.ok.0) in
     homes_all site books c.args.command.now site.some site.most (subst (λ l. AreBooksAt site l books) all are)
 
-pub call_in-requires-clause-slot : goal.call_in-requires-clause-slot
-call_in-requires-clause-slot g c =
+pub call_in-requires-clause-room : goal.call_in-requires-clause-room
+call_in-requires-clause-room g c =
     let all = ap length (c.every-heaps.ensures ∙ ap (range_with_len 0) (c.len.ensures ∙ c.args.self.now.slots.ok.0)) in
     let long = length-range_with_len 0 (heaps_of c.args.self.now) in
-    let slot = c.requires.slot in
-    omega (arith, all, long, slot)
+    let room = c.requires.room in
+    omega (arith, all, long, room)
 
 pub returns-in-Ok-clause-called : goal.returns-in-Ok-clause-called
 returns-in-Ok-clause-called g c =

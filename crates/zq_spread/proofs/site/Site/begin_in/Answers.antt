@@ -1,91 +1,78 @@
-use Rattle.std.proofs.Common.{ap, subst, sym, ◌∙◌}
+use Rattle.std.proofs.Common.{ap, refl, subst, sym, ◌∙◌}
 use Rattle.std.proofs.lemmas.Option.{same_Some, slice_get_read}
-use Rattle.std.specs.Vec as Vec
-use Rattle.std.specs.Prelude.{IfSome, None, Some, [], refl, length, slice_get, ℕ, ◌<◌, ◌∷◌, ◌≡◌}
-use Rattle.zq_posheap.proofs.Lists.{slice_get-set_other, slice_get-set_same, there_is}
+use Rattle.std.specs.Prelude.{IfSome, Some, [], length, slice_get, ℕ, ◌∷◌, ◌≡◌, ◌≤◌, ◌⊎◌}
+use Rattle.zq_journal.specs.Books.{LAST_STAMP}
+use Rattle.zq_spread.proofs.ManyHeaps.{seats_of}
 use Rattle.zq_spread.proofs.Refused.{found_last}
-use Rattle.zq_spread.proofs.Seats.{seat_back, seat_out, stopped, taken_at}
+use Rattle.zq_spread.proofs.Seats.{stopped}
 use Rattle.zq_spread.proofs.site.Site.begin_in.Goals as goal
-use Rattle.zq_spread.specs.Passes.{IsPassBut, IsSeatOf, IsSeenLater, seen_at, seen_in}
-use Rattle.zq_spread.specs.HeapSlots.{IsBegun}
-use Rattle.zq_spread.specs.Turns.{IsLeftAsGiven, turns_at, turns_in}
-use Rattle.zq_spread.specs.Worn.{reached_in}
+use Rattle.zq_spread.specs.Passes.{IsSeenLater, seen_at}
+use Rattle.zq_spread.specs.HeapSlots.{IsBegun, IsOf}
+use Rattle.zq_spread.specs.Turns.{IsLeftAsGiven, turns_at}
+use Rattle.zq_spread.specs.Worn.{IsAtLast}
 use Rattle.zq_spread.specs.declared.pass.Pass.{Pass}
 use Rattle.zq_spread.specs.declared.heap_slot.HeapSlot.{HeapSlot}
 use Rattle.zq_ticketlock.specs.Seats.{given, id_of, logged, reached, seen, value_of}
 
-pub unreachable-requires : goal.unreachable-requires
-unreachable-requires g c =
-    let slot = there_is c.args.self.now.slots.items c.args.heap c.requires.heap in
-    let there : slice_get c.args.pass.now.seats.items c.args.heap ≡ Some None =
-    taken_at c.args.pass.now.seats.items (length c.args.self.now.slots.items) c.args.heap c.index_mut.result.now c.take.result None c.requires.pass.seats c.requires.heap c.index_mut.ensures.value c.take.ensures.value c.in_default.is in
-    subst (IsSeatOf slot.0) there (c.requires.pass.seat c.args.heap slot.0 slot.1)
+pub take_seat-seat-requires-clause-seats : goal.take_seat-seat-requires-clause-seats
+take_seat-seat-requires-clause-seats g c = seats_of c.args.self.now (c.args.heap ∷ []) c.args.pass.now c.requires.pass
 
 pub begin-requires-clause-lock : goal.begin-requires-clause-lock
 begin-requires-clause-lock g c =
-    let slot : HeapSlot = c.index.result.now in
-    let at : slice_get c.args.self.now.slots.items c.args.heap ≡ Some slot = slice_get_read c.args.self.now.slots.items (length c.args.self.now.slots.items) c.args.heap slot refl c.requires.heap c.index.ensures in
-    let there : slice_get c.args.pass.now.seats.items c.args.heap ≡ Some (Some c.in-Some.seat) =
-    taken_at c.args.pass.now.seats.items (length c.args.self.now.slots.items) c.args.heap c.index_mut.result.now c.take.result (Some c.in-Some.seat) c.requires.pass.seats c.requires.heap c.index_mut.ensures.value c.take.ensures.value c.in-Some.is in
-    let fits : IsSeatOf slot (Some (Some c.in-Some.seat)) = subst (IsSeatOf slot) there (c.requires.pass.seat c.args.heap slot at) in fits.0
+    (c.take_seat-seat.ensures.seat c.index.result.now (slice_get_read c.args.self.now.slots.items (length c.args.self.now.slots.items) c.args.heap c.index.result.now refl c.requires.heap c.index.ensures)).0
 
 pub begin-requires-clause-seen : goal.begin-requires-clause-seen
 begin-requires-clause-seen g c =
-    let slot : HeapSlot = c.index.result.now in
-    let at : slice_get c.args.self.now.slots.items c.args.heap ≡ Some slot = slice_get_read c.args.self.now.slots.items (length c.args.self.now.slots.items) c.args.heap slot refl c.requires.heap c.index.ensures in
-    let there : slice_get c.args.pass.now.seats.items c.args.heap ≡ Some (Some c.in-Some.seat) =
-    taken_at c.args.pass.now.seats.items (length c.args.self.now.slots.items) c.args.heap c.index_mut.result.now c.take.result (Some c.in-Some.seat) c.requires.pass.seats c.requires.heap c.index_mut.ensures.value c.take.ensures.value c.in-Some.is in
-    let fits : IsSeatOf slot (Some (Some c.in-Some.seat)) = subst (IsSeatOf slot) there (c.requires.pass.seat c.args.heap slot at) in fits.1
-
-pub returns-in-Ok-clause-pass : goal.returns-in-Ok-clause-pass
-returns-in-Ok-clause-pass g c = seat_out c.args.self.now c.args.pass.now _ c.args.heap c.take.new.self refl refl refl c.requires.pass
+    (c.take_seat-seat.ensures.seat c.index.result.now (slice_get_read c.args.self.now.slots.items (length c.args.self.now.slots.items) c.args.heap c.index.result.now refl c.requires.heap c.index.ensures)).1
 
 pub returns-in-Ok-clause-lock : goal.returns-in-Ok-clause-lock
 returns-in-Ok-clause-lock g c = λ slot at.
     let here : slice_get c.args.self.now.slots.items c.args.heap ≡ Some c.index.result.now = slice_get_read c.args.self.now.slots.items (length c.args.self.now.slots.items) c.args.heap c.index.result.now refl c.requires.heap c.index.ensures in
     let one : c.index.result.now ≡ slot = same_Some c.index.result.now slot (sym here ∙ at) in
-    c.in-Ok.ensures.lock ∙ ap (λ r. id_of r.lock) one
+    c.in-Ok.ensures.lock ∙ ap (λ (r : HeapSlot). id_of r.lock) one
 
 pub returns-in-Ok-clause-begun : goal.returns-in-Ok-clause-begun
 returns-in-Ok-clause-begun g c = λ slot at.
     let here : slice_get c.args.self.now.slots.items c.args.heap ≡ Some c.index.result.now = slice_get_read c.args.self.now.slots.items (length c.args.self.now.slots.items) c.args.heap c.index.result.now refl c.requires.heap c.index.ensures in
     let one : c.index.result.now ≡ slot = same_Some c.index.result.now slot (sym here ∙ at) in
-    let there : slice_get c.args.pass.now.seats.items c.args.heap ≡ Some (Some c.in-Some.seat) =
-    taken_at c.args.pass.now.seats.items (length c.args.self.now.slots.items) c.args.heap c.index_mut.result.now c.take.result (Some c.in-Some.seat) c.requires.pass.seats c.requires.heap c.index_mut.ensures.value c.take.ensures.value c.in-Some.is in
-    subst (λ r. IfSome (given c.in-Ok.begun.0) (IsBegun r (seen_at c.args.pass.now c.args.heap) c.args.pass.now.stamp c.in-Ok.begun.1 (value_of c.in-Ok.begun.0))) one
-    (subst (λ o. IfSome (given c.in-Ok.begun.0) (IsBegun c.index.result.now o c.args.pass.now.stamp c.in-Ok.begun.1 (value_of c.in-Ok.begun.0))) (sym (ap seen_in there)) c.in-Ok.ensures.begun)
-
-pub returns-in-Ok-clause-others : goal.returns-in-Ok-clause-others
-returns-in-Ok-clause-others g c = λ k other.
-    let seat = slice_get-set_other c.args.pass.now.seats.items c.args.heap k c.take.new.self other in
-    (ap seen_in seat, ap turns_in seat)
+    let old : Pass = c.args.pass.now in
+    subst (λ r. IfSome (given c.in-Ok.begun.0) (IsBegun r (seen_at old c.args.heap) old.stamp c.in-Ok.begun.1 (value_of c.in-Ok.begun.0))) one
+    (subst (λ o. IfSome (given c.in-Ok.begun.0) (IsBegun c.index.result.now o old.stamp c.in-Ok.begun.1 (value_of c.in-Ok.begun.0))) c.take_seat-seat.ensures.seen
+    (subst (λ n. IfSome (given c.in-Ok.begun.0) (IsBegun c.index.result.now (seen c.take_seat-seat.result) n c.in-Ok.begun.1 (value_of c.in-Ok.begun.0))) c.take_seat-seat.ensures.stays.stamp c.in-Ok.ensures.begun))
 
 pub returns-in-Ok-clause-turns : goal.returns-in-Ok-clause-turns
-returns-in-Ok-clause-turns g c =
-    let there : slice_get c.args.pass.now.seats.items c.args.heap ≡ Some (Some c.in-Some.seat) =
-    taken_at c.args.pass.now.seats.items (length c.args.self.now.slots.items) c.args.heap c.index_mut.result.now c.take.result (Some c.in-Some.seat) c.requires.pass.seats c.requires.heap c.index_mut.ensures.value c.take.ensures.value c.in-Some.is in
-    c.in-Ok.ensures.turns ∙ sym (ap turns_in there)
+returns-in-Ok-clause-turns g c = c.in-Ok.ensures.turns ∙ c.take_seat-seat.ensures.turns
+
+pub returns-in-Ok-clause-others : goal.returns-in-Ok-clause-others
+returns-in-Ok-clause-others g c = λ k other. (c.take_seat-seat.ensures.stays.others k other, c.take_seat-seat.ensures.stays.turns k other)
+
+pub put_seat-requires-clause-seat : goal.put_seat-requires-clause-seat
+put_seat-requires-clause-seat g c = λ slot at.
+    let here : slice_get c.args.self.now.slots.items c.args.heap ≡ Some c.index.result.now = slice_get_read c.args.self.now.slots.items (length c.args.self.now.slots.items) c.args.heap c.index.result.now refl c.requires.heap c.index.ensures in
+    let one : c.index.result.now ≡ slot = same_Some c.index.result.now slot (sym here ∙ at) in
+    (c.in-Err.ensures.refused.0 ∙ ap (λ (r : HeapSlot). id_of r.lock) one, subst (λ (r : HeapSlot). IfSome (seen c.in-Err.seat) (IsOf r)) one c.in-Err.ensures.refused.1)
 
 pub returns-in-Err-clause-refused : goal.returns-in-Err-clause-refused
 returns-in-Err-clause-refused g c =
-    let site = c.args.self.now in
     let old : Pass = c.args.pass.now in
-    let heap : ℕ = c.args.heap in
-    let mid : Pass = record { seats = Vec.with_item old.seats heap c.take.new.self; counts = old.counts; stamp = old.stamp } in
-    let new : Pass = record { seats = Vec.with_item mid.seats heap (Some c.in-Err.seat); counts = old.counts; stamp = old.stamp } in
-    let here : slice_get site.slots.items heap ≡ Some c.index.result.now = slice_get_read site.slots.items (length site.slots.items) heap c.index.result.now refl c.requires.heap c.index.ensures in
-    let there : slice_get old.seats.items heap ≡ Some (Some c.in-Some.seat) =
-    taken_at old.seats.items (length site.slots.items) heap c.index_mut.result.now c.take.result (Some c.in-Some.seat) c.requires.pass.seats c.requires.heap c.index_mut.ensures.value c.take.ensures.value c.in-Some.is in
-    let but : IsPassBut site (heap ∷ []) mid = seat_out site old mid heap c.take.new.self refl refl refl c.requires.pass in
-    let fits : IsSeatOf c.index.result.now (Some (Some c.in-Err.seat)) = (c.in-Err.ensures.refused.0, c.in-Err.ensures.refused.1) in
-    let now : slice_get new.seats.items heap ≡ Some (Some c.in-Err.seat) = slice_get-set_same mid.seats.items heap (Some c.in-Err.seat) (subst (λ n. heap < n) (sym but.seats) c.requires.heap) in
-    let later : IsSeenLater (seen_at new heap) (seen_at old heap) =
-    subst (λ o. IsSeenLater o (seen_at old heap)) (sym (ap seen_in now)) (subst (λ o. IsSeenLater (seen_in (Some (Some c.in-Err.seat))) o) (sym (ap seen_in there)) c.in-Err.ensures.refused.2) in
-    let left : IsLeftAsGiven (turns_at new heap) (turns_at old heap) =
-    subst (λ l. IsLeftAsGiven l (turns_at old heap)) (sym (ap turns_in now)) (subst (λ l. IsLeftAsGiven (logged c.in-Err.seat) l) (sym (ap turns_in there)) c.in-Err.ensures.left) in
-    let others : (k : ℕ) → (k ≡ heap → ⊥) → (seen_at new k ≡ seen_at old k) × (turns_at new k ≡ turns_at old k) = λ k other.
-    let seat = slice_get-set_other mid.seats.items heap k (Some c.in-Err.seat) other ∙ slice_get-set_other old.seats.items heap k c.take.new.self other in
-    (ap seen_in seat, ap turns_in seat) in (
-      seat_back site mid new heap c.index.result.now c.in-Err.seat c.requires.heap here refl refl refl fits but,
-      (stopped old new heap (λ k. refl) refl later left others, found_last old.stamp heap new (reached c.in-Err.seat) (seen c.in-Err.seat) (ap reached_in now) (ap seen_in now) c.in-Err.ensures.worn),
+    let new : Pass = c.put_seat.new.pass in
+    let later : IsSeenLater (seen_at new c.args.heap) (seen_at old c.args.heap) =
+    subst (λ o. IsSeenLater o (seen_at old c.args.heap)) (sym c.put_seat.ensures.seen) (subst (λ o. IsSeenLater (seen c.in-Err.seat) o) c.take_seat-seat.ensures.seen c.in-Err.ensures.refused.2) in
+    let left : IsLeftAsGiven (turns_at new c.args.heap) (turns_at old c.args.heap) =
+    subst (λ l. IsLeftAsGiven l (turns_at old c.args.heap)) (sym c.put_seat.ensures.turns) (subst (λ l. IsLeftAsGiven (logged c.in-Err.seat) l) c.take_seat-seat.ensures.turns c.in-Err.ensures.left) in
+    let others : (k : ℕ) → (k ≡ c.args.heap → ⊥) → (seen_at new k ≡ seen_at old k) × (turns_at new k ≡ turns_at old k) = λ k other.
+    (c.put_seat.ensures.stays.others k other ∙ c.take_seat-seat.ensures.stays.others k other, c.put_seat.ensures.stays.turns k other ∙ c.take_seat-seat.ensures.stays.turns k other) in
+    let why : (LAST_STAMP ≤ old.stamp) ⊎ IsAtLast (reached c.in-Err.seat) (seen c.in-Err.seat) =
+    subst (λ n. (LAST_STAMP ≤ n) ⊎ IsAtLast (reached c.in-Err.seat) (seen c.in-Err.seat)) c.take_seat-seat.ensures.stays.stamp c.in-Err.ensures.worn in (
+      c.put_seat.ensures.pass (c.take_seat-seat.ensures.pass c.requires.pass),
+      (
+        stopped old new c.args.heap (λ k. c.put_seat.ensures.stays.steps k ∙ c.take_seat-seat.ensures.stays.steps k) (c.put_seat.ensures.stays.stamp ∙ c.take_seat-seat.ensures.stays.stamp) later left others,
+        found_last old.stamp c.args.heap new (reached c.in-Err.seat) (seen c.in-Err.seat) c.put_seat.ensures.reached c.put_seat.ensures.seen why,
+      ),
     )
+
+pub returns-in-Ok-clause-pass : goal.returns-in-Ok-clause-pass
+returns-in-Ok-clause-pass g c = c.take_seat-seat.ensures.pass c.requires.pass
+
+pub put_seat-requires-clause-number : goal.put_seat-requires-clause-number
+put_seat-requires-clause-number g c = c.take_seat-seat.ensures.outside.number ∙ c.requires.pass.seats

@@ -1,7 +1,8 @@
 use Rattle.std.proofs.Common.{ap, subst, sym, ◌∙◌}
-use Rattle.std.specs.Prelude.{◌<◌}
+use Rattle.std.specs.Prelude.{[], ◌<◌, ◌∷◌}
 use Rattle.zq_spread.proofs.Companies.{same_pass}
 use Rattle.zq_spread.proofs.Counted.{of_seen}
+use Rattle.zq_spread.proofs.ManyHeaps.{seats_of}
 use Rattle.zq_spread.proofs.Refused.{hold_busy, hold_worn}
 use Rattle.zq_spread.proofs.site.Site.hold.Goals as goal
 use Rattle.zq_spread.specs.Calls.{heaps_of}
@@ -12,14 +13,17 @@ use Rattle.zq_spread.specs.Worn.{reached_at, served_at}
 use Rattle.zq_ticketlock.specs.Seats.{reached, seen, served}
 use Rattle.zq_ticketlock.specs.Steps.{FollowsSeen}
 
+pub take_seat-seat-requires-clause-seats : goal.take_seat-seat-requires-clause-seats
+take_seat-seat-requires-clause-seats c = seats_of c.args.self.now (c.from-heap.result ∷ []) c.args.pass c.requires.pass
+
 pub returns-in-Ok-clause-holding : goal.returns-in-Ok-clause-holding
 returns-in-Ok-clause-holding c =
     let within : c.from-heap.result < heaps_of c.args.self.now = subst (λ h. h < heaps_of c.args.self.now) (sym c.from-heap.ensures) c.requires.heap in
     record {
       heap = within;
-      pass = c.take_seat-seat.ensures.pass;
+      pass = c.take_seat-seat.ensures.pass c.requires.pass;
       lock = λ slot at. c.in-Ok.ensures.lock ∙ (c.take_seat-seat.ensures.seat slot at).0;
-      of = λ slot at. of_seen slot c.in-Ok.held.value (seen c.take_seat-seat.result) c.has_seen.ensures c.in-Ok.ensures.follows (c.take_seat-seat.ensures.seat slot at).1;
+      of = λ slot at. of_seen slot c.in-Ok.held.value (seen c.take_seat-seat.result) c.take_seat-seat.ensures.some c.in-Ok.ensures.follows (c.take_seat-seat.ensures.seat slot at).1;
       home = c.in-Ok.ensures.holds;
       given = c.in-Ok.ensures.given;
     }
@@ -53,3 +57,9 @@ returns-in-Err-clause-busy c =
     let new = c.put_seat.new.pass in
     hold_busy c.in-Err.fault c.from.result (served c.in-Err.seat) (reached c.in-Err.seat) (served_at new c.args.heap) (reached_at new c.args.heap) c.from.ensures
     (ap (served_at new) (sym c.from-heap.ensures) ∙ c.put_seat.ensures.served) (ap (reached_at new) (sym c.from-heap.ensures) ∙ c.put_seat.ensures.reached) c.in-Err.ensures.busy
+
+pub put_seat-requires-clause-number : goal.put_seat-requires-clause-number
+put_seat-requires-clause-number c = c.take_seat-seat.ensures.outside.number ∙ c.requires.pass.seats
+
+pub returns-in-Err-clause-back : goal.returns-in-Err-clause-back
+returns-in-Err-clause-back c = c.put_seat.ensures.pass (c.take_seat-seat.ensures.pass c.requires.pass)

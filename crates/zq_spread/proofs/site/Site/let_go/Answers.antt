@@ -20,8 +20,8 @@ unlock-seat-requires-clause-own c =
 pub unlock-seat-requires-clause-follows : goal.unlock-seat-requires-clause-follows
 unlock-seat-requires-clause-follows c = subst (FollowsSeen Follows c.args.held.value) (sym c.requires.held.was_given) (follows_itself c.args.held.value)
 
-pub seat_in-requires-clause-seat : goal.seat_in-requires-clause-seat
-seat_in-requires-clause-seat c = λ slot here.
+pub put_seat-requires-clause-seat : goal.put_seat-requires-clause-seat
+put_seat-requires-clause-seat c = λ slot here.
     let one : c.requires.held.slot ≡ slot = same_Some c.requires.held.slot slot (sym c.requires.held.at ∙ here) in (
       c.unlock-seat.ensures.lock ∙ c.requires.held.lock ∙ ap (λ (r : HeapSlot). id_of r.lock) one,
       subst (λ o. IfSome o (IsOf slot)) (sym c.unlock-seat.ensures.seen) (subst (λ (r : HeapSlot). IsOf r c.args.held.value) one c.requires.held.of),
@@ -30,5 +30,5 @@ seat_in-requires-clause-seat c = λ slot here.
 pub returns-clause-turn : goal.returns-clause-turn
 returns-clause-turn c =
     let held = c.args.held in
-    subst (λ l. HasTurn held.value held.value l (held_logged held)) (sym c.seat_in.ensures.turns)
+    subst (λ l. HasTurn held.value held.value l (held_logged held)) (sym c.put_seat.ensures.turns)
     (turn_of (given held) held.value held.value held.ticket (logged c.unlock-seat.result) (held_logged held) c.requires.held.was_given c.unlock-seat.ensures.logged)

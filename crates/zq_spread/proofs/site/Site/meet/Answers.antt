@@ -1,5 +1,6 @@
 use Rattle.std.proofs.Common.{subst, sym, ◌≤◌, ◌∙◌}
-use Rattle.std.specs.Prelude.{ℕ}
+use Rattle.std.specs.Prelude.{[], ℕ, ◌∷◌}
+use Rattle.zq_spread.proofs.ManyHeaps.{seats_of}
 use Rattle.zq_spread.proofs.site.Site.meet.Goals as goal
 use Rattle.zq_spread.specs.LockedHeaps.{Follows}
 use Rattle.zq_spread.specs.Meetings.{HaveLeft, HaveMet, HaveParted}
@@ -9,6 +10,12 @@ use Rattle.zq_spread.specs.Worn.{reached_at}
 use Rattle.zq_ticketlock.specs.Limits.{last_ticket}
 use Rattle.zq_ticketlock.specs.Seats.{logged}
 use Rattle.zq_ticketlock.specs.Steps.{FollowsSeen}
+
+pub take_seat-one-requires-clause-seats : goal.take_seat-one-requires-clause-seats
+take_seat-one-requires-clause-seats g c = seats_of c.args.self.now (c.from-heap.result ∷ []) c.args.first.now c.requires.first
+
+pub take_seat-other-requires-clause-seats : goal.take_seat-other-requires-clause-seats
+take_seat-other-requires-clause-seats g c = seats_of c.args.self.now (c.from-heap.result ∷ []) c.args.second.now c.requires.second
 
 pub returns-in-Ok-clause-met : goal.returns-in-Ok-clause-met
 returns-in-Ok-clause-met g c =

@@ -16,7 +16,7 @@ pub merge-merged-requires-clause-stamp : goal.merge-merged-requires-clause-stamp
 merge-merged-requires-clause-stamp g c =
     let heaps : c.args.other.now.heaps ≡ heaps_of c.args.self.now = omega (arith, c.heaps.ensures.same, c.from.ensures, c.if-from-len.false, c.len.ensures) in
     let within : c.from-heap.result < heaps_of c.args.self.now = omega (arith, heaps, c.heap.ensures.below, c.from-heap.ensures) in
-    let is = begun_on c.args.self.now c.args.pass.now c.from-heap.result c.in-Ok.stamp c.in-Ok.held within c.was_given.ensures c.in-Ok.ensures.begun in
+    let is = begun_on c.args.self.now c.args.pass.now c.from-heap.result c.in-Ok.stamp c.in-Ok.held within c.in-Ok.ensures.given c.in-Ok.ensures.begun in
     let same : c.value_mut.result.now.book.stamp ≡ c.in-Ok.stamp = ap (λ (v : LockedHeap). v.book.stamp) c.value_mut.ensures.value ∙ is.4.worked.stamp_is in
     omega (arith, same)
 
@@ -27,7 +27,7 @@ merge-merged-requires-clause-same_heap g c =
     let like : IsLikeSite c.args.self.now c.args.other.now = record { heaps = heaps; rule = rule } in
     let within : c.from-heap.result < heaps_of c.args.self.now = omega (arith, heaps, c.heap.ensures.below, c.from-heap.ensures) in
     let here : c.args.other.now.heap ≡ c.from-heap.result = omega (arith, c.from-heap.ensures, c.heap.ensures.same) in
-    let is = begun_on c.args.self.now c.args.pass.now c.from-heap.result c.in-Ok.stamp c.in-Ok.held within c.was_given.ensures c.in-Ok.ensures.begun in
+    let is = begun_on c.args.self.now c.args.pass.now c.from-heap.result c.in-Ok.stamp c.in-Ok.held within c.in-Ok.ensures.given c.in-Ok.ensures.begun in
     subst (λ (v : LockedHeap). IsSameHeap (state_of v.book) c.args.other.now) (sym c.value_mut.ensures.value)
     (begun_same_heap c.args.self.now is.0 c.from-heap.result c.in-Ok.stamp c.args.other.now c.in-Ok.held.value is.2 (c.requires.pass.slots c.from-heap.result is.0 is.1) is.4.worked is.4.of like here)
 
@@ -37,7 +37,7 @@ merge-merged-requires-clause-same_rule g c =
     let rule : c.args.other.now.rule ≡ rule_of c.args.self.now.rule = sym c.rule.ensures ∙ same_rules c.rule.result c.args.self.now.rule c.ne.result c.ne.ensures c.if-ne.false in
     let like : IsLikeSite c.args.self.now c.args.other.now = record { heaps = heaps; rule = rule } in
     let within : c.from-heap.result < heaps_of c.args.self.now = omega (arith, heaps, c.heap.ensures.below, c.from-heap.ensures) in
-    let is = begun_on c.args.self.now c.args.pass.now c.from-heap.result c.in-Ok.stamp c.in-Ok.held within c.was_given.ensures c.in-Ok.ensures.begun in
+    let is = begun_on c.args.self.now c.args.pass.now c.from-heap.result c.in-Ok.stamp c.in-Ok.held within c.in-Ok.ensures.given c.in-Ok.ensures.begun in
     ap (λ (v : LockedHeap). v.book.rule) c.value_mut.ensures.value
     ∙ begun_same_rule c.args.self.now is.0 c.from-heap.result c.in-Ok.stamp c.args.other.now c.in-Ok.held.value is.2 (c.requires.pass.slots c.from-heap.result is.0 is.1) is.4.worked is.4.of like
 
@@ -53,7 +53,7 @@ pub returns-clause-wrong_heap : goal.returns-clause-wrong_heap
 returns-clause-wrong_heap g c =
     let heaps : c.args.other.now.heaps ≡ heaps_of c.args.self.now = omega (arith, c.heaps.ensures.same, c.from.ensures, c.if-from-len.false, c.len.ensures) in
     let within : c.from-heap.result < heaps_of c.args.self.now = omega (arith, heaps, c.heap.ensures.below, c.from-heap.ensures) in
-    let is = begun_on c.args.self.now c.args.pass.now c.from-heap.result c.in-Ok.stamp c.in-Ok.held within c.was_given.ensures c.in-Ok.ensures.begun in
+    let is = begun_on c.args.self.now c.args.pass.now c.from-heap.result c.in-Ok.stamp c.in-Ok.held within c.in-Ok.ensures.given c.in-Ok.ensures.begun in
     let done : HasWorked (IsMerged c.in-Ok.stamp c.args.other.now c.merge-merged.result) c.merge-merged.new.self.book is.2.book c.in-Ok.stamp =
     c.merge-merged.ensures.worked is.2.book (subst (λ (v : LockedHeap). IsWorked v.book is.2.book c.in-Ok.stamp []) (sym c.value_mut.ensures.value) is.4.worked) in (
       (λ e of. subst (λ r. IsMerged c.in-Ok.stamp c.args.other.now r (is.2.book ∷ []) (done.0 ∷ [])) e done.2),
@@ -65,7 +65,7 @@ returns-clause-wrong_rule g c =
     let heaps : c.args.other.now.heaps ≡ heaps_of c.args.self.now = omega (arith, c.heaps.ensures.same, c.from.ensures, c.if-from-len.false, c.len.ensures) in
     let rule : c.args.other.now.rule ≡ rule_of c.args.self.now.rule = sym c.rule.ensures ∙ same_rules c.rule.result c.args.self.now.rule c.ne.result c.ne.ensures c.if-ne.false in
     let within : c.from-heap.result < heaps_of c.args.self.now = omega (arith, heaps, c.heap.ensures.below, c.from-heap.ensures) in
-    let is = begun_on c.args.self.now c.args.pass.now c.from-heap.result c.in-Ok.stamp c.in-Ok.held within c.was_given.ensures c.in-Ok.ensures.begun in
+    let is = begun_on c.args.self.now c.args.pass.now c.from-heap.result c.in-Ok.stamp c.in-Ok.held within c.in-Ok.ensures.given c.in-Ok.ensures.begun in
     let done : HasWorked (IsMerged c.in-Ok.stamp c.args.other.now c.merge-merged.result) c.merge-merged.new.self.book is.2.book c.in-Ok.stamp =
     c.merge-merged.ensures.worked is.2.book (subst (λ (v : LockedHeap). IsWorked v.book is.2.book c.in-Ok.stamp []) (sym c.value_mut.ensures.value) is.4.worked) in (
       (λ e. absurd (subst (λ r. IsMerged c.in-Ok.stamp c.args.other.now r (is.2.book ∷ []) (done.0 ∷ [])) e done.2)),
@@ -82,6 +82,6 @@ returns-clause-called g c = λ like.
     let within : heap < heaps_of c.args.self.now = omega (arith, heaps, c.heap.ensures.below, c.from-heap.ensures) in
     let here : c.args.other.now.heap ≡ heap = omega (arith, c.from-heap.ensures, c.heap.ensures.same) in
     let call : IsCall (IsMerged c.in-Ok.stamp c.args.other.now c.merge-merged.result) c.args.pass.now c.end_in.new.pass (heap ∷ []) =
-    called_in (IsMerged c.in-Ok.stamp c.args.other.now c.merge-merged.result) c.args.self.now c.args.pass.now c.begin_in.new.pass c.end_in.new.pass heap c.in-Ok.stamp held c.merge-merged.new.self within c.was_given.ensures c.in-Ok.ensures.begun works c.end_in.ensures.stamp c.end_in.ensures.seen c.end_in.ensures.steps c.in-Ok.ensures.others c.in-Ok.ensures.steps c.end_in.ensures.others c.in-Ok.ensures.turns in
+    called_in (IsMerged c.in-Ok.stamp c.args.other.now c.merge-merged.result) c.args.self.now c.args.pass.now c.begin_in.new.pass c.end_in.new.pass heap c.in-Ok.stamp held c.merge-merged.new.self within c.in-Ok.ensures.given c.in-Ok.ensures.begun works c.end_in.ensures.stamp c.end_in.ensures.seen c.end_in.ensures.steps c.in-Ok.ensures.others c.in-Ok.ensures.steps c.end_in.ensures.others c.in-Ok.ensures.turns in
     inl (subst (λ n. IsCall (IsMerged n c.args.other.now c.merge-merged.result) c.args.pass.now c.end_in.new.pass (c.args.other.now.heap ∷ [])) (sym c.end_in.ensures.stamp)
     (subst (λ h. IsCall (IsMerged c.in-Ok.stamp c.args.other.now c.merge-merged.result) c.args.pass.now c.end_in.new.pass (h ∷ [])) (sym here) call))

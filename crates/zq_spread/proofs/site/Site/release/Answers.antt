@@ -17,3 +17,9 @@ returns-clause-back c =
           (turn_of (given held) value value held.ticket (logged c.unlock-seat.result) (held_logged held) c.requires.holding.given c.unlock-seat.ensures.logged);
       rest = c.put_seat.ensures.stays.turns;
     }
+
+pub put_seat-requires-clause-number : goal.put_seat-requires-clause-number
+put_seat-requires-clause-number c = c.requires.holding.pass.seats
+
+pub returns-clause-pass : goal.returns-clause-pass
+returns-clause-pass c = c.put_seat.ensures.pass c.requires.holding.pass

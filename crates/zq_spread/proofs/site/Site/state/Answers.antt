@@ -24,5 +24,5 @@ returns-clause-called g c =
     copied_by c.copy-copy.result held.value.book a c.in-Ok.stamp (subst (λ (v : LockedHeap). read_of IsCopyOf c.copy-copy.result v.book) c.value.ensures c.copy-copy.ensures) begun in
     let within : heap < heaps_of c.args.self.now = subst (λ h. h < heaps_of c.args.self.now) (sym c.from-heap.ensures) c.requires.heap in
     let call : IsCall (IsCopied c.copy-copy.result) c.args.pass.now c.end_in.new.pass (heap ∷ []) =
-    called_in (IsCopied c.copy-copy.result) c.args.self.now c.args.pass.now c.begin_in.new.pass c.end_in.new.pass heap c.in-Ok.stamp held held.value within c.was_given.ensures c.in-Ok.ensures.begun works c.end_in.ensures.stamp c.end_in.ensures.seen c.end_in.ensures.steps c.in-Ok.ensures.others c.in-Ok.ensures.steps c.end_in.ensures.others c.in-Ok.ensures.turns in
+    called_in (IsCopied c.copy-copy.result) c.args.self.now c.args.pass.now c.begin_in.new.pass c.end_in.new.pass heap c.in-Ok.stamp held held.value within c.in-Ok.ensures.given c.in-Ok.ensures.begun works c.end_in.ensures.stamp c.end_in.ensures.seen c.end_in.ensures.steps c.in-Ok.ensures.others c.in-Ok.ensures.steps c.end_in.ensures.others c.in-Ok.ensures.turns in
     inl (subst (λ h. IsCall (IsCopied c.copy-copy.result) c.args.pass.now c.end_in.new.pass (h ∷ [])) c.from-heap.ensures call)

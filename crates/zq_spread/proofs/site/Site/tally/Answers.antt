@@ -2,8 +2,9 @@ use Rattle.std.proofs.Common.{ap, arith, length, subst, sym, ◌∙◌}
 use Rattle.std.proofs.lemmas.List.Elements.{All-cons, All-tail}
 use Rattle.std.proofs.lemmas.List.Sums.{sum_by-cons}
 use Rattle.std.proofs.lemmas.Option.{same_Some, slice_get_read}
-use Rattle.std.specs.Prelude.{All, IfSome, List, Some, refl, sum, ℕ, ◌+◌, ◌<◌, ◌≡◌, ◌≤◌, ◌∷◌}
+use Rattle.std.specs.Prelude.{All, IfSome, List, Some, [], refl, sum, ℕ, ◌+◌, ◌<◌, ◌≡◌, ◌≤◌, ◌∷◌}
 use Rattle.zq_spread.proofs.Companies.{all_back, all_same, back_but, back_but_same, follows_of, held_of, same_but_then, same_itself, same_sum, tallied_follows}
+use Rattle.zq_spread.proofs.ManyHeaps.{seats_of}
 use Rattle.zq_spread.proofs.Places.{zip_length}
 use Rattle.zq_spread.proofs.Seats.{seen_later}
 use Rattle.zq_spread.proofs.LeftAsGiven.{held_once, none_held, turn_of}
@@ -17,18 +18,27 @@ use Rattle.zq_spread.specs.Worn.{reached_at}
 use Rattle.zq_spread.specs.declared.locked_heap.LockedHeap.{LockedHeap}
 use Rattle.zq_spread.specs.declared.pass.Pass.{Pass}
 use Rattle.zq_spread.specs.declared.heap_slot.HeapSlot.{HeapSlot}
+use Rattle.zq_spread.specs.declared.site.Site.{Site}
 use Rattle.zq_tally.specs.Words.{IsSameTotal, kept_of, parts_of, passes_of, total_of, total_table}
 use Rattle.zq_tally.specs.Limits.{ALL_PARTS}
 use Rattle.zq_ticketlock.specs.Steps.{FollowsSeen}
 use Rattle.zq_ticketlock.specs.Limits.{last_ticket}
 use Rattle.zq_ticketlock.specs.Seats.{given, held_logged, logged}
 
+-- the first of all passes is one of the site's
+first_of : (site : Site) (first : Pass) (others passes : List Pass) → passes ≡ first ∷ others → All (IsPassOf site) passes → IsPassOf site first
+first_of site first others passes cut each = subst (All (IsPassOf site)) cut each 0 first (omega arith)
+
+pub take_seat-seat-requires-clause-seats : goal.take_seat-seat-requires-clause-seats
+take_seat-seat-requires-clause-seats g c =
+    seats_of c.args.self.now (c.from-heap.result ∷ []) c.in-Some.first.now (first_of c.args.self.now c.in-Some.first.now c.in-Some.others.now c.args.passes.now c.in-Some.ensures.cases.0 c.requires.all.each)
+
 pub gather-requires-clause-own : goal.gather-requires-clause-own
 gather-requires-clause-own g c =
     let slot : HeapSlot = c.index-slot.result.now in
     let within : c.from-heap.result < length c.args.self.now.slots.items = subst (λ k. k < length c.args.self.now.slots.items) (sym c.from-heap.ensures) c.requires.heap in
     let at = slice_get_read c.args.self.now.slots.items (length c.args.self.now.slots.items) c.from-heap.result slot refl within c.index-slot.ensures in
-    let held = held_of slot c.take_seat-seat.result c.in-Ok.held.value c.has_seen.ensures (c.take_seat-seat.ensures.seat slot at) c.in-Ok.ensures.follows in
+    let held = held_of slot c.take_seat-seat.result c.in-Ok.held.value c.take_seat-seat.ensures.some (c.take_seat-seat.ensures.seat slot at) c.in-Ok.ensures.follows in
     ap (λ (v : LockedHeap). total_table v.total) c.value_mut.ensures.value ∙ held.3.table
 
 pub gather-requires-clause-first : goal.gather-requires-clause-first
@@ -36,7 +46,7 @@ gather-requires-clause-first g c =
     let slot : HeapSlot = c.index-slot.result.now in
     let within : c.from-heap.result < length c.args.self.now.slots.items = subst (λ k. k < length c.args.self.now.slots.items) (sym c.from-heap.ensures) c.requires.heap in
     let at = slice_get_read c.args.self.now.slots.items (length c.args.self.now.slots.items) c.from-heap.result slot refl within c.index-slot.ensures in
-    c.take_seat-seat.ensures.pass.count c.from-heap.result slot at
+    (c.take_seat-seat.ensures.pass (first_of c.args.self.now c.in-Some.first.now c.in-Some.others.now c.args.passes.now c.in-Some.ensures.cases.0 c.requires.all.each)).count c.from-heap.result slot at
 
 pub gather-requires-clause-others : goal.gather-requires-clause-others
 gather-requires-clause-others g c = λ k d low.
@@ -55,7 +65,7 @@ gather-requires-clause-all g c =
     let others : List Pass = c.in-Some.others.now in
     let within : c.from-heap.result < length c.args.self.now.slots.items = subst (λ k. k < length c.args.self.now.slots.items) (sym c.from-heap.ensures) c.requires.heap in
     let at = slice_get_read c.args.self.now.slots.items (length c.args.self.now.slots.items) c.from-heap.result slot refl within c.index-slot.ensures in
-    let held = held_of slot c.take_seat-seat.result value c.has_seen.ensures (c.take_seat-seat.ensures.seat slot at) c.in-Ok.ensures.follows in
+    let held = held_of slot c.take_seat-seat.result value c.take_seat-seat.ensures.some (c.take_seat-seat.ensures.seat slot at) c.in-Ok.ensures.follows in
     let spare : length c.args.passes.now + slot.spare ≡ ALL_PARTS = c.requires.all.all c.from-heap.result slot at in
     let parts : kept_of value.total ≡ slot.spare = held.3.parts in
     let nobody : length (passes_of value.total) ≡ 0 = ap length c.in-Ok.ensures.holds in
@@ -69,12 +79,12 @@ unlock-seat-requires-clause-own g c =
     let at = slice_get_read c.args.self.now.slots.items (length c.args.self.now.slots.items) c.from-heap.result slot refl within c.index-slot.ensures in
     c.in-Ok.ensures.lock ∙ (c.take_seat-seat.ensures.seat slot at).0
 
-pub put_seat-requires-clause-pass : goal.put_seat-requires-clause-pass
-put_seat-requires-clause-pass g c =
+pub put_seat-requires-clause-number : goal.put_seat-requires-clause-number
+put_seat-requires-clause-number g c =
     let slot : HeapSlot = c.index-slot.result.now in
     let within : c.from-heap.result < length c.args.self.now.slots.items = subst (λ k. k < length c.args.self.now.slots.items) (sym c.from-heap.ensures) c.requires.heap in
     let at = slice_get_read c.args.self.now.slots.items (length c.args.self.now.slots.items) c.from-heap.result slot refl within c.index-slot.ensures in
-    back_but c.args.self.now c.from-heap.result slot at c.take_seat-seat.new.pass c.gather.new.first c.gather.ensures.first c.take_seat-seat.ensures.pass
+    (back_but c.args.self.now c.from-heap.result slot at c.take_seat-seat.new.pass c.gather.new.first c.gather.ensures.first (c.take_seat-seat.ensures.pass (first_of c.args.self.now c.in-Some.first.now c.in-Some.others.now c.args.passes.now c.in-Some.ensures.cases.0 c.requires.all.each))).seats
 
 pub put_seat-requires-clause-seat : goal.put_seat-requires-clause-seat
 put_seat-requires-clause-seat g c = λ other at_other.
@@ -84,7 +94,7 @@ put_seat-requires-clause-seat g c = λ other at_other.
     let within : c.from-heap.result < length c.args.self.now.slots.items = subst (λ k. k < length c.args.self.now.slots.items) (sym c.from-heap.ensures) c.requires.heap in
     let at = slice_get_read c.args.self.now.slots.items (length c.args.self.now.slots.items) c.from-heap.result slot refl within c.index-slot.ensures in
     let seat = c.take_seat-seat.ensures.seat slot at in
-    let held = held_of slot c.take_seat-seat.result value c.has_seen.ensures seat c.in-Ok.ensures.follows in
+    let held = held_of slot c.take_seat-seat.result value c.take_seat-seat.ensures.some seat c.in-Ok.ensures.follows in
     let total : IsSameTotal now.total value.total = subst (λ (v : LockedHeap). IsSameTotal now.total v.total) c.value_mut.ensures.value c.gather.ensures.stays in
     let later : Follows now value = tallied_follows now value (ap (λ (v : LockedHeap). v.book) c.value_mut.ensures.value) total in
     let fits : IsSeatOf slot (Some (Some c.unlock-seat.result)) =
@@ -104,7 +114,7 @@ returns-in-Ok-clause-all g c =
     let same : length back ≡ length others = zip_length (IsCountBack slot c.from-heap.result) others back c.gather.ensures.others in
     record {
       some = omega arith;
-      each = All-cons (IsPassOf c.args.self.now) c.put_seat.new.pass back c.put_seat.ensures.pass
+      each = All-cons (IsPassOf c.args.self.now) c.put_seat.new.pass back (c.put_seat.ensures.pass (back_but c.args.self.now c.from-heap.result slot at c.take_seat-seat.new.pass c.gather.new.first c.gather.ensures.first (c.take_seat-seat.ensures.pass (first_of c.args.self.now c.in-Some.first.now c.in-Some.others.now c.args.passes.now c.in-Some.ensures.cases.0 c.requires.all.each))))
           (all_back c.args.self.now c.from-heap.result slot at others back c.gather.ensures.others (All-tail (IsPassOf c.args.self.now) first others all));
       all = λ k r at_k. let spare : length c.args.passes.now + r.spare ≡ ALL_PARTS = c.requires.all.all k r at_k in omega (arith, spare, long, same);
     }
@@ -120,7 +130,7 @@ returns-in-Ok-clause-stays g c =
     let back : List Pass = c.gather.new.others in
     let within : h < length c.args.self.now.slots.items = subst (λ k. k < length c.args.self.now.slots.items) (sym c.from-heap.ensures) c.requires.heap in
     let at = slice_get_read c.args.self.now.slots.items (length c.args.self.now.slots.items) h slot refl within c.index-slot.ensures in
-    let held = held_of slot c.take_seat-seat.result value c.has_seen.ensures (c.take_seat-seat.ensures.seat slot at) c.in-Ok.ensures.follows in
+    let held = held_of slot c.take_seat-seat.result value c.take_seat-seat.ensures.some (c.take_seat-seat.ensures.seat slot at) c.in-Ok.ensures.follows in
     let total : IsSameTotal now.total value.total = subst (λ (v : LockedHeap). IsSameTotal now.total v.total) c.value_mut.ensures.value c.gather.ensures.stays in
     let later : Follows now value = tallied_follows now value (ap (λ (v : LockedHeap). v.book) c.value_mut.ensures.value) total in
     let seen_now : seen_at c.put_seat.new.pass h ≡ Some now = c.put_seat.ensures.seen ∙ c.unlock-seat.ensures.seen in
@@ -157,7 +167,7 @@ returns-in-Ok-clause-sum g c =
     let first : Pass = c.put_seat.new.pass in
     let within : h < length site.slots.items = subst (λ k. k < length site.slots.items) (sym c.from-heap.ensures) c.requires.heap in
     let at = slice_get_read site.slots.items (length site.slots.items) h slot refl within c.index-slot.ensures in
-    let held = held_of slot c.take_seat-seat.result value c.has_seen.ensures (c.take_seat-seat.ensures.seat slot at) c.in-Ok.ensures.follows in
+    let held = held_of slot c.take_seat-seat.result value c.take_seat-seat.ensures.some (c.take_seat-seat.ensures.seat slot at) c.in-Ok.ensures.follows in
     let total : IsSameTotal now.total value.total = subst (λ (v : LockedHeap). IsSameTotal now.total v.total) c.value_mut.ensures.value c.gather.ensures.stays in
     let later : Follows now value = tallied_follows now value (ap (λ (v : LockedHeap). v.book) c.value_mut.ensures.value) total in
     let is = follows_of slot now value later held.3 in
@@ -181,7 +191,7 @@ returns-in-Err-clause-all g c =
     let long : length others + 1 ≡ length c.args.passes.now = c.in-Some.ensures.cases.1 in
     record {
       some = omega arith;
-      each = All-cons (IsPassOf c.args.self.now) c.put_seat-in-Err.new.pass others c.put_seat-in-Err.ensures.pass (All-tail (IsPassOf c.args.self.now) first others all);
+      each = All-cons (IsPassOf c.args.self.now) c.put_seat-in-Err.new.pass others (c.put_seat-in-Err.ensures.pass (c.take_seat-seat.ensures.pass (first_of c.args.self.now c.in-Some.first.now c.in-Some.others.now c.args.passes.now c.in-Some.ensures.cases.0 c.requires.all.each))) (All-tail (IsPassOf c.args.self.now) first others all);
       all = λ k r at_k. let spare : length c.args.passes.now + r.spare ≡ ALL_PARTS = c.requires.all.all k r at_k in omega (arith, spare, long);
     }
 

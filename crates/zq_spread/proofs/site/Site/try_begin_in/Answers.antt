@@ -1,6 +1,7 @@
 use Rattle.std.proofs.Common.{ap, refl, subst, sym, ◌∙◌}
 use Rattle.std.proofs.lemmas.Option.{same_Some, slice_get_read}
-use Rattle.std.specs.Prelude.{IfSome, Some, length, slice_get, ℕ, ◌≡◌}
+use Rattle.std.specs.Prelude.{IfSome, Some, [], length, slice_get, ℕ, ◌∷◌, ◌≡◌}
+use Rattle.zq_spread.proofs.ManyHeaps.{seats_of}
 use Rattle.zq_spread.proofs.Refused.{refused_in}
 use Rattle.zq_spread.proofs.Seats.{stopped}
 use Rattle.zq_spread.proofs.site.Site.try_begin_in.Goals as goal
@@ -11,6 +12,9 @@ use Rattle.zq_spread.specs.Worn.{IsUnbegun}
 use Rattle.zq_spread.specs.declared.pass.Pass.{Pass}
 use Rattle.zq_spread.specs.declared.heap_slot.HeapSlot.{HeapSlot}
 use Rattle.zq_ticketlock.specs.Seats.{given, id_of, logged, reached, seen, served, value_of}
+
+pub take_seat-seat-requires-clause-seats : goal.take_seat-seat-requires-clause-seats
+take_seat-seat-requires-clause-seats c = seats_of c.args.self.now (c.args.heap ∷ []) c.args.pass.now c.requires.pass
 
 pub try_begin-requires-clause-lock : goal.try_begin-requires-clause-lock
 try_begin-requires-clause-lock c =
@@ -59,8 +63,14 @@ returns-in-Err-clause-refused c =
     (c.put_seat.ensures.stays.others k other ∙ c.take_seat-seat.ensures.stays.others k other, c.put_seat.ensures.stays.turns k other ∙ c.take_seat-seat.ensures.stays.turns k other) in
     let why : IsUnbegun c.in-Err.fault old.stamp (served c.in-Err.seat) (reached c.in-Err.seat) (seen c.in-Err.seat) =
     subst (λ n. IsUnbegun c.in-Err.fault n (served c.in-Err.seat) (reached c.in-Err.seat) (seen c.in-Err.seat)) c.take_seat-seat.ensures.stays.stamp c.in-Err.ensures.why in (
-      c.put_seat.ensures.pass,
+      c.put_seat.ensures.pass (c.take_seat-seat.ensures.pass c.requires.pass),
       refused_in c.in-Err.fault old new c.args.heap (served c.in-Err.seat) (reached c.in-Err.seat) (seen c.in-Err.seat)
           (stopped old new c.args.heap (λ k. c.put_seat.ensures.stays.steps k ∙ c.take_seat-seat.ensures.stays.steps k) (c.put_seat.ensures.stays.stamp ∙ c.take_seat-seat.ensures.stays.stamp) later left others)
           c.put_seat.ensures.served c.put_seat.ensures.reached c.put_seat.ensures.seen why,
     )
+
+pub returns-in-Ok-clause-pass : goal.returns-in-Ok-clause-pass
+returns-in-Ok-clause-pass c = c.take_seat-seat.ensures.pass c.requires.pass
+
+pub put_seat-requires-clause-number : goal.put_seat-requires-clause-number
+put_seat-requires-clause-number c = c.take_seat-seat.ensures.outside.number ∙ c.requires.pass.seats

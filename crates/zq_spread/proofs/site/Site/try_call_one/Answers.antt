@@ -15,14 +15,14 @@ use Rattle.zq_words.specs.declared.heaps.Heaps.TheVariants.{One}
 pub answer-reply-requires-clause-stamp : goal.answer-reply-requires-clause-stamp
 answer-reply-requires-clause-stamp c =
     let within : c.from-heap.result < heaps_of c.args.self.now = subst (λ h. h < heaps_of c.args.self.now) (sym c.from-heap.ensures) c.requires.heap in
-    let is = begun_on c.args.self.now c.args.pass.now c.from-heap.result c.in-Ok.stamp c.in-Ok.held within c.was_given.ensures c.in-Ok.ensures.begun in
+    let is = begun_on c.args.self.now c.args.pass.now c.from-heap.result c.in-Ok.stamp c.in-Ok.held within c.in-Ok.ensures.given c.in-Ok.ensures.begun in
     let same : c.value_mut.result.now.book.stamp ≡ c.in-Ok.stamp = ap (λ (v : LockedHeap). v.book.stamp) c.value_mut.ensures.value ∙ is.4.worked.stamp_is in
     omega (arith, same)
 
 pub answer-reply-requires-clause-one : goal.answer-reply-requires-clause-one
 answer-reply-requires-clause-one c =
     let within : c.from-heap.result < heaps_of c.args.self.now = subst (λ h. h < heaps_of c.args.self.now) (sym c.from-heap.ensures) c.requires.heap in
-    let is = begun_on c.args.self.now c.args.pass.now c.from-heap.result c.in-Ok.stamp c.in-Ok.held within c.was_given.ensures c.in-Ok.ensures.begun in
+    let is = begun_on c.args.self.now c.args.pass.now c.from-heap.result c.in-Ok.stamp c.in-Ok.held within c.in-Ok.ensures.given c.in-Ok.ensures.begun in
     let at = c.requires.pass.slots c.from-heap.result is.0 is.1 in
     let heap : c.value_mut.result.now.book.heap ≡ c.args.heap = ap (λ (v : LockedHeap). v.book.heap) c.value_mut.ensures.value ∙ is.4.worked.heap ∙ is.4.of.heap ∙ at.0 ∙ c.from-heap.ensures in
     let heaps : c.value_mut.result.now.book.heaps ≡ heaps_of c.args.self.now = ap (λ (v : LockedHeap). v.book.heaps) c.value_mut.ensures.value ∙ is.4.worked.heaps ∙ is.4.of.heaps ∙ at.1 in
@@ -41,13 +41,13 @@ returns-in-Ok-clause-called c =
     let held = c.in-Ok.held in
     let heap : ℕ = c.from-heap.result in
     let within : heap < heaps_of c.args.self.now = subst (λ h. h < heaps_of c.args.self.now) (sym c.from-heap.ensures) c.requires.heap in
-    let is = begun_on c.args.self.now c.args.pass.now heap c.in-Ok.stamp held within c.was_given.ensures c.in-Ok.ensures.begun in
+    let is = begun_on c.args.self.now c.args.pass.now heap c.in-Ok.stamp held within c.in-Ok.ensures.given c.in-Ok.ensures.begun in
     let at = c.requires.pass.slots heap is.0 is.1 in
     let rule : c.value_mut.result.now.book.rule ≡ rule_of c.args.self.now.rule = ap (λ (v : LockedHeap). v.book.rule) c.value_mut.ensures.value ∙ is.4.worked.rule ∙ is.4.of.rule ∙ ap rule_of at.2 in
     let works = λ (a : Book) (begun : IsWorked held.value.book a c.in-Ok.stamp []).
     c.answer-reply.ensures.worked a (subst (λ (v : LockedHeap). IsWorked v.book a c.in-Ok.stamp []) (sym c.value_mut.ensures.value) begun) in
     let call : IsCall (IsAnswered c.value_mut.result.now.book.rule c.args.self.now.number c.in-Ok.stamp c.args.command.now (reply_bytes c.answer-reply.result)) c.args.pass.now c.end_in.new.pass (heap ∷ []) =
-    called_in (IsAnswered c.value_mut.result.now.book.rule c.args.self.now.number c.in-Ok.stamp c.args.command.now (reply_bytes c.answer-reply.result)) c.args.self.now c.args.pass.now c.try_begin_in.new.pass c.end_in.new.pass heap c.in-Ok.stamp held c.answer-reply.new.self within c.was_given.ensures c.in-Ok.ensures.begun works c.end_in.ensures.stamp c.end_in.ensures.seen c.end_in.ensures.steps c.in-Ok.ensures.others c.in-Ok.ensures.steps c.end_in.ensures.others c.in-Ok.ensures.turns in
+    called_in (IsAnswered c.value_mut.result.now.book.rule c.args.self.now.number c.in-Ok.stamp c.args.command.now (reply_bytes c.answer-reply.result)) c.args.self.now c.args.pass.now c.try_begin_in.new.pass c.end_in.new.pass heap c.in-Ok.stamp held c.answer-reply.new.self within c.in-Ok.ensures.given c.in-Ok.ensures.begun works c.end_in.ensures.stamp c.end_in.ensures.seen c.end_in.ensures.steps c.in-Ok.ensures.others c.in-Ok.ensures.steps c.end_in.ensures.others c.in-Ok.ensures.turns in
     inl (subst (λ r. IsCall (IsAnswered r c.args.self.now.number c.end_in.new.pass.stamp c.args.command.now (reply_bytes c.answer-reply.result)) c.args.pass.now c.end_in.new.pass (c.args.heap ∷ [])) rule
     (subst (λ n. IsCall (IsAnswered c.value_mut.result.now.book.rule c.args.self.now.number n c.args.command.now (reply_bytes c.answer-reply.result)) c.args.pass.now c.end_in.new.pass (c.args.heap ∷ [])) (sym c.end_in.ensures.stamp)
     (subst (λ h. IsCall (IsAnswered c.value_mut.result.now.book.rule c.args.self.now.number c.in-Ok.stamp c.args.command.now (reply_bytes c.answer-reply.result)) c.args.pass.now c.end_in.new.pass (h ∷ [])) c.from-heap.ensures call)))

@@ -16,47 +16,47 @@ pub try_lock-requires : goal.try_lock-requires
 try_lock-requires c =
     let at : slice_get c.args.self.now.slots.items c.args.heap ≡ Some c.index.result.now =
     slice_get_read c.args.self.now.slots.items (length c.args.self.now.slots.items) c.args.heap c.index.result.now refl c.requires.heap c.index.ensures in
-    record { own = (c.seat_out-seat.ensures.seat c.index.result.now at).0 }
+    record { own = (c.take_seat-seat.ensures.seat c.index.result.now at).0 }
 
 pub returns-in-Ok-clause-held : goal.returns-in-Ok-clause-held
 returns-in-Ok-clause-held c =
     let at : slice_get c.args.self.now.slots.items c.args.heap ≡ Some c.index.result.now =
     slice_get_read c.args.self.now.slots.items (length c.args.self.now.slots.items) c.args.heap c.index.result.now refl c.requires.heap c.index.ensures in
-    let fits = c.seat_out-seat.ensures.seat c.index.result.now at in
+    let fits = c.take_seat-seat.ensures.seat c.index.result.now at in
     record {
       slot = c.index.result.now;
       at = at;
       lock = c.in-Ok.ensures.lock ∙ fits.0;
       was_given = c.in-Ok.ensures.given;
       home = c.in-Ok.ensures.holds;
-      of = of_seen c.index.result.now c.in-Ok.held.value (seen c.seat_out-seat.result) c.has_seen.ensures c.in-Ok.ensures.follows fits.1;
+      of = of_seen c.index.result.now c.in-Ok.held.value (seen c.take_seat-seat.result) c.take_seat-seat.ensures.some c.in-Ok.ensures.follows fits.1;
     }
 
 pub returns-in-Ok-clause-follows : goal.returns-in-Ok-clause-follows
-returns-in-Ok-clause-follows c = subst (FollowsSeen Follows c.in-Ok.held.value) c.seat_out-seat.ensures.seen c.in-Ok.ensures.follows
+returns-in-Ok-clause-follows c = subst (FollowsSeen Follows c.in-Ok.held.value) c.take_seat-seat.ensures.seen c.in-Ok.ensures.follows
 
-pub seat_in-requires-clause-seat : goal.seat_in-requires-clause-seat
-seat_in-requires-clause-seat c = λ slot here.
+pub put_seat-requires-clause-seat : goal.put_seat-requires-clause-seat
+put_seat-requires-clause-seat c = λ slot here.
     let at : slice_get c.args.self.now.slots.items c.args.heap ≡ Some c.index.result.now =
     slice_get_read c.args.self.now.slots.items (length c.args.self.now.slots.items) c.args.heap c.index.result.now refl c.requires.heap c.index.ensures in
     let one : c.index.result.now ≡ slot = same_Some c.index.result.now slot (sym at ∙ here) in
-    let fits = c.seat_out-seat.ensures.seat c.index.result.now at in
+    let fits = c.take_seat-seat.ensures.seat c.index.result.now at in
     let seen_is = subst (λ o. IfSome o (IsOf c.index.result.now)) (sym c.in-Err.ensures.refused.1) fits.1 in
     (c.in-Err.ensures.refused.0 ∙ fits.0 ∙ ap (λ (r : HeapSlot). id_of r.lock) one, subst (λ (r : HeapSlot). IfSome (seen c.in-Err.seat) (IsOf r)) one seen_is)
 
 pub returns-in-Err-clause-outside : goal.returns-in-Err-clause-outside
-returns-in-Err-clause-outside c = changed_back c.args.heap c.args.pass.now c.seat_out-seat.new.pass c.seat_in.new.pass c.seat_out-seat.ensures.outside c.seat_in.ensures.outside
+returns-in-Err-clause-outside c = changed_back c.args.heap c.args.pass.now c.take_seat-seat.new.pass c.put_seat.new.pass c.take_seat-seat.ensures.outside c.put_seat.ensures.outside
 
 pub returns-in-Err-clause-back : goal.returns-in-Err-clause-back
 returns-in-Err-clause-back c =
-    back_one c.args.self.now c.args.heap c.args.pass.now c.seat_out-seat.new.pass c.seat_in.new.pass c.seat_out-seat.ensures.outside c.seat_in.ensures.outside c.seat_in.ensures.seats
-    (c.seat_in.ensures.seen ∙ c.in-Err.ensures.refused.1 ∙ c.seat_out-seat.ensures.seen) (c.seat_in.ensures.turns ∙ c.in-Err.ensures.refused_logged ∙ c.seat_out-seat.ensures.turns)
+    back_one c.args.self.now c.args.heap c.args.pass.now c.take_seat-seat.new.pass c.put_seat.new.pass c.take_seat-seat.ensures.outside c.put_seat.ensures.outside c.put_seat.ensures.seats
+    (c.put_seat.ensures.seen ∙ c.in-Err.ensures.refused.1 ∙ c.take_seat-seat.ensures.seen) (c.put_seat.ensures.turns ∙ c.in-Err.ensures.refused_logged ∙ c.take_seat-seat.ensures.turns)
 
 pub returns-in-Ok-clause-turns : goal.returns-in-Ok-clause-turns
-returns-in-Ok-clause-turns c = c.in-Ok.ensures.logged ∙ c.seat_out-seat.ensures.turns
+returns-in-Ok-clause-turns c = c.in-Ok.ensures.logged ∙ c.take_seat-seat.ensures.turns
 
 pub returns-in-Err-clause-why : goal.returns-in-Err-clause-why
 returns-in-Err-clause-why c =
-    let new = c.seat_in.new.pass in
+    let new = c.put_seat.new.pass in
     let why = unlocked_by c.in-Err.fault c.from.result (served c.in-Err.seat) (reached c.in-Err.seat) c.from.ensures c.in-Err.ensures.worn c.in-Err.ensures.last c.in-Err.ensures.busy in
-    subst (λ n. IsUnlocked c.from.result n (reached_at new c.args.heap)) (sym c.seat_in.ensures.served) (subst (λ n. IsUnlocked c.from.result (served c.in-Err.seat) n) (sym c.seat_in.ensures.reached) why)
+    subst (λ n. IsUnlocked c.from.result n (reached_at new c.args.heap)) (sym c.put_seat.ensures.served) (subst (λ n. IsUnlocked c.from.result (served c.in-Err.seat) n) (sym c.put_seat.ensures.reached) why)

@@ -27,5 +27,5 @@ returns-clause-called g c =
     let works = λ (a : Book) (begun : IsWorked held.value.book a c.in-Ok.stamp []). shown_by c.vector-vector.result.now held.value.book a c.in-Ok.stamp shown begun in
     let within : heap < heaps_of c.args.self.now = subst (λ h. h < heaps_of c.args.self.now) (sym c.from-heap.ensures) c.requires.heap in
     let call : IsCall (IsShown c.vector-vector.result.now) c.args.pass.now c.end_in.new.pass (heap ∷ []) =
-    called_in (IsShown c.vector-vector.result.now) c.args.self.now c.args.pass.now c.begin_in.new.pass c.end_in.new.pass heap c.in-Ok.stamp held held.value within c.was_given.ensures c.in-Ok.ensures.begun works c.end_in.ensures.stamp c.end_in.ensures.seen c.end_in.ensures.steps c.in-Ok.ensures.others c.in-Ok.ensures.steps c.end_in.ensures.others c.in-Ok.ensures.turns in
+    called_in (IsShown c.vector-vector.result.now) c.args.self.now c.args.pass.now c.begin_in.new.pass c.end_in.new.pass heap c.in-Ok.stamp held held.value within c.in-Ok.ensures.given c.in-Ok.ensures.begun works c.end_in.ensures.stamp c.end_in.ensures.seen c.end_in.ensures.steps c.in-Ok.ensures.others c.in-Ok.ensures.steps c.end_in.ensures.others c.in-Ok.ensures.turns in
     subst (λ h. IsCall (IsShown c.vector-vector.result.now) c.args.pass.now c.end_in.new.pass (h ∷ [])) c.from-heap.ensures call
