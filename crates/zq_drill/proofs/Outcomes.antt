@@ -28,3 +28,8 @@ outcome (Ok equal) opened met shown Writes numbers three exchanged same is =
       is.3,
     )
 outcome (Err fault) opened met shown Writes numbers three exchanged same is = tt
+
+-- a fact for the value, from two others for it
+pub if_ok_both : {X E : Type 0} {P Q S : X → Type 0} (r : Result X E) → IfOk r P → IfOk r Q → ((x : X) → P x → Q x → S x) → IfOk r S
+if_ok_both (Ok x) p q f = f x p q
+if_ok_both (Err e) p q f = tt {0}

@@ -7,10 +7,10 @@ use Rattle.std.proofs.lemmas.List.{get_or-set_other, get_or-set_same}
 use Rattle.std.specs.BTreeMap.{is_at}
 use Rattle.std.specs.Option.{IfSome}
 use Rattle.std.specs.Prelude.{IsSome, IsTrue, is_some, ◌↔◌}
-use Rattle.zq_dots.specs.Placed.{IsRanged, Placed}
+use Rattle.zq_dots.specs.Placed.{Placed}
 use Rattle.zq_node.proofs.Ready.{IsPlacedAt, some_place}
 use Rattle.zq_node.specs.Limits.{MOST_PARKED}
-use Rattle.zq_node.specs.Parked.{ArePlaced, Entries, HasPlaceOf, IsParked, IsPutAway, IsUpdated, Place, parked_at, place_cmp, place_of}
+use Rattle.zq_node.specs.Parked.{ArePlaced, Entries, HasPlaceOf, IsNext, IsParked, IsPutAway, IsUpdated, Place, parked_at, place_cmp, place_of}
 
 at_same : (p q : Place) → is_at (place_cmp p) q ≡ true → p ≡ q
 at_same p q here =
@@ -60,10 +60,10 @@ parked_here old new op is =
     let here : is_at (place_cmp (place_of op)) (place_of op) ≡ true = grind (arith, nat_tests) in
     is (place_of op) ∙ cond-true _ _ _ here
 
-pub placed_with : (old new : Entries) (op : Placed) → IsUpdated old new (place_of op) (Some op) → IsRanged op → ArePlaced old → ArePlaced new
-placed_with old new op is ranged are q =
+pub placed_with : (old new : Entries) (op : Placed) → IsUpdated old new (place_of op) (Some op) → IsNext op → ArePlaced old → ArePlaced new
+placed_with old new op is its are q =
     elim (changed_at old new (place_of op) (Some op) q is) [
-      | inl here ↦ subst (λ x. IfSome x (IsPlacedAt q)) (sym here.1) (here.0, ranged)
+      | inl here ↦ subst (λ x. IfSome x (IsPlacedAt q)) (sym here.1) (here.0, its)
       | inr same ↦ subst (λ x. IfSome x (IsPlacedAt q)) (sym same) (are q)
     ]
 

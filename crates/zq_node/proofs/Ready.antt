@@ -8,12 +8,12 @@ use Rattle.std.specs.List.{slice_get}
 use Rattle.std.specs.Option.{IfSome, IsSome}
 use Rattle.std.specs.Prelude.{is_some, ◌↔◌}
 use Rattle.std.specs.declared.ops.Bound.TheVariants.{Excluded, Included}
-use Rattle.zq_dots.specs.Placed.{IsRanged, Placed}
+use Rattle.zq_dots.specs.Placed.{Placed}
 use Rattle.zq_model.proofs.Dots.{has_not, has_not_from}
 use Rattle.zq_model.proofs.Taken.{covers_at, taken_early}
 use Rattle.zq_model.specs.Operation.{has}
 use Rattle.zq_model.specs.Sets.{Early, covers, taken_of}
-use Rattle.zq_node.specs.Parked.{ArePlaced, Entries, HasPlaceOf, IsReadyAt, IsSiteEarly, Place, parked_at, place_cmp, place_of}
+use Rattle.zq_node.specs.Parked.{ArePlaced, Entries, HasPlaceOf, IsNext, IsReadyAt, IsSiteEarly, Place, parked_at, place_cmp, place_of}
 
 -- between these bounds lie a site's places up to the counter after the known ones
 abbrev pub IsNear : ℕ → ℕ → ℕ → Place → Type 0
@@ -35,13 +35,13 @@ some_is x o is = subst IsSome (sym is) refl
 -- ---- what a counter says
 
 -- an operation whose counter is neither known nor the next is Early
-later_early : (v : List ℕ) (known : ℕ) (o : Placed) → IsRanged o → known ≡ get_or v o.operation.site 0 → known + 2 ≤ o.operation.n → taken_of v o.operation ≡ Early
-later_early v known o ranged is late =
+later_early : (v : List ℕ) (known : ℕ) (o : Placed) → IsNext o → known ≡ get_or v o.operation.site 0 → known + 2 ≤ o.operation.n → taken_of v o.operation ≡ Early
+later_early v known o its is late =
     let op = o.operation in
-    let next = ranged.next in
+    let next = its.next in
     let fresh : has v op.site op.n ≡ false = has_not_from v op.site op.n (omega arith) in
     let apart : covers v op.seen ≡ false = elim (cases_Bool (covers v op.seen)) [
-      | inl all ↦ absurd (let below : get_or op.seen op.site 0 ≤ get_or v op.site 0 = covers_at v op.seen op.site all ranged.site in omega arith)
+      | inl all ↦ absurd (let below : get_or op.seen op.site 0 ≤ get_or v op.site 0 = covers_at v op.seen op.site all its.site in omega arith)
       | inr not ↦ not
     ] in
     cond-false _ _ _ fresh ∙ cond-false _ _ _ apart
@@ -49,7 +49,7 @@ later_early v known o ranged is late =
 -- ---- what is parked
 
 abbrev pub IsPlacedAt : Place → Placed → Type 0
-IsPlacedAt q o = (place_of o ≡ q) × IsRanged o
+IsPlacedAt q o = (place_of o ≡ q) × IsNext o
 
 pub placed_at : (parked : Entries) (q : Place) (o : Placed) → ArePlaced parked → parked_at parked q ≡ Some o → IsPlacedAt q o
 placed_at parked q o are is = subst (λ x. IfSome x (IsPlacedAt q)) is (are q)
@@ -80,7 +80,7 @@ early_past parked v known p first are is here early =
 -- where none is near, each of the site is Early
 pub none_near : (parked : Entries) (v : List ℕ) (heap site known : ℕ) → ArePlaced parked → known ≡ get_or v site 0 → ((q : Place) → IsNear heap site known q → parked_at parked q ≡ None) → IsSiteEarly parked heap v site
 none_near parked v heap site known are is none o here h s =
-    let ranged = (placed_at parked (place_of o) o are here).1 in
+    let its = (placed_at parked (place_of o) o are here).1 in
     let counter : known ≡ get_or v o.operation.site 0 = is ∙ ap (λ t. get_or v t 0) (sym s) in
     elim (cases_lt o.operation.n (known + 2)) [
       | inl below ↦
@@ -88,13 +88,13 @@ none_near parked v heap site known are is none o here h s =
           let same : (heap, site, o.operation.n) ≡ place_of o = λ i. (sym h i, sym s i, o.operation.n) in
           let gone : parked_at parked (place_of o) ≡ None = ap (parked_at parked) (sym same) ∙ none (heap, site, o.operation.n) near in
           absurd (let both : Some o ≡ None = sym here ∙ gone in cc)
-      | inr past ↦ later_early v known o ranged counter past
+      | inr past ↦ later_early v known o its counter past
     ]
 
 -- where the first that is near is Early, each of the site is
 pub first_near : (parked : Entries) (v : List ℕ) (heap site known : ℕ) (p : Place) (first : Placed) → ArePlaced parked → known ≡ get_or v site 0 → IsNear heap site known p → parked_at parked p ≡ Some first → ((q : Place) → IsNear heap site known q → IsSome (parked_at parked q) → IsLeBy place_cmp p q) → taken_of v first.operation ≡ Early → IsSiteEarly parked heap v site
 first_near parked v heap site known p first are is near here least early o there h s =
-    let ranged = (placed_at parked (place_of o) o are there).1 in
+    let its = (placed_at parked (place_of o) o are there).1 in
     let counter : known ≡ get_or v o.operation.site 0 = is ∙ ap (λ t. get_or v t 0) (sym s) in
     elim (cases_lt o.operation.n (known + 2)) [
       | inl below ↦
@@ -109,7 +109,7 @@ first_near parked v heap site known p first are is near here least early o there
           let both : Some first ≡ Some o = sym here ∙ (ap (parked_at parked) places ∙ found) in
           let one : first ≡ o = cc in
           ap (λ x. taken_of v x.operation) (sym one) ∙ early
-      | inr past ↦ later_early v known o ranged counter past
+      | inr past ↦ later_early v known o its counter past
     ]
 
 -- the first that is near is ready where it is not Early

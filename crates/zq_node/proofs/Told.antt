@@ -2,7 +2,7 @@
 
 use Rattle.std.proofs.Common.{ap, arith, get_or, inl, inr, refl, subst, sym, ◌∙◌}
 use Rattle.std.proofs.Math.Nat.{le-max_right}
-use Rattle.std.specs.Prelude.{Err, IfErr, IsErrAnd, IsErrOf, List, MatchBool, None, Ok, Result, Some, [], false, true, ℕ, ◌≡◌, ◌≢◌, ◌∷◌, ◌⊎◌, ◌↔◌}
+use Rattle.std.specs.Prelude.{Err, IfErr, IsErrAnd, IsErrOf, List, MatchBool, None, Ok, OnOk, Result, Some, [], false, true, ℕ, ◌≡◌, ◌≢◌, ◌∷◌, ◌⊎◌, ◌↔◌}
 use Rattle.zq_dots.specs.Rule.{rule_of}
 use Rattle.zq_links.specs.Frame.{Frame}
 use Rattle.zq_links.specs.declared.frame.Frame as code
@@ -42,6 +42,18 @@ told_lacking site before after heap theirs vector frame lacks told =
 pub if_err : {A : Type 0} (P : NodeFault → Type 0) (r : Result A NodeFault) (fault : NodeFault) → IsErrAnd r (λ e. e ≡ fault) → P fault → IfErr r P
 if_err P (Ok x) fault is holds = absurd is
 if_err P (Err e) fault is holds = subst P (sym is) holds
+
+pub if_err_all : {A E : Type 0} {P : E → Type 0} (r : Result A E) → ((e : E) → P e) → IfErr r P
+if_err_all (Ok x) all = tt {0}
+if_err_all (Err e) all = all e
+
+pub if_err_map : {A E : Type 0} {P Q : E → Type 0} (r : Result A E) → IfErr r P → ((e : E) → P e → Q e) → IfErr r Q
+if_err_map (Ok x) p f = tt {0}
+if_err_map (Err e) p f = f e p
+
+pub ok_always : {A E : Type 0} {P : Type 0} (r : Result A E) → P → OnOk r P
+ok_always (Ok x) p = p
+ok_always (Err e) p = tt {0}
 
 -- the site's own fault, after the frame was judged
 pub own_fault : (site : Site) (frame : code.Frame) (fault : NodeFault) → IsOwnFault fault → IsForSite site frame → HasSiteRule site frame → IsRefusedFor site frame fault

@@ -7,8 +7,8 @@ use Rattle.zq_node.specs.Limits.{MOST_PARKED}
 use Rattle.zq_node.specs.Parked.{ArePlaced, IsParked}
 use Rattle.zq_node.specs.declared.parked.Parked.TheInside.{Inside}
 
--- each lies at its place, with its numbers in range; its site is one that may have operations here;
--- they are few
+-- each lies at its place, and its counter is the next of its site, which is one that may have
+-- operations here; they are few
 pub record IsInside (p : Inside) : Type 0 where
   pub placed : ArePlaced p.ops.entries
   pub sites : (o : Placed) → IsParked p.ops.entries o →

@@ -4,10 +4,10 @@ use Rattle.std.specs.BTreeMap.{is_at}
 use Rattle.std.specs.Map.{lookup}
 use Rattle.std.specs.Option.{IfSome}
 use Rattle.std.specs.Ordering.{nat_cmp, ordering_then}
-use Rattle.std.specs.Prelude.{List, Option, Some, cond, length, ℕ, ◌+◌, ◌<◌, ◌≡◌, ◌≢◌, ◌≤◌, ◌⊎◌}
+use Rattle.std.specs.Prelude.{List, Option, Some, cond, length, slice_index, ℕ, ◌+◌, ◌<◌, ◌≡◌, ◌≢◌, ◌≤◌, ◌⊎◌}
 use Rattle.std.specs.declared.cmp.Ordering.{Ordering}
-use Rattle.zq_dots.specs.Placed.{IsRanged, Placed}
-use Rattle.zq_model.specs.Sets.{Early, taken_of}
+use Rattle.zq_dots.specs.Placed.{Placed}
+use Rattle.zq_model.specs.Sets.{Early, SITES, taken_of}
 use Rattle.zq_node.specs.Limits.{MOST_PARKED}
 
 -- a heap, a site and a counter
@@ -40,9 +40,14 @@ abbrev pub IsUpdated : Entries → Entries → Place → Option Placed → Type 
 IsUpdated old new p what = (q : Place) →
     parked_at new q ≡ cond (is_at (place_cmp p) q) what (parked_at old q)
 
--- each operation lies at its place, and its numbers are in range
+-- its site is one, and its counter is the next of its site after those that it has seen
+pub record IsNext (o : Placed) : Type 0 where
+  pub site : o.operation.site < SITES
+  pub next : o.operation.n ≡ slice_index o.operation.seen o.operation.site + 1
+
+-- each operation lies at its place, and its counter is the next of its site
 abbrev pub ArePlaced : Entries → Type 0
-ArePlaced parked = (q : Place) → IfSome (parked_at parked q) (λ o. (place_of o ≡ q) × IsRanged o)
+ArePlaced parked = (q : Place) → IfSome (parked_at parked q) (λ o. (place_of o ≡ q) × IsNext o)
 
 -- an operation of this heap is parked there that is not Early by this vector
 abbrev pub IsReadyAt : Entries → ℕ → List ℕ → Place → Type 0

@@ -50,10 +50,7 @@ impl Node<'_> {
             ⊎ (self.new ≡ self.old)) }
     {
         match frame {
-            Frame::Have(have) => {
-                let sent = self.hear_have(rt, alloc, have)?;
-                Ok(sent)
-            }
+            Frame::Have(have) => self.hear_have(rt, alloc, have),
             Frame::Ops(ops) => {
                 self.take_all(rt, alloc, ops)?;
                 Ok(Vec::new(alloc))
@@ -89,8 +86,7 @@ impl Node<'_> {
         ensures unheard { IfErr result (λ fault. IsOwnFault fault ⊎ (self.new ≡ self.old)) }
     {
         self.home.judge(have.heap, have.heaps, have.rule)?;
-        let sent = self.answer(rt, alloc, have)?;
-        Ok(sent)
+        self.answer(rt, alloc, have)
     }
 
     /// Merges a heap of another site, and tries what is parked.

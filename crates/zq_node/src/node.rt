@@ -30,6 +30,7 @@ impl<'a> Node<'a> {
         let number = site.number();
         let heaps = site.heaps();
         let rule = site.rule();
+        // For the proof: the number is below 64.
         let _number = number.value();
         let home = Home {
             site,

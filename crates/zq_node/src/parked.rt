@@ -1,10 +1,10 @@
 //! Operations that came early.
 ghost use Rattle.std.specs.Prelude.{◌≡◌, ◌≢◌, ◌≤◌, ◌<◌, ◌+◌, ◌↔◌, [], IfNone, IfOk, IfSome, IsSome, IsTrue, None, OnErr, Some, false, length, true};
-ghost use Rattle.zq_dots.specs.Placed.{IsRanged, Placed};
+ghost use Rattle.zq_dots.specs.Placed.{Placed};
 ghost use Rattle.zq_model.specs.Sets as sets;
 ghost use Rattle.zq_node.specs.Limits as limits;
 ghost use Rattle.zq_node.specs.Parked as parked;
-ghost use Rattle.zq_node.specs.Parked.{ArePlaced, HasPlaceOf, IsParked, IsReadyAt, IsSiteEarly, IsUpdated};
+ghost use Rattle.zq_node.specs.Parked.{ArePlaced, HasPlaceOf, IsNext, IsParked, IsReadyAt, IsSiteEarly, IsUpdated};
 
 use std::alloc::{AllocError, Global};
 use std::collections::BTreeMap;
@@ -198,14 +198,8 @@ fn is_early(op: &Op, vector: &Vector) -> bool
 fn place_of(op: &Op) -> Place
     ensures place { result ≡ parked.place_of op.now }
     ensures site { result.1 < sets.SITES }
-    ensures ranged { IsRanged op.now }
+    ensures next { IsNext op.now }
 {
     let dot = op.dot();
-    let site = dot.site.value();
-    let _heaps = op.heaps();
-    let _seen = op.seen();
-    let _key = op.key();
-    let _member = op.member();
-    let _act = op.act();
-    (op.heap(), site, dot.n)
+    (op.heap(), dot.site.value(), dot.n)
 }

@@ -56,7 +56,6 @@ impl Node<'_> {
         ensures worn { IsErrOf result NodeFault.Worn →
             WasAtLast (site_of self.old) (pass_of self.old) (pass_of self.new) op.now }
     {
-        let _heap = op.heap();
         match self.home.site.take(rt, alloc, &mut self.pass, op) {
             Ok(taken) => Ok(taken),
             Err(fault) => Err(NodeFault::from(fault)),

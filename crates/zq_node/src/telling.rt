@@ -126,7 +126,6 @@ impl Node<'_> {
         let vector = self.home.site.vector(rt, &mut self.pass, have.heap)?;
         let told = self.tell_if(rt, alloc, have.heap, &have.vector, &vector)?;
         let own = self.home.have_if(have.heap, &have.vector, &vector);
-        let sent = addressed(alloc, have.from, told, own)?;
-        Ok(sent)
+        Ok(addressed(alloc, have.from, told, own)?)
     }
 }

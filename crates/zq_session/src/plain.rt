@@ -78,7 +78,7 @@ impl Plain {
         let stamp = match self.books.next_stamp() {
             Some(stamp) => stamp,
             None => {
-                // It is in range, and no book's stamp is past it.
+                // For the proof: it is in range, and no book's stamp is past it.
                 let _last = self.books.stamp();
                 return cut_reply(Stopped::Worn, 0);
             }

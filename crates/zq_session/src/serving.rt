@@ -55,7 +55,7 @@ pub fn serve_piece<A: Answers, R, W, E: Ends<R, W>>(
         × Puts E.does (held (reader.old, writer.old) out.old.items)
         (held (reader.new, writer.new) out.new.items) bytes result }
 {
-    // What is kept of an earlier piece is less than a request.
+    // For the proof: what is kept of an earlier piece is less than a request.
     let _inside = input.inside();
     let mut at = 0;
     while at < piece.len() {

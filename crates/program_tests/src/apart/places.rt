@@ -103,8 +103,7 @@ pub fn connect<N: Net<Listener = TcpListener, Stream = TcpStream>, R: Clock>(
     rt: &R,
     port: u16,
 ) -> Result<TcpStream, Fail> {
-    let stream = reach(net, rt, SocketAddr::from((LOOPBACK, port))).ok_or("nobody listens")?;
-    Ok(stream)
+    Ok(reach(net, rt, SocketAddr::from((LOOPBACK, port))).ok_or("nobody listens")?)
 }
 
 /// A stream to the address, once somebody listens there.

@@ -1,7 +1,7 @@
 //! What is drawn where sites are served.
 
 use super::asked;
-use crate::ports::free_ports;
+use crate::ports::{free_ports, two_ports};
 use log::sink::Locked;
 use log::{LevelFilter, Logged};
 use std::alloc::Global;
@@ -15,7 +15,8 @@ use std::thread::Threads;
 use std::time::Clock;
 use std::{io, thread};
 use zq_serve::{ServeFault, draw_hasher, serve};
-use zq_settings::{Settings, settings};
+use zq_settings::{Settings, SiteSettings, settings, site_settings};
+use zq_site::serve_site;
 
 /// Settings of a site of 16 heaps that is alone, with this seed, which accepts one connection.
 fn settings_of(alloc: Global, port: u16, seed: u64) -> Result<Settings, Fail> {
@@ -23,6 +24,16 @@ fn settings_of(alloc: Global, port: u16, seed: u64) -> Result<Settings, Fail> {
         "ports = [{port}]\nheaps = 16\nworkers = 1\nconnections = 1\nseed = {seed}\n"
     )?;
     Ok(settings(alloc, text.as_str())?)
+}
+
+/// The same of a site in a process of its own, whose peers would dial in at the second port.
+fn apart_settings_of(alloc: Global, ports: [u16; 2], seed: u64) -> Result<SiteSettings, Fail> {
+    let [port, peers] = ports;
+    let head = format!(in alloc; "site = 0\nport = {port}\nlisten = \"127.0.0.1:{peers}\"\n")?;
+    let text = format!(in alloc;
+        "{head}heaps = 16\nworkers = 1\nconnections = 1\nseed = {seed}\n"
+    )?;
+    Ok(site_settings(alloc, text.as_str())?)
 }
 
 /// A ZADD of sixteen members, each of which lies in a heap of its own, and eight times ZPOPNEAR.
@@ -76,14 +87,58 @@ where
     Ok((ended, answer?))
 }
 
-// The words of these seeds were drawn elsewhere, by PCG64, and the members' heaps by FNV-1a.
+/// What such a site in a process of its own answers, and how serving ends.
+fn answered_apart<R>(
+    rt: &R,
+    alloc: Global,
+    ports: [u16; 2],
+    seed: u64,
+) -> Result<(Result<(), ServeFault>, Vec<u8>), Fail>
+where
+    R: Net<Listener = TcpListener, Stream = TcpStream>
+        + RandomSource
+        + Clock
+        + Threads
+        + Wait
+        + Sync,
+{
+    let settings = apart_settings_of(alloc, ports, seed)?;
+    let bytes = requests(alloc)?;
+    let log = Logged::new(rt, LevelFilter::Warn, Locked::new(rt, Vec::new(alloc)));
+    let mut written = Vec::new(alloc);
+    let (ended, answer) = thread::join(
+        rt,
+        || serve_site(rt, &log, alloc, &settings, &mut written),
+        || asked(rt, alloc, ports[0], &bytes),
+    );
+    Ok((ended, answer?))
+}
+
+/// Seeds, and the members that are popped by each. The words of these seeds were drawn elsewhere,
+/// by PCG64, and the members' heaps by FNV-1a.
+const POPPED: [(u64, &[u8; 8]); 2] = [(1, b"bijndmak"), (9_223_372_036_854_775_807, b"beknhjfa")];
+
 #[test]
 fn what_is_popped_near_goes_by_the_seed(rt: HostRuntime) -> Result<(), Fail> {
     let alloc = rt.alloc();
-    let rows = [(1, b"bijndmak"), (9_223_372_036_854_775_807, b"beknhjfa")];
-    for (seed, popped) in rows {
+    for (seed, popped) in POPPED {
         let [port, ..] = free_ports(&rt, rt.process())?;
         let (ended, answer) = answered(&rt, alloc, port, seed)?;
+        assert!(rt; ended.is_ok());
+        assert!(rt;
+            answer.as_slice() == replies(alloc, popped)?.as_slice(),
+            "{seed}"
+        );
+    }
+    Ok(())
+}
+
+#[test]
+fn what_a_site_apart_pops_near_goes_by_the_seed(rt: HostRuntime) -> Result<(), Fail> {
+    let alloc = rt.alloc();
+    for (seed, popped) in POPPED {
+        let ports = two_ports(&rt, rt.process())?;
+        let (ended, answer) = answered_apart(&rt, alloc, ports, seed)?;
         assert!(rt; ended.is_ok());
         assert!(rt;
             answer.as_slice() == replies(alloc, popped)?.as_slice(),

@@ -1,5 +1,6 @@
 use Rattle.std.proofs.Common.{List, ap, arith, subst, sym}
 use Rattle.zq_drill.proofs.AllListed.{listed_number, lists_number, places_number}
+use Rattle.zq_drill.proofs.Outcomes.{if_ok_both}
 use Rattle.zq_drill.proofs.drilling.finish.Goals as goal
 use Rattle.zq_drill.specs.Listed.{AreListed}
 use Rattle.zq_drill.specs.Lists.{lists_of}
@@ -15,9 +16,5 @@ write_report-requires g c =
 pub returns : goal.returns
 returns g c =
     let lists = lists_of c.deref.result.now in
-    let all = subst (λ (ls : List (List Scored)). AreListed (places_of c.args.handles.now) ls) (sym (ap lists_of c.deref.ensures.value)) c.in_ok-lists.ensures in (
-      lists,
-      all,
-      c.in_ok-equal.ensures.equal,
-      c.in_ok-equal.ensures.written,
-    )
+    let all = subst (λ (ls : List (List Scored)). AreListed (places_of c.args.handles.now) ls) (sym (ap lists_of c.deref.ensures.value)) c.in_ok-lists.ensures in
+    if_ok_both c.write_report.result c.write_report.ensures.written c.write_report.ensures.equal (λ equal written is. (lists, all, is, written))

@@ -13,8 +13,8 @@ returns-in_err-told-clause-no_step g c =
     let looked = shown_no_step c.in_ok-vector.vector c.args.self.now.pass c.vector.new.pass c.args.have.now.heap c.in_ok-vector.ensures.called in
     no_step_on c.args.self.now.pass c.vector.new.pass c.tell_if.new.self.pass looked c.tell_if.ensures.no_step
 
-pub returns-in_err-sent-clause-no_step : goal.returns-in_err-sent-clause-no_step
-returns-in_err-sent-clause-no_step g c =
+pub returns-in_err-addressed-clause-no_step : goal.returns-in_err-addressed-clause-no_step
+returns-in_err-addressed-clause-no_step g c =
     let looked = shown_no_step c.in_ok-vector.vector c.args.self.now.pass c.vector.new.pass c.args.have.now.heap c.in_ok-vector.ensures.called in
     no_step_on c.args.self.now.pass c.vector.new.pass c.tell_if.new.self.pass looked c.tell_if.ensures.no_step
 
@@ -30,9 +30,9 @@ returns-clause-answered g c = record {
   saw = c.in_ok-vector.ensures.called;
   told = option_map frame_of c.in_ok-told.told;
   told_is = c.in_ok-told.ensures.told;
-  sent_is = c.in_ok-sent.ensures.sent ∙ ap (λ l. sent_to c.args.have.now.from (option_to_list (option_map frame_of c.in_ok-told.told) ++ option_to_list l))
+  sent_is = c.in_ok-addressed.ensures.sent ∙ ap (λ l. sent_to c.args.have.now.from (option_to_list (option_map frame_of c.in_ok-told.told) ++ option_to_list l))
       (c.have_if-own.ensures.own ∙ ap (λ h. own_have h.site.now c.args.have.now.heap c.args.have.now.vector c.in_ok-vector.vector) c.in_ok-told.ensures.home);
 }
 
 pub returns-clause-writable : goal.returns-clause-writable
-returns-clause-writable g c = c.in_ok-sent.ensures.writable c.in_ok-told.ensures.writable c.have_if-own.ensures.writable
+returns-clause-writable g c = c.in_ok-addressed.ensures.writable c.in_ok-told.ensures.writable c.have_if-own.ensures.writable

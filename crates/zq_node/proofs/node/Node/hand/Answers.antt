@@ -1,4 +1,5 @@
 use Rattle.std.proofs.Common.{ap, arith}
+use Rattle.zq_model.proofs.MeantQueues.{heap_in_range}
 use Rattle.zq_node.proofs.Called.{IsTakeOf, short_take, stop_take, take_called, take_stopped, unheard_take, worn_take}
 use Rattle.zq_node.proofs.node.Node.hand.Goals as goal
 use Rattle.zq_node.specs.declared.node.Node.{Node}
@@ -14,8 +15,10 @@ pub returns-in-Ok-clause-within : goal.returns-in-Ok-clause-within
 returns-in-Ok-clause-within g c =
     let site = c.args.self.now.home.site.now in
     let said : IsTakeOf site c.args.self.now.pass c.take.new.pass c.args.op.now c.take.result = record { wrong_heap = c.take.ensures.wrong_heap; unlocked = c.take.ensures.unlocked; called = c.take.ensures.called } in
-    let call = take_called site c.args.self.now.pass c.take.new.pass c.args.op.now c.take.result c.in-Ok.taken c.in-Ok.is said in
-    omega (arith, call.0.heaps, c.heap-heap.ensures.same, c.heap-heap.ensures.below)
+    let of = (take_called site c.args.self.now.pass c.take.new.pass c.args.op.now c.take.result c.in-Ok.taken c.in-Ok.is said).0 in
+    let op = c.args.op.now in
+    let below = heap_in_range op.operation.key op.operation.member op.heaps (omega (arith, of.heaps, site.some)) in
+    omega (arith, below, of.placed, of.heaps)
 
 pub returns-in-Err-clause-stopped : goal.returns-in-Err-clause-stopped
 returns-in-Err-clause-stopped g c =

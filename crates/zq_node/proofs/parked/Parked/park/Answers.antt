@@ -10,7 +10,7 @@ invariant_of-self-2 c =
     let place = c.place_of-place.ensures.place in
     let changed = c.in_ok-insert.ensures.updates.0 in
     record {
-      placed = placed_with old new c.args.op (subst (λ p. IsUpdated old new p (Some c.args.op)) place changed) c.place_of-place.ensures.ranged c.self.invariant.placed;
+      placed = placed_with old new c.args.op (subst (λ p. IsUpdated old new p (Some c.args.op)) place changed) c.place_of-place.ensures.next c.self.invariant.placed;
       sites = sites_with old new c.place_of-place.result (Some c.args.op) c.self.inside.sites changed (search rules) c.self.invariant.sites;
       few = few_with _ _ _ _ c.in_ok-insert.ensures.len (search rules);
     }

@@ -12,7 +12,7 @@ ready_from-requires-clause-may c o here same = ap (λ t. slice_index_or c.self.i
 
 pub returns-clause-none : goal.returns-clause-none
 returns-clause-none c o here heap =
-    let ranged = (placed_at c.args.self.now (place_of o) o (subst ArePlaced c.self.view_is c.self.invariant.placed) here).1 in
-    let site = ranged.site in
+    let its = (placed_at c.args.self.now (place_of o) o (subst ArePlaced c.self.view_is c.self.invariant.placed) here).1 in
+    let site = its.site in
     let sites = sites_is in
     c.loop-number.invariant o.operation.site (omega arith) o here heap refl
