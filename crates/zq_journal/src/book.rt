@@ -126,7 +126,7 @@ impl Book {
         ensures set { (S : List Operation) → IsBased self.now S →
             result.now.image ≡ image_of (tail_set S (operations_of self.now.tail)) result.now.heap }
     {
-        // What the records say of the state.
+        // For the proof: what the records say of the state.
         telling();
         &self.shard
     }
@@ -170,9 +170,9 @@ impl Book {
         ensures touched { self.new ≡ touched self.old stamp }
         ensures reached { IsReachedBy self.new self.old [] }
     {
-        // A higher stamp keeps what a book keeps.
+        // For the proof: a higher stamp keeps what a book keeps.
         keeping();
-        // A book with a higher stamp is reached.
+        // For the proof: a book with a higher stamp is reached.
         reaching();
         self.stamp = stamp;
     }

@@ -39,9 +39,9 @@ impl Book {
             IsWorked self.new a stamp (steps ++ Merged stamp other.now.image ∷ [])) }
         ensures refused { OnErr result (self.new ≡ self.old) }
     {
-        // A merge keeps what a book keeps,
+        // For the proof: a merge keeps what a book keeps.
         keeping();
-        // and goes on with a call's work.
+        // For the proof: it goes on with a call's work.
         working();
         if other.heap() != self.shard.heap() || other.heaps() != self.shard.heaps() {
             return Err(MergeFault::WrongHeap);
@@ -71,11 +71,11 @@ impl Book {
         ensures advanced { self.new ≡ advanced records self.old }
         ensures reached { records ≤ cut_of self.old → IsReachedBy self.new self.old [] }
     {
-        // A cut keeps what a book keeps,
+        // For the proof: a cut keeps what a book keeps.
         keeping();
-        // undoing the records that are left gives the base after it,
+        // For the proof: undoing the records that are left gives the base after it.
         undoing();
-        // and a book that was cut as far as a cut takes is reached.
+        // For the proof: a book that was cut as far as a cut takes is reached.
         reaching();
         move_over(&mut self.vector, &self.tail, records);
         self.tail.drain(..records);

@@ -220,11 +220,11 @@ impl Book {
             (whole self.old.heap self.old.heaps self.old.state.vector what)) ∷ [])) }
         ensures refused { OnErr result (self.new ≡ self.old) }
     {
-        // A record of what is new keeps what a book keeps,
+        // For the proof: a record of what is new keeps what a book keeps.
         keeping();
-        // leaves the base as it was,
+        // For the proof: it leaves the base as it was.
         undoing();
-        // and goes on with a call's work.
+        // For the proof: it goes on with a call's work.
         working();
         self.tail.reserve(1)?;
         let before = what.put_in(alloc, &mut self.shard, key, member)?;
@@ -246,6 +246,7 @@ fn within(act: &Act)
 {
     match act {
         Act::Put(score) | Act::Bump(score) => {
+            // For the proof: the type of a score keeps its range.
             let _value = score.value();
         }
         Act::Drop => {}

@@ -48,7 +48,7 @@ impl Book {
             image_after_all (map (λ p. p.operation) ops) (image_of T self.now.heap)
             ≡ join (image_of T self.now.heap) self.now.state)) }
     {
-        // What the records say to a peer.
+        // For the proof: what the records say to a peer.
         telling();
         if !vector.covers(&self.vector) {
             return Ok(Since::TooOld);

@@ -18,9 +18,9 @@ impl Book {
         ensures cut { self.new ≡ advanced (cut_of self.old) self.old }
         ensures reached { IsReachedBy self.new self.old [] }
     {
-        // A cut takes records of the tail alone,
+        // For the proof: a cut takes records of the tail alone.
         cutting();
-        // and what it leaves is reached.
+        // For the proof: what a cut leaves is reached.
         reaching();
         let records = self.cut_len();
         if records > 0 {
@@ -33,7 +33,7 @@ impl Book {
     fn cut_len(&self) -> usize
         ensures { result ≡ cut_of self.now }
     {
-        // A cut takes records of the tail alone.
+        // For the proof: a cut takes records of the tail alone.
         cutting();
         let long = self.cut_by_length().max(self.cut_by_bytes());
         match self.handed {

@@ -106,5 +106,6 @@ pub(crate) fn with_score(
 fn in_range(members: &PosHeap<Entry>)
     ensures { AreInRange members.now.held }
 {
+    // For the proof: the type of a heap keeps its scores in range.
     let _pairs = members.iter();
 }

@@ -108,5 +108,6 @@ impl Queue {
 fn in_range(members: &Indexed)
     ensures { AreInRange members.now.held }
 {
+    // For the proof: the type of a heap keeps its scores in range.
     let _pairs = members.iter();
 }

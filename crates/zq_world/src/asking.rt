@@ -35,7 +35,7 @@ pub(crate) fn ask(
     ensures held { OnOk result ((played : Played) → Holds played player.old →
         Holds (after played (runs.Do site request.now words.0 words.1)) player.new) }
 {
-    // The words are those of a request, as its type says.
+    // For the proof: the words are those of a request.
     let _words = request.words();
     let reply = reply_to(alloc, player, site, request, words)?;
     let mut bytes = Vec::new(alloc);

@@ -150,6 +150,7 @@ fn make_in(
         drop(op);
         return Err(Stopped::NoMemory);
     };
+    // For the proof: what a book says of its bounds.
     let _vector = book.shard().vector();
     made.push_reserved(op);
     Ok(stood)

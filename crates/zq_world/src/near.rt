@@ -35,7 +35,7 @@ pub(crate) fn nearest(books: &Vec<Book>, key: &[u8], w1: u64, w2: u64) -> usize
         slice_get (queues_of (rule_in books.now.items) (near ∷ []) key.now) 0
         ≡ slice_get (near_queue (rule_in books.now.items) low high books.now.items key.now) 0 }
 {
-    // The first pair of two books is the lesser of theirs.
+    // For the proof: the first pair of two books is the lesser of theirs.
     heading();
     let heaps = books.as_slice().len() as u64;
     let first = w1 % heaps;
@@ -106,8 +106,8 @@ fn least_of(books: &Vec<Book>, key: &[u8]) -> usize
         slice_get (queues_of (rule_in books.now.items) (near ∷ []) key.now) 0
         ≡ slice_get (queues_of (rule_in books.now.items) books.now.items key.now) 0 }
 {
-    // The first pair of the books from a place on is the least of that book's and of those behind
-    // it.
+    // For the proof: the first pair of the books from a place on is the least of that book's and of
+    // those behind it.
     heading();
     let mut place = books.as_slice().len() - 1;
     let mut near = place;

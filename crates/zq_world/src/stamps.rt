@@ -25,6 +25,7 @@ pub(crate) fn look_at(books: &[Book])
     ensures { site.AreUnworn books.now }
 {
     for book in books {
+        // For the proof: what a book says of its bounds.
         let _vector = book.shard().vector();
         let _count = book.count();
     }

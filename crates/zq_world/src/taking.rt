@@ -29,7 +29,7 @@ pub(crate) fn hand(alloc: Global, player: &mut Player, site: u8, op: usize) -> R
     ensures held { OnOk result ((played : Played) → Holds played player.old →
         Holds (after played (runs.Take site op)) player.new) }
 {
-    // What was made is read as it was written.
+    // For the proof: what was made is read as it was written.
     carrying();
     let op = carry(alloc, &player.made[op])?;
     let taken = take_in(alloc, &mut player.sites[site as usize], &op)?;
