@@ -86,8 +86,9 @@ impl Side {
 
     fn drop_seen(&mut self, site: SiteNo) -> Option<()> {
         let dot = next(&self.seen, site)?;
+        let n = dot.n;
         self.entry.drop_seen(dot, &self.seen);
-        self.seen.set(site, dot.n);
+        self.seen.set(site, n);
         Some(())
     }
 
