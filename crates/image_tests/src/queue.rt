@@ -1,11 +1,11 @@
 //! A table of steps on the members of a key, and what is read of a queue.
 
+mod forms;
 mod side;
 
 use crate::rows::row_holds;
 use side::Side;
 use std::alloc::{AllocError, Global};
-use std::process::Abort;
 use zq_dots::{Rule, SiteNo};
 use zq_entry::Entry;
 use zq_queue::Queue;
@@ -108,11 +108,6 @@ impl Sides {
         self.b.seen = self.a.seen;
     }
 
-    fn index(&mut self, alloc: Global, most: usize) {
-        self.a.queue.index(alloc, most);
-        self.b.queue.index(alloc, most);
-    }
-
     /// Whether the step could be done, or what it says holds.
     fn follows(&mut self, alloc: Global, step: &Step) -> bool {
         match *step {
@@ -152,22 +147,12 @@ fn shows_queue(queue: &Queue, alloc: Global, expected: &[(i128, u8)]) -> bool {
     }
 }
 
-/// A queue of more members than so many has an index: none has one, and all but the least have.
-const MOST: [usize; 2] = [usize::MAX, 2];
-
-/// Follows the steps at two sides.
-fn follow(rt: &impl Abort, alloc: Global, most: usize) {
-    let mut sides = Sides::new(alloc).expect(rt, "sides");
-    for (row, step) in STEPS.iter().enumerate() {
-        sides.index(alloc, most);
-        row_holds(rt, "steps", row, sides.follows(alloc, step));
-    }
-}
-
 #[test]
 fn two_sides_agree_when_they_have_met(rt: HostRuntime) {
-    for most in MOST {
-        follow(&rt, rt.alloc(), most);
+    let alloc = rt.alloc();
+    let mut sides = Sides::new(alloc).expect(&rt, "sides");
+    for (row, step) in STEPS.iter().enumerate() {
+        row_holds(&rt, "steps", row, sides.follows(alloc, step));
     }
 }
 
@@ -251,13 +236,12 @@ const CUTS: &[Cut] = &[
 const FIRST: &[(i128, u8)] = &[(-4, b'c')];
 
 /// A side whose queue has the cases.
-fn with_cases(alloc: Global, most: usize) -> Option<Side> {
+fn with_cases(alloc: Global) -> Option<Side> {
     let mut side = Side::new(alloc, Rule::Low, SiteNo::new(63)?);
     for case in CASES {
         if !side.puts(alloc, case.member, case.score) {
             return None;
         }
-        side.queue.index(alloc, most);
     }
     Some(side)
 }
@@ -283,12 +267,10 @@ fn shows_rest(queue: &Queue) -> bool {
 
 #[test]
 fn shows_each_member(rt: HostRuntime) {
-    for most in MOST {
-        let side = with_cases(rt.alloc(), most).expect(&rt, "the cases");
-        assert!(rt; shows_rest(&side.queue));
-        for (row, case) in CASES.iter().enumerate() {
-            row_holds(&rt, "cases", row, shows_case(&side.queue, case));
-        }
+    let side = with_cases(rt.alloc()).expect(&rt, "the cases");
+    assert!(rt; shows_rest(&side.queue));
+    for (row, case) in CASES.iter().enumerate() {
+        row_holds(&rt, "cases", row, shows_case(&side.queue, case));
     }
 }
 
@@ -299,39 +281,45 @@ fn shows_cut(queue: &Queue, alloc: Global, cut: &Cut) -> bool {
 
 #[test]
 fn cuts_by_places(rt: HostRuntime) {
-    for most in MOST {
-        let side = with_cases(rt.alloc(), most).expect(&rt, "the cases");
-        assert!(rt; are(side.queue.first(rt.alloc(), 1), FIRST));
-        for (row, cut) in CUTS.iter().enumerate() {
-            row_holds(&rt, "cuts", row, shows_cut(&side.queue, rt.alloc(), cut));
-        }
+    let side = with_cases(rt.alloc()).expect(&rt, "the cases");
+    assert!(rt; are(side.queue.first(rt.alloc(), 1), FIRST));
+    for (row, cut) in CUTS.iter().enumerate() {
+        row_holds(&rt, "cuts", row, shows_cut(&side.queue, rt.alloc(), cut));
     }
 }
 
-/// What the cases are without b and with e.
-const AFTER: &[(i128, u8)] = &[(-4, b'c'), (0, b'd'), (1, b'a'), (7, b'e')];
+/// A side whose queue has so many members.
+fn with_members(alloc: Global, count: u8) -> Option<Side> {
+    let mut side = Side::new(alloc, Rule::Low, SiteNo::new(63)?);
+    for member in 0..count {
+        if !side.puts(alloc, member, 0) {
+            return None;
+        }
+    }
+    Some(side)
+}
 
-/// Whether a queue of these pairs has no index once it is merged, and then one.
+/// Whether a queue has no index once it is merged, and then one.
 fn merges_without_index(side: &Side, alloc: Global) -> bool {
     let queue = &side.queue;
     let Ok(mut merged) = queue.merge(alloc, &side.seen, queue, &side.seen) else {
         return false;
     };
     let had = merged.has_index();
-    merged.index(alloc, 2);
-    !had && merged.has_index() && shows_queue(&merged, alloc, AFTER)
+    merged.index(alloc, 39);
+    !had && merged.has_index() && merged.same(queue)
 }
 
 #[test]
 fn an_index_stays_until_a_merge(rt: HostRuntime) {
     let alloc = rt.alloc();
-    let mut side = with_cases(alloc, usize::MAX).expect(&rt, "the cases");
-    side.queue.index(alloc, 4);
+    let mut side = with_members(alloc, 40).expect(&rt, "the members");
+    side.queue.index(alloc, 40);
     assert!(rt; !side.queue.has_index());
-    side.queue.index(alloc, 3);
+    side.queue.index(alloc, 39);
     assert!(rt; side.queue.has_index());
-    assert!(rt; side.drops(alloc, b'b'));
-    assert!(rt; side.puts(alloc, b'e', 7));
+    assert!(rt; side.drops(alloc, 7));
+    assert!(rt; side.puts(alloc, 99, 7));
     assert!(rt; side.queue.has_index());
     assert!(rt; merges_without_index(&side, alloc));
 }
@@ -371,7 +359,7 @@ fn is_built(queue: &Queue, alloc: Global, built: &mut Queue) -> bool {
 
 #[test]
 fn is_built_of_its_rows(rt: HostRuntime) {
-    let side = with_cases(rt.alloc(), 2).expect(&rt, "the cases");
+    let side = with_cases(rt.alloc()).expect(&rt, "the cases");
     let site = SiteNo::new(1).expect(&rt, "a site");
     let mut built = Side::new(rt.alloc(), Rule::Low, site);
     assert!(rt; is_built(&side.queue, rt.alloc(), &mut built.queue));

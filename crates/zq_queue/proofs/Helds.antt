@@ -1,5 +1,5 @@
 -- What is held of a key's members: their entries alone, and their scores.
-use Rattle.std.proofs.Common.{ap, refl, subst, sym, ◌∙◌}
+use Rattle.std.proofs.Common.{ap, refl, subst, sym, true≢false, ◌∙◌}
 use Rattle.std.proofs.lemmas.Cmp.{nat_list_cmp_total}
 use Rattle.std.proofs.lemmas.List.{length-map}
 use Rattle.std.proofs.lemmas.Option.{none-some, same_Some}
@@ -7,7 +7,7 @@ use Rattle.std.specs.FinMap.{FinMap, empty, entries, entries_sorted, from_entrie
 use Rattle.std.specs.FinMap.Entries.{below_all, find, same_entries}
 use Rattle.std.specs.List.{range_with_len}
 use Rattle.std.specs.Ordering.{eq_by_cmp, is_lt}
-use Rattle.std.specs.Prelude.{List, None, Option, Some, T, [], cond, false, is_none, is_some, length, map, option_map, true, unwrap_or, ℕ, ℤ, ◌&&◌, ◌∷◌, ◌≡◌}
+use Rattle.std.specs.Prelude.{List, None, Option, Some, T, [], cond, false, is_none, is_some, length, map, option_map, pos, true, unwrap_or, ℕ, ℤ, ◌&&◌, ◌∷◌, ◌≡◌}
 use Rattle.zq_entry.proofs.EntryLemmas.{none-score_of}
 use Rattle.zq_model.proofs.Maps.{same_key}
 use Rattle.zq_model.specs.Entry.{Addition}
@@ -16,7 +16,7 @@ use Rattle.zq_model.specs.Rule.{Rule}
 use Rattle.zq_model.specs.Score.{score_of}
 use Rattle.zq_model.specs.Sets.{SITES}
 use Rattle.zq_posheap.proofs.Entries.{bytes_antisymmetric, none_of, option_map-cond}
-use Rattle.zq_queue.specs.Entries.{NoneIsBare, bytes_cmp, entry_in}
+use Rattle.zq_queue.specs.Entries.{Entries, NoneIsBare, bytes_cmp, entry_in}
 use Rattle.zq_queue.specs.Queued.{AreScored, Held, NoneIsBareIn, entries_of}
 
 -- ---- maps by bytes
@@ -157,3 +157,38 @@ module _ (rule : Rule) (held : Held) where
 
 pub scored-empty : (rule : Rule) → AreScored rule empty
 scored-empty rule member p got = absurd (none-some p (sym (get-empty bytes_cmp member) ∙ got))
+
+-- ---- the scores of entries, beside them
+
+module _ (rule : Rule) where
+  abbrev with_score : Entry → ℤ × Entry
+  with_score e = (unwrap_or (score_of rule e) (pos 0), e)
+
+  -- what is held where these are the entries
+  abbrev pub held_from : Entries → Held
+  held_from m = from_entries (mapped with_score (entries m))
+
+  same_option : (o : Option Entry) → option_map entry_beside (option_map with_score o) ≡ o
+  same_option None = refl
+  same_option (Some e) = refl
+
+  pub entries_of-held_from : (m : Entries) → entries_of (held_from m) ≡ m
+  entries_of-held_from m = same_at_each _ _ (λ q. get-entries_of (held_from m) q ∙ ap (option_map entry_beside) (get_mapped with_score m q) ∙ same_option (get m q))
+
+  pub len-held_from : (m : Entries) → len (held_from m) ≡ len m
+  len-held_from m = len_mapped with_score m
+
+  -- an entry that is not bare has the score that stands beside it
+  pub its_own_score : (e : Entry) → is_bare e ≡ false → score_of rule e ≡ Some (unwrap_or (score_of rule e) (pos 0))
+  its_own_score e some = by (score_of rule e) (none-score_of rule e ∙ some)
+    where
+      by : (o : Option ℤ) → is_none o ≡ false → o ≡ Some (unwrap_or o (pos 0))
+      by None none = absurd (true≢false none)
+      by (Some x) none = refl
+
+  pub scored-held_from : (m : Entries) → NoneIsBare m → AreScored rule (held_from m)
+  scored-held_from m all member e got =
+      elim (get m member) as (λ o. get m member ≡ o → option_map with_score o ≡ Some e → score_of rule e.1 ≡ Some e.0) [
+        | None ↦ λ _ is. absurd (none-some e is)
+        | Some x ↦ λ there is. subst (λ (y : ℤ × Entry). score_of rule y.1 ≡ Some y.0) (same_Some (with_score x) e is) (its_own_score x (all member x there))
+      ] refl (sym (get_mapped with_score m member) ∙ got)

@@ -6,6 +6,7 @@ use Rattle.std.proofs.Math.Seq.{get_or-append_seam}
 use Rattle.std.proofs.lemmas.List.Sorted.{IsPermutation-append_comm, IsPermutation-append_left, IsPermutation-cons, IsPermutation-insert, IsPermutation-remove, IsPermutation-trans}
 use Rattle.std.proofs.lemmas.Option.{none-some, same_Some}
 use Rattle.std.specs.FinMap as map
+use Rattle.std.specs.FinMap.{FinMap}
 use Rattle.std.specs.List.{insert, remove}
 use Rattle.std.specs.List.Sorted.{IsPermutation, IsStrictlySortedBy}
 use Rattle.std.specs.Ordering.{eq_by_cmp}
@@ -62,7 +63,7 @@ no_score held m none = get-scores_of held m ∙ ap (option_map score_beside) non
 pub its_score : (held : Held) (m : List ℕ) (p : ℤ × Entry) → map.get held m ≡ Some p → map.get (scores_of held) m ≡ Some p.0
 its_score held m p some = get-scores_of held m ∙ ap (option_map score_beside) some
 
-module _ (scores : Scores) (m : List ℕ) (x : ℤ) where
+module _ {X : Type 0} (scores : FinMap bytes_cmp X) (m : List ℕ) (x : X) where
   itself : eq_by_cmp bytes_cmp m m ≡ true
   itself = key_same nat_list_cmp_total m m refl
 
@@ -84,73 +85,73 @@ module _ (scores : Scores) (m : List ℕ) (x : ℤ) where
 
   -- ---- one pair more or less
 
-  abbrev its : Scored
+  abbrev pub its : X × List ℕ
   its = (x, m)
 
   -- with a pair of a new member
-  listing_more : (xs : List Scored) → map.get scores m ≡ None → IsListing scores xs → IsListing (map.insert scores m x) (its ∷ xs)
+  pub listing_more : (xs : List (X × List ℕ)) → map.get scores m ≡ None → IsListing scores xs → IsListing (map.insert scores m x) (its ∷ xs)
   listing_more xs none lists = record { has = λ z. (there z, back z); once = apart }
     where
-      there : (z : Scored) → Contains (its ∷ xs) z → map.get (map.insert scores m x) z.1 ≡ Some z.0
+      there : (z : X × List ℕ) → Contains (its ∷ xs) z → map.get (map.insert scores m x) z.1 ≡ Some z.0
       there z at = get_inserted scores m x z.1 ∙ (elim (contains_in z (its ∷ xs) at) [
-        | inl e ↦ subst (λ (y : Scored). cond (eq_by_cmp bytes_cmp y.1 m) (Some x) (map.get scores y.1) ≡ Some y.0) e (ap (λ t. cond t (Some x) (map.get scores m)) itself)
+        | inl e ↦ subst (λ (y : X × List ℕ). cond (eq_by_cmp bytes_cmp y.1 m) (Some x) (map.get scores y.1) ≡ Some y.0) e (ap (λ t. cond t (Some x) (map.get scores m)) itself)
         | inr later ↦
             let got = (lists.has z).0 (in_contains z xs later) in
             by_test scores m z.1 (Some x) (λ o. o ≡ Some z.0) (λ e. absurd (none-some z.0 (sym (ap (map.get scores) e ∙ none) ∙ got))) got
       ])
 
-      back : (z : Scored) → map.get (map.insert scores m x) z.1 ≡ Some z.0 → Contains (its ∷ xs) z
+      back : (z : X × List ℕ) → map.get (map.insert scores m x) z.1 ≡ Some z.0 → Contains (its ∷ xs) z
       back z got = elim (eq_by_cmp bytes_cmp z.1 m) as (λ b. eq_by_cmp bytes_cmp z.1 m ≡ b → cond b (Some x) (map.get scores z.1) ≡ Some z.0 → Contains (its ∷ xs) z) [
         | true ↦ λ e is. in_contains z (its ∷ xs) (inl (λ k. (same_Some x z.0 is k, sym (same_key bytes_antisymmetric z.1 m e) k)))
         | false ↦ λ e is. has_later its xs z ((lists.has z).1 is)
       ] refl (sym (get_inserted scores m x z.1) ∙ got)
 
-      apart : (i j : ℕ) (d : Scored) → i < j → j < length (its ∷ xs) → (get_or (its ∷ xs) i d).1 ≢ (get_or (its ∷ xs) j d).1
+      apart : (i j : ℕ) (d : X × List ℕ) → i < j → j < length (its ∷ xs) → (get_or (its ∷ xs) i d).1 ≢ (get_or (its ∷ xs) j d).1
       apart i zero d lo within same = absurd (omega (arith, lo))
       apart zero (suc j) d lo within same =
-          let z : Scored = get_or xs j d in
+          let z : X × List ℕ = get_or xs j d in
           let inside : j < length xs = omega (arith, within) in
           none-some z.0 (sym (ap (map.get scores) (sym same) ∙ none) ∙ (lists.has z).0 (j, inside, get_or_default xs j z d inside))
       apart (suc i) (suc j) d lo within same = lists.once i j d (omega (arith, lo)) (omega (arith, within)) same
 
   -- without a member's pair
-  listing_less : (xs : List Scored) → IsListing scores (its ∷ xs) → IsListing (map.remove scores m) xs
+  pub listing_less : (xs : List (X × List ℕ)) → IsListing scores (its ∷ xs) → IsListing (map.remove scores m) xs
   listing_less xs lists = record { has = λ z. (there z, back z); once = λ i j d lo within same. lists.once (suc i) (suc j) d (omega (arith, lo)) (omega (arith, within)) same }
     where
-      there : (z : Scored) → Contains xs z → map.get (map.remove scores m) z.1 ≡ Some z.0
+      there : (z : X × List ℕ) → Contains xs z → map.get (map.remove scores m) z.1 ≡ Some z.0
       there z at = get_removed scores m z.1 ∙ by_test scores m z.1 None (λ o. o ≡ Some z.0)
-          (λ e. absurd (lists.once 0 (suc at.0) z (omega arith) (omega (arith, at.1)) (sym (ap (λ (y : Scored). y.1) at.2 ∙ e)))) ((lists.has z).0 (has_later its xs z at))
+          (λ e. absurd (lists.once 0 (suc at.0) z (omega arith) (omega (arith, at.1)) (sym (ap (λ (y : X × List ℕ). y.1) at.2 ∙ e)))) ((lists.has z).0 (has_later its xs z at))
 
-      back : (z : Scored) → map.get (map.remove scores m) z.1 ≡ Some z.0 → Contains xs z
+      back : (z : X × List ℕ) → map.get (map.remove scores m) z.1 ≡ Some z.0 → Contains xs z
       back z got = elim (eq_by_cmp bytes_cmp z.1 m) as (λ b. eq_by_cmp bytes_cmp z.1 m ≡ b → cond b None (map.get scores z.1) ≡ Some z.0 → Contains xs z) [
         | true ↦ λ e is. absurd (none-some z.0 is)
         | false ↦ λ e is. elim (contains_in z (its ∷ xs) ((lists.has z).1 is)) [
-          | inl same ↦ absurd (true≢false (sym (key_same nat_list_cmp_total z.1 m (sym (ap (λ (y : Scored). y.1) same))) ∙ e))
+          | inl same ↦ absurd (true≢false (sym (key_same nat_list_cmp_total z.1 m (sym (ap (λ (y : X × List ℕ). y.1) same))) ∙ e))
           | inr later ↦ in_contains z xs later
         ]
       ] refl (sym (get_removed scores m z.1) ∙ got)
 
-  module _ (xs : List Scored) (order : ListsInOrder scores xs) where
-    -- a pair of a new member is put in
-    pub put_in_order : map.get scores m ≡ None → (added : Bool) (ys : List Scored) → ys ≡ (if added then insert xs (rank_of its xs) its else xs) →
-        (IsTrue added ↔ (Contains xs its → ⊥)) → ListsInOrder (map.insert scores m x) ys
-    put_in_order none added ys is absent =
-        let new : Contains xs its → ⊥ = λ at. none-some x (sym none ∙ (order.lists.has its).0 at) in
-        subst (ListsInOrder (map.insert scores m x)) (sym (is ∙ ap (λ b. if b then insert xs (rank_of its xs) its else xs) (absent.1 new))) (record {
-          lists = shuffled (map.insert scores m x) (its ∷ xs) (listing_more xs none order.lists) _ (IsPermutation-insert xs (rank_of its xs) its);
-          rises = sorted_insert its xs order.rises new;
-        })
+module _ (scores : Scores) (m : List ℕ) (x : ℤ) (xs : List Scored) (order : ListsInOrder scores xs) where
+  -- a pair of a new member is put in
+  pub put_in_order : map.get scores m ≡ None → (added : Bool) (ys : List Scored) → ys ≡ (if added then insert xs (rank_of (x, m) xs) (x, m) else xs) →
+      (IsTrue added ↔ (Contains xs (x, m) → ⊥)) → ListsInOrder (map.insert scores m x) ys
+  put_in_order none added ys is absent =
+      let new : Contains xs (x, m) → ⊥ = λ at. none-some x (sym none ∙ (order.lists.has (x, m)).0 at) in
+      subst (ListsInOrder (map.insert scores m x)) (sym (is ∙ ap (λ b. if b then insert xs (rank_of (x, m) xs) (x, m) else xs) (absent.1 new))) (record {
+        lists = shuffled (map.insert scores m x) ((x, m) ∷ xs) (listing_more scores m x xs none order.lists) _ (IsPermutation-insert xs (rank_of (x, m) xs) (x, m));
+        rises = sorted_insert (x, m) xs order.rises new;
+      })
 
-    -- a member's pair is taken out
-    pub taken_in_order : map.get scores m ≡ Some x → (taken : Bool) (ys : List Scored) → ys ≡ (if taken then remove xs (rank_of its xs) else xs) →
-        (IsTrue taken ↔ Contains xs its) → ListsInOrder (map.remove scores m) ys
-    taken_in_order some taken ys is present =
-        let at : Contains xs its = (order.lists.has its).1 some in
-        let rank : rank_of its xs ≡ at.0 = rank_there xs order.rises its at.0 at.1 at.2 in
-        subst (ListsInOrder (map.remove scores m)) (sym (is ∙ ap (λ b. if b then remove xs (rank_of its xs) else xs) (present.1 at) ∙ ap (remove xs) rank)) (record {
-          lists = listing_less (remove xs at.0) (shuffled scores xs order.lists _ (IsPermutation-remove xs at.0 its at.1 (sym at.2)));
-          rises = sorted_remove xs at.0 order.rises;
-        })
+  -- a member's pair is taken out
+  pub taken_in_order : map.get scores m ≡ Some x → (taken : Bool) (ys : List Scored) → ys ≡ (if taken then remove xs (rank_of (x, m) xs) else xs) →
+      (IsTrue taken ↔ Contains xs (x, m)) → ListsInOrder (map.remove scores m) ys
+  taken_in_order some taken ys is present =
+      let at : Contains xs (x, m) = (order.lists.has (x, m)).1 some in
+      let rank : rank_of (x, m) xs ≡ at.0 = rank_there xs order.rises (x, m) at.0 at.1 at.2 in
+      subst (ListsInOrder (map.remove scores m)) (sym (is ∙ ap (λ b. if b then remove xs (rank_of (x, m) xs) else xs) (present.1 at) ∙ ap (remove xs) rank)) (record {
+        lists = listing_less scores m x (remove xs at.0) (shuffled scores xs order.lists _ (IsPermutation-remove xs at.0 (x, m) at.1 (sym at.2)));
+        rises = sorted_remove xs at.0 order.rises;
+      })
 
 -- ---- pairs put in one after another
 

@@ -8,4 +8,8 @@ pub mod Sames
 pub mod Rowed
 pub mod Unseen
 pub mod Indexes
+pub mod Seen
+pub mod Fews
+pub mod Scans
+pub mod Eithers
 pub mod Crossing

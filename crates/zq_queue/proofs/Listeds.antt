@@ -29,8 +29,8 @@ use Rattle.zq_posheap.proofs.ScoresOf.{get-scores_of}
 use Rattle.zq_posheap.specs.InOrder.{ListsInOrder}
 use Rattle.zq_posheap.specs.Listing.{IsListing}
 use Rattle.zq_posheap.specs.Members.{Scores, scores_of}
-use Rattle.zq_queue.proofs.Helds.{len_mapped, score_held, score_of_nothing}
-use Rattle.zq_queue.specs.Entries.{Entries, bytes_cmp, entry_in}
+use Rattle.zq_queue.proofs.Helds.{entries_of-held_from, held_from, len-held_from, len_mapped, score_held, score_of_nothing, scored-held_from}
+use Rattle.zq_queue.specs.Entries.{Entries, NoneIsBare, bytes_cmp, entry_in}
 use Rattle.zq_queue.specs.Listed.{listed, scored_in}
 use Rattle.zq_queue.specs.Queued.{AreScored, Held, entries_of}
 
@@ -182,3 +182,9 @@ module _ (rule : Rule) (held : Held) (all : AreScored rule held) where
 
   pub length-listed : length queue ≡ len held
   length-listed = length-listing (scores_of held) queue listed_listing ∙ len_mapped (λ (p : ℤ × Entry). p.0) held
+
+-- ---- of entries of which none is bare
+
+module _ (rule : Rule) (m : Entries) (all : NoneIsBare m) where
+  pub length-listed_entries : length (listed rule m) ≡ len m
+  length-listed_entries = ap (λ e. length (listed rule e)) (sym (entries_of-held_from rule m)) ∙ length-listed rule (held_from rule m) (scored-held_from rule m all) ∙ len-held_from rule m

@@ -50,3 +50,19 @@ part_count xs from to =
     let here : k < min to (length xs) - from = omega (arith, within, long) in
     let there : k < to - from = omega (arith, here) in
     get_or-take (min to (length xs) - from) (drop from xs) k d here ∙ sym (get_or-take (to - from) (drop from xs) k d there))
+
+-- a part whose places are brought within the list
+pub part_within : {X : Type 0} (xs : List X) (from to : ℕ) → take (min to (length xs) - min from (min to (length xs))) (drop (min from (min to (length xs))) xs) ≡ part from to xs
+part_within xs from to =
+    let high = min to (length xs) in
+    let low = min from high in
+    let long = length-take (high - low) (drop low xs) in
+    let rest = length-drop low xs in
+    let wide = length-take (to - from) (drop from xs) in
+    let others = length-drop from xs in
+    same_lists (take (high - low) (drop low xs)) (part from to xs) (omega (arith, long, rest, wide, others)) (λ k d within.
+    let here : k < high - low = omega (arith, within, long) in
+    let there : k < to - from = omega (arith, here) in
+    let same : low + k ≡ from + k = omega (arith, here) in
+    get_or-take (high - low) (drop low xs) k d here ∙ get_or-drop low xs k d ∙ ap (λ i. get_or xs i d) same
+    ∙ sym (get_or-take (to - from) (drop from xs) k d there ∙ get_or-drop from xs k d))

@@ -25,8 +25,8 @@ use Rattle.zq_posheap.proofs.Lists.{option_map_some}
 use Rattle.zq_posheap.proofs.ScoresOf.{get-scores_of}
 use Rattle.zq_posheap.specs.Members.{scores_of}
 use Rattle.zq_queue.proofs.Listeds.{contains_in, listed_in_order, listed_rises, listed_score, score_listed}
-use Rattle.zq_queue.proofs.Helds.{score_held}
-use Rattle.zq_queue.specs.Entries.{Entries, entry_in}
+use Rattle.zq_queue.proofs.Helds.{entries_of-held_from, held_from, score_held, scored-held_from}
+use Rattle.zq_queue.specs.Entries.{Entries, NoneIsBare, entry_in}
 use Rattle.zq_queue.specs.Listed.{is_of_member, listed}
 use Rattle.zq_queue.specs.Queued.{AreScored, Held, entries_of}
 
@@ -229,3 +229,21 @@ module _ (rule : Rule) (held : Held) (all : AreScored rule held) (m : List ℕ) 
 
     pub rank_within : count_by (λ z. is_lt (scored_cmp z (x, m))) queue < length queue
     rank_within = let p = held_some x is in subst (λ y. count_by (λ z. is_lt (scored_cmp z (y, m))) queue < length queue) p.2 (count_within p.0 p.1)
+
+-- ---- of entries of which none is bare
+
+module _ (rule : Rule) (m : Entries) (all : NoneIsBare m) (name : List ℕ) (x : ℤ) (is : score_of rule (entry_in m name) ≡ Some x) where
+  beside : score_of rule (entry_in (entries_of (held_from rule m)) name) ≡ Some x
+  beside = ap (λ e. score_of rule (entry_in e name)) (entries_of-held_from rule m) ∙ is
+
+  pub entry_rank : Some (count_by (λ z. is_lt (scored_cmp z (x, name))) (listed rule m)) ≡ position (is_of_member name) (listed rule m)
+  entry_rank = subst (λ e. Some (count_by (λ z. is_lt (scored_cmp z (x, name))) (listed rule e)) ≡ position (is_of_member name) (listed rule e)) (entries_of-held_from rule m)
+      (rank_of rule (held_from rule m) (scored-held_from rule m all) name x beside)
+
+  pub entry_turned_rank : Some (length (listed rule m) - 1 - count_by (λ z. is_lt (scored_cmp z (x, name))) (listed rule m)) ≡ position (is_of_member name) (reverse (listed rule m))
+  entry_turned_rank = subst (λ e. Some (length (listed rule e) - 1 - count_by (λ z. is_lt (scored_cmp z (x, name))) (listed rule e)) ≡ position (is_of_member name) (reverse (listed rule e)))
+      (entries_of-held_from rule m) (turned_rank_of rule (held_from rule m) (scored-held_from rule m all) name x beside)
+
+  pub entry_rank_within : count_by (λ z. is_lt (scored_cmp z (x, name))) (listed rule m) < length (listed rule m)
+  entry_rank_within = subst (λ e. count_by (λ z. is_lt (scored_cmp z (x, name))) (listed rule e) < length (listed rule e)) (entries_of-held_from rule m)
+      (rank_within rule (held_from rule m) (scored-held_from rule m all) name x beside)

@@ -63,14 +63,14 @@ module _ (held : Held) (rows : List (Row Entry)) (lists : IsListing held rows) w
   }
 
 -- the first of the rows that are left goes to those that are done
-pub one_row : (m : Entries) (done done' : List (Bor (List ℕ) × Bor Entry)) (left rest : List (Row Entry)) (q : Row Entry) (row : Bor (List ℕ) × Bor Entry) →
-    left ≡ q ∷ rest → done' ≡ done ++ row ∷ [] → lent_turned row ≡ row_pair q →
-    IsListing m (map lent_turned done ++ map row_pair left) → IsListing m (map lent_turned done' ++ map row_pair rest)
+pub one_row : (m : Entries) (done done' : List (Bor (List ℕ) × Bor Entry)) (left rest : List (Entry × List ℕ)) (q : Entry × List ℕ) (row : Bor (List ℕ) × Bor Entry) →
+    left ≡ q ∷ rest → done' ≡ done ++ row ∷ [] → lent_turned row ≡ q →
+    IsListing m (map lent_turned done ++ left) → IsListing m (map lent_turned done' ++ rest)
 one_row m done done' left rest q row next more same lists =
     subst (IsListing m)
-    ((λ k. map lent_turned done ++ map row_pair (next k)) ∙ (λ k. map lent_turned done ++ sym same k ∷ map row_pair rest)
-    ∙ sym (append_assoc (map lent_turned done) (lent_turned row ∷ []) (map row_pair rest))
-    ∙ ap (λ xs. xs ++ map row_pair rest) (sym (map-append lent_turned done (row ∷ [])) ∙ ap (map lent_turned) (sym more))) lists
+    ((λ k. map lent_turned done ++ next k) ∙ (λ k. map lent_turned done ++ sym same k ∷ rest)
+    ∙ sym (append_assoc (map lent_turned done) (lent_turned row ∷ []) rest)
+    ∙ ap (λ xs. xs ++ rest) (sym (map-append lent_turned done (row ∷ [])) ∙ ap (map lent_turned) (sym more))) lists
 
 -- ---- in order
 

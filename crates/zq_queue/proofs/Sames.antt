@@ -22,9 +22,8 @@ use Rattle.zq_model.proofs.Maps.{same_key}
 use Rattle.zq_model.proofs.Rising.{is_true}
 use Rattle.zq_model.specs.Image.{Entry}
 use Rattle.zq_posheap.proofs.Entries.{bytes_antisymmetric}
-use Rattle.zq_queue.proofs.Helds.{get-entries_of, same_at_each}
+use Rattle.zq_queue.proofs.Helds.{same_at_each}
 use Rattle.zq_queue.specs.Entries.{Entries, bytes_cmp}
-use Rattle.zq_queue.specs.Queued.{Held, entries_of}
 
 -- ---- rules
 
@@ -75,6 +74,7 @@ with_first : (q : List ℕ) (ks : List (List ℕ)) → list_any (bytes_eq q) ks 
 unfolding IsDistinct
 with_first q ks none apart = (none_pass (bytes_eq q) ks none, apart)
 
+-- maps of one length, of which one lies within the other, are one
 module _ (a b : Entries) (long : len a ≡ len b) (within : (q : List ℕ) (x : Entry) → get a q ≡ Some x → get b q ≡ Some x) where
   standing : (k : List ℕ) → list_any (bytes_eq k) (keys a) ≡ true → is_some (get b k) ≡ true
   standing k among =
@@ -100,21 +100,9 @@ module _ (a b : Entries) (long : len a ≡ len b) (within : (q : List ℕ) (x : 
             | false ↦ λ _ rest. standing k rest
           ] refl among)
 
-  one_map : a ≡ b
+  pub one_map : a ≡ b
   one_map = same_at_each a b (λ q.
       elim (get a q) as (λ o. get a q ≡ o → o ≡ get b q) [
         | Some x ↦ λ got. sym (within q x got)
         | None ↦ λ none. (elim (get b q) as (λ o. get b q ≡ o → None ≡ o) [ None ↦ λ _. refl | Some y ↦ λ some. absurd (too_many q y none some) ] refl)
       ] refl)
-
--- what is held is the other's, where there is as much of both and the other has all of it
-pub all_there : (held : Held) (b : Entries) → len (entries_of held) ≡ len b → ((q : List ℕ) (p : ℤ × Entry) → get held q ≡ Some p → get b q ≡ Some p.1) → entries_of held ≡ b
-all_there held b long within = one_map (entries_of held) b long (λ q x got.
-    elim (get held q) as (λ o. get held q ≡ o → option_map (λ p. p.1) o ≡ Some x → get b q ≡ Some x) [
-      | None ↦ λ _ is. absurd (none-some x is)
-      | Some p ↦ λ there is. within q p there ∙ is
-    ] refl (sym (get-entries_of held q) ∙ got))
-
--- and the other way
-pub all_of : (held : Held) (b : Entries) → entries_of held ≡ b → (q : List ℕ) (p : ℤ × Entry) → get held q ≡ Some p → get b q ≡ Some p.1
-all_of held b is q p got = ap (λ m. get m q) (sym is) ∙ get-entries_of held q ∙ ap (option_map (λ p. p.1)) got

@@ -6,3 +6,9 @@ pub mod Lent
 pub mod Built
 pub mod Effects
 pub mod Indexed
+pub mod Few
+pub mod Place
+pub mod Kept
+pub mod Form
+pub mod Left
+pub mod Least

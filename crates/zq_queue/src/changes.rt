@@ -3,23 +3,18 @@
 ghost use Rattle.std.specs.Prelude.{IfOk, List, None, OnErr, OnOk, Some, false, unwrap_or, ℕ, ◌≡◌, ◌≤◌};
 ghost use Rattle.std.specs.FinMap.{get, insert};
 ghost use Rattle.std.specs.List.{list_all};
-ghost use Rattle.zq_dots.specs.Rule.{rule_of};
 ghost use Rattle.zq_entry.specs.Placed.{placed_of};
 ghost use Rattle.zq_model.specs.Image.{entry_after, is_bare, no_additions};
 ghost use Rattle.zq_model.specs.Operation.{Drop as ActDrop};
 ghost use Rattle.zq_model.specs.Sets.{LAST};
-ghost use Rattle.zq_posheap.specs.Members.{HasPlace, IsPlaceOf};
 ghost use Rattle.zq_queue.specs.Effects.{HasRoom, affected, entries_after, is_seen};
 ghost use Rattle.zq_queue.specs.Entries.{entry_in, set_entry};
-ghost use Rattle.zq_queue.specs.Queued.{AreScored, entries_of};
 
 use crate::effect::Effect;
-use crate::indexed::Indexed;
 use crate::queue::Queue;
 use std::alloc::{AllocError, Global};
-use zq_dots::{Act, Rule, Vector};
+use zq_dots::{Act, Vector};
 use zq_entry::Entry;
-use zq_posheap::Place;
 
 /// What an effect makes of an entry. Additions that it takes away are not copied.
 #[inline(always)]
@@ -68,26 +63,6 @@ fn has_all(seen: &Vector, entry: &Entry) -> bool
     true
 }
 
-/// Gives the member at a place another entry, or takes it out where that is bare, and answers the
-/// entry that it had.
-fn exchange(members: &mut Indexed, rule: Rule, member: &[u8], place: Place, entry: Entry) -> Entry
-    requires scored { AreScored (rule_of rule) members.old.held }
-    requires has { HasPlace members.old place }
-    requires place { IsPlaceOf members.old member.now place }
-    ensures scored { AreScored (rule_of rule) members.new.held }
-    ensures before { get (entries_of members.old.held) member.now ≡ Some result }
-    ensures set { entries_of members.new.held
-        ≡ set_entry (entries_of members.old.held) member.now entry }
-{
-    match entry.score(rule) {
-        Some(score) => members.replace_at(member, place, score, entry),
-        None => {
-            drop(entry);
-            members.remove_at(member, place)
-        }
-    }
-}
-
 impl Queue {
     /// Takes the effect of a new operation on a member, and answers the entry that the member had:
     /// it is moved out, and only what stays of it is copied. A member whose last addition goes does
@@ -108,9 +83,8 @@ impl Queue {
     {
         match self.members.find(member) {
             Some(place) => {
-                let (_, entry) = self.members.at(place);
-                let entry = changed(alloc, entry, effect)?;
-                Ok(Some(exchange(&mut self.members, self.rule, member, place, entry)))
+                let entry = changed(alloc, self.members.at(place), effect)?;
+                Ok(Some(self.members.exchange(member, place, entry)))
             }
             None => {
                 let entry = changed(alloc, &Entry::new(), effect)?;
@@ -128,10 +102,7 @@ impl Queue {
             (self.new.entries ≡ set_entry self.old.entries member.now entry) }
         ensures refused { OnErr result (self.new ≡ self.old) }
     {
-        if let Some(score) = entry.score(self.rule) {
-            self.members.insert(member, score, entry)?;
-        }
-        Ok(())
+        self.members.add(member, entry)
     }
 
     /// Gives a member back the entry that it had, or takes it out where it had none, so that a
@@ -147,10 +118,7 @@ impl Queue {
     {
         match before {
             Some(entry) => self.set(member, entry),
-            None => {
-                drop(self.members.remove(member));
-                Ok(())
-            }
+            None => self.set(member, Entry::new()),
         }
     }
 
@@ -161,17 +129,13 @@ impl Queue {
         ensures refused { OnErr result (self.new ≡ self.old) }
         ensures absent { OnErr result (get self.old.entries member.now ≡ None) }
     {
-        match entry.score(self.rule) {
-            Some(score) => {
-                let given = self.members.set(member, score, entry)?;
-                drop(given);
+        match self.members.find(member) {
+            Some(place) => {
+                drop(self.members.exchange(member, place, entry));
+                Ok(())
             }
-            None => {
-                drop(entry);
-                drop(self.members.remove(member));
-            }
+            None => self.members.add(member, entry),
         }
-        Ok(())
     }
 
     /// Adds a member that does not stand, with its entry. Where memory is refused nothing changes.

@@ -1,23 +1,23 @@
 //! Copies of queues, and whether two are the same.
 
-ghost use Rattle.std.specs.Prelude.{IfOk, IsTrue, List, OnOk, Some, ℕ, ℤ, ◌≡◌, ◌↔◌};
+ghost use Rattle.std.specs.Prelude.{IfOk, IsTrue, List, OnOk, Some, ℕ, ◌≡◌, ◌↔◌};
 ghost use Rattle.std.specs.FinMap.{empty, get};
 ghost use Rattle.zq_model.specs.Image.{Entry as ModelEntry};
-ghost use Rattle.zq_queue.specs.Queued.{NoneIsBareIn, entries_of};
+ghost use Rattle.zq_queue.specs.Entries.{NoneIsBare};
 
-use crate::indexed::Indexed;
+use crate::members::Members;
 use crate::queue::Queue;
 use std::alloc::{AllocError, Global};
 use zq_entry::Entry;
 
 /// Adds copies of these members to a queue without members.
-fn add_copies(alloc: Global, members: &Indexed, copied: &mut Queue) -> Result<(), AllocError>
-    requires bare { NoneIsBareIn members.now.held }
+fn add_copies(alloc: Global, members: &Members, copied: &mut Queue) -> Result<(), AllocError>
+    requires bare { NoneIsBare members.now.entries }
     requires empty { copied.old.entries ≡ empty }
     ensures rule { copied.new.rule ≡ copied.old.rule }
-    ensures entries { OnOk result (copied.new.entries ≡ entries_of members.now.held) }
+    ensures entries { OnOk result (copied.new.entries ≡ members.now.entries) }
 {
-    for ((_, member), entry) in members.iter() {
+    for (member, entry) in members.iter() {
         copied.add(member, entry.copy(alloc)?)?;
     }
     Ok(())
@@ -34,12 +34,12 @@ fn stands(queue: &Queue, member: &[u8], entry: &Entry) -> bool
 }
 
 /// Whether each of these members stands in a queue with the same entry.
-fn is_within(members: &Indexed, queue: &Queue) -> bool
+fn is_within(members: &Members, queue: &Queue) -> bool
     ensures { IsTrue result
-        ↔ ((member : List ℕ) (e : ℤ × ModelEntry) → get members.now.held member ≡ Some e →
-        get queue.now.entries member ≡ Some e.1) }
+        ↔ ((member : List ℕ) (e : ModelEntry) → get members.now.entries member ≡ Some e →
+        get queue.now.entries member ≡ Some e) }
 {
-    for ((_, member), entry) in members.iter() {
+    for (member, entry) in members.iter() {
         if !stands(queue, member, entry) {
             return false;
         }
@@ -52,7 +52,7 @@ impl Queue {
     pub fn copy(&self, alloc: Global) -> Result<Queue, AllocError>
         ensures { IfOk result (λ copy. copy ≡ self.now) }
     {
-        let mut copied = Queue::new(alloc, self.rule, self.hasher);
+        let mut copied = self.without_members(alloc);
         copied.reserve(self.members.len())?;
         add_copies(alloc, &self.members, &mut copied)?;
         Ok(copied)
@@ -62,7 +62,7 @@ impl Queue {
     pub fn same(&self, other: &Queue) -> bool
         ensures { IsTrue result ↔ (self.now ≡ other.now) }
     {
-        if self.rule != other.rule || self.len() != other.len() {
+        if self.rule() != other.rule() || self.len() != other.len() {
             return false;
         }
         is_within(&self.members, other)

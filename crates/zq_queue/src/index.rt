@@ -72,13 +72,13 @@ pub(crate) fn without_place(
     member: &[u8],
     place: Place,
 ) -> Option<Box<Ranked>>
+    requires in_range { AreInRange members.now.held }
     requires has { HasPlace members.now place }
     requires place { IsPlaceOf members.now member.now place }
     ensures { IsIndexOf (scores_of members.now.held) index →
         IsIndexOf (remove (scores_of members.now.held) member.now) result }
 {
     let index = index?;
-    in_range(members);
     let (score, _) = members.at(place);
     without_pair(Some(index), score, member)
 }
@@ -91,21 +91,13 @@ pub(crate) fn with_score(
     place: Place,
     score: i128,
 ) -> Option<Box<Ranked>>
+    requires in_range { AreInRange members.now.held }
     requires has { HasPlace members.now place }
     requires place { IsPlaceOf members.now member.now place }
     ensures { IsIndexOf (scores_of members.now.held) index →
         IsIndexOf (insert (scores_of members.now.held) member.now score) result }
 {
     let index = index?;
-    in_range(members);
     let (before, _) = members.at(place);
     with_moved(Some(index), before, score, member)
-}
-
-/// What the type of a heap keeps of its scores.
-fn in_range(members: &PosHeap<Entry>)
-    ensures { AreInRange members.now.held }
-{
-    // For the proof: the type of a heap keeps its scores in range.
-    let _pairs = members.iter();
 }

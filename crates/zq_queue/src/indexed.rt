@@ -24,7 +24,7 @@ pub struct Indexed {
 impl Model for Indexed {
     ghost use Rattle.zq_model.specs.Codes.{entry_code};
     ghost use Rattle.zq_model.specs.Image.{Entry as ModelEntry};
-    ghost use Rattle.zq_posheap.specs.Members.{Members, members_code, scores_of};
+    ghost use Rattle.zq_posheap.specs.Members.{AreInRange, Members, members_code, scores_of};
 
     ghost Value = { Members ModelEntry };
 
@@ -34,7 +34,8 @@ impl Model for Indexed {
 
     ghost view = { λ a. a.members };
 
-    ghost invariant = { λ a. IsIndexOf (scores_of a.members.held) a.index };
+    ghost invariant = { λ a. IsIndexOf (scores_of a.members.held) a.index
+        × AreInRange a.members.held };
 }
 
 impl Indexed {
@@ -71,13 +72,6 @@ impl Indexed {
         self.members.len()
     }
 
-    /// Whether there are none.
-    pub fn is_empty(&self) -> bool
-        ensures { IsTrue result ↔ (map_len self.now.held ≡ 0) }
-    {
-        self.members.is_empty()
-    }
-
     /// All scores with their members and entries, in no order.
     pub fn iter(&self) -> Pairs<'_, Entry>
         ensures lists { IsListing self.now.held result }
@@ -88,7 +82,8 @@ impl Indexed {
 
     /// The score and the entry of a member.
     pub fn get(&self, member: &[u8]) -> Option<(i128, &Entry)>
-        ensures { option_map (λ e. (e.0, e.1.now)) result ≡ get self.now.held member.now }
+        ensures got { option_map (λ e. (e.0, e.1.now)) result ≡ get self.now.held member.now }
+        ensures in_range { AreInRange self.now.held }
     {
         self.members.get(member)
     }
@@ -152,39 +147,5 @@ impl Indexed {
         self.members.insert(member, score, entry)?;
         self.index = with_pair(self.index.take(), score, member);
         Ok(())
-    }
-
-    /// Gives a member a score and an entry, whether it was there or not, and answers the entry that
-    /// it had. Where memory is refused, which is only for a member that was not there, nothing
-    /// changes.
-    pub fn set(
-        &mut self,
-        member: &[u8],
-        score: i128,
-        entry: Entry,
-    ) -> Result<Option<Entry>, AllocError>
-        ensures done { OnOk result
-            (self.new.held ≡ insert self.old.held member.now (score, entry)) }
-        ensures given { IfOk result
-            (λ given. given ≡ option_map (λ e. e.1) (get self.old.held member.now)) }
-        ensures unchanged { OnErr result (self.new.held ≡ self.old.held) }
-        ensures absent { OnErr result (get self.old.held member.now ≡ None) }
-    {
-        match self.find(member) {
-            Some(place) => Ok(Some(self.replace_at(member, place, score, entry))),
-            None => {
-                self.insert(member, score, entry)?;
-                Ok(None)
-            }
-        }
-    }
-
-    /// Takes a member out, and answers the entry that it had.
-    pub fn remove(&mut self, member: &[u8]) -> Option<Entry>
-        ensures given { result ≡ option_map (λ e. e.1) (get self.old.held member.now) }
-        ensures rest { self.new.held ≡ remove self.old.held member.now }
-    {
-        let place = self.find(member)?;
-        Some(self.remove_at(member, place))
     }
 }

@@ -4,9 +4,8 @@ ghost use Rattle.std.specs.Prelude.{IfOk, List, None, OnOk, if◌then◌else◌,
 ghost use Rattle.std.specs.FinMap.{contains_key, empty, get};
 ghost use Rattle.zq_model.specs.Image.{join_entry, no_additions};
 ghost use Rattle.zq_queue.specs.Entries.{entry_in, entry_joined, joined_entries};
-ghost use Rattle.zq_queue.specs.Queued.{entries_of};
 
-use crate::indexed::Indexed;
+use crate::members::Members;
 use crate::queue::Queue;
 use std::alloc::{AllocError, Global};
 use zq_dots::Vector;
@@ -48,7 +47,7 @@ fn of_second(
 fn join_first(
     alloc: Global,
     mine: &Vector,
-    members: &Indexed,
+    members: &Members,
     theirs: &Vector,
     other: &Queue,
     merged: &mut Queue,
@@ -56,10 +55,10 @@ fn join_first(
     requires empty { merged.old.entries ≡ empty }
     ensures rule { merged.new.rule ≡ merged.old.rule }
     ensures joined { OnOk result ((member : List ℕ) → get merged.new.entries member
-        ≡ if contains_key (entries_of members.now.held) member then entry_joined mine.now theirs.now
-        (entries_of members.now.held) other.now.entries member else None) }
+        ≡ if contains_key members.now.entries member then entry_joined mine.now theirs.now
+        members.now.entries other.now.entries member else None) }
 {
-    for ((_, member), entry) in members.iter() {
+    for (member, entry) in members.iter() {
         let joined = with_second(alloc, mine, entry, theirs, other, member)?;
         merged.add(member, joined)?;
     }
@@ -73,18 +72,18 @@ fn join_second(
     mine: &Vector,
     first: &Queue,
     theirs: &Vector,
-    members: &Indexed,
+    members: &Members,
     merged: &mut Queue,
 ) -> Result<(), AllocError>
     requires joined { (member : List ℕ) → get merged.old.entries member
         ≡ if contains_key first.now.entries member then entry_joined mine.now theirs.now
-        first.now.entries (entries_of members.now.held) member else None }
+        first.now.entries members.now.entries member else None }
     ensures rule { merged.new.rule ≡ merged.old.rule }
     ensures joined { OnOk result ((member : List ℕ) →
         get merged.new.entries member ≡ entry_joined mine.now theirs.now first.now.entries
-        (entries_of members.now.held) member) }
+        members.now.entries member) }
 {
-    for ((_, member), entry) in members.iter() {
+    for (member, entry) in members.iter() {
         if first.entry(member).is_none() {
             let joined = of_second(alloc, mine, theirs, entry)?;
             merged.add(member, joined)?;
@@ -110,10 +109,11 @@ impl Queue {
             (λ merged. merged.entries
             ≡ joined_entries mine.now theirs.now self.now.entries other.now.entries) }
     {
-        let mut merged = Queue::new(alloc, self.rule, self.hasher);
+        let mut merged = self.without_members(alloc);
         merged.reserve(self.members.len().max(other.members.len()))?;
         join_first(alloc, mine, &self.members, theirs, other, &mut merged)?;
         join_second(alloc, mine, self, theirs, &other.members, &mut merged)?;
+        merged.settle();
         Ok(merged)
     }
 }

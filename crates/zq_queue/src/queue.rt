@@ -1,16 +1,14 @@
 //! `Queue`.
 
-ghost use Rattle.std.specs.Prelude.{FitsSigned, IfSome, IsTrue, false, length, option_map, ◌<◌, ◌^◌, ◌↔◌, ◌≡◌};
+ghost use Rattle.std.specs.Prelude.{IfSome, IsTrue, false, length, option_map, ◌<◌, ◌^◌, ◌↔◌, ◌≡◌};
 ghost use Rattle.std.specs.FinMap as map;
-ghost use Rattle.std.specs.Int.{w128};
 ghost use Rattle.zq_dots.specs.Rule.{rule_of};
 ghost use Rattle.zq_model.specs.Image.{is_bare};
 ghost use Rattle.zq_model.specs.Score.{score_of};
-ghost use Rattle.zq_posheap.specs.Members.{AreInRange};
 ghost use Rattle.zq_queue.specs.Entries.{NoneIsBare, entry_in};
 ghost use Rattle.zq_queue.specs.Listed.{listed};
 
-use crate::indexed::Indexed;
+use crate::members::Members;
 use std::alloc::Global;
 use std::marker::Model;
 use zq_dots::Rule;
@@ -21,22 +19,20 @@ use zq_posheap::Seeded;
 /// additions does not stand.
 #[derive(Drop)]
 pub struct Queue {
-    pub(crate) rule: Rule,
-    pub(crate) hasher: Seeded,
-    pub(crate) members: Indexed,
+    pub(crate) members: Members,
 }
 
+// One of them stands for each key.
+const _: () = prove!(size_of::<Queue>() == 48);
+
 impl Model for Queue {
-    ghost use Rattle.zq_dots.specs.Rule.{rule_of};
-    ghost use Rattle.zq_queue.specs.Queued.{AreScored, Queued, entries_of, queued_code};
+    ghost use Rattle.zq_queue.specs.Queued.{Queued, queued_code};
 
     ghost Value = { Queued };
 
     ghost coded = { queued_code };
 
-    ghost view = { λ q. record { rule = rule_of q.rule; entries = entries_of q.members.held } };
-
-    ghost invariant = { λ q. AreScored (rule_of q.rule) q.members.held };
+    ghost view = { λ q. record { rule = q.members.rule; entries = q.members.entries } };
 }
 
 impl Queue {
@@ -46,9 +42,17 @@ impl Queue {
         ensures entries { result.entries ≡ map.empty }
     {
         Queue {
-            rule,
-            hasher,
-            members: Indexed::with_hasher(alloc, hasher),
+            members: Members::new(alloc, rule, hasher),
+        }
+    }
+
+    /// No members, with this queue's rule and hasher.
+    pub(crate) fn without_members(&self, alloc: Global) -> Queue
+        ensures rule { result.rule ≡ self.now.rule }
+        ensures entries { result.entries ≡ map.empty }
+    {
+        Queue {
+            members: self.members.without_members(alloc),
         }
     }
 
@@ -56,7 +60,7 @@ impl Queue {
     pub fn rule(&self) -> Rule
         ensures { rule_of result ≡ self.now.rule }
     {
-        self.rule
+        self.members.rule()
     }
 
     /// The number of members.
@@ -81,33 +85,21 @@ impl Queue {
         ensures entry { option_map (λ e. e.now) result ≡ map.get self.now.entries member.now }
         ensures kept { IfSome result (λ e. is_bare e.now ≡ false) }
     {
-        let (_, entry) = self.members.get(member)?;
-        Some(entry)
+        let place = self.members.find(member)?;
+        Some(self.members.at(place))
     }
 
     /// The member's score, and `None` where it does not stand.
     pub fn score(&self, member: &[u8]) -> Option<i128>
         ensures { result ≡ score_of self.now.rule (entry_in self.now.entries member.now) }
     {
-        self.standing(member)
+        self.members.score(member)
     }
 
-    /// The same, as it stands beside the member's entry.
-    pub(crate) fn standing(&self, member: &[u8]) -> Option<i128>
-        ensures score { result ≡ score_of self.now.rule (entry_in self.now.entries member.now) }
-        ensures fits { IfSome result (FitsSigned w128) }
+    /// Takes the small form where few members are left in the large one.
+    pub(crate) fn settle(&mut self)
+        ensures { self.new ≡ self.old }
     {
-        in_range(&self.members);
-        let place = self.members.find(member)?;
-        let (score, _) = self.members.at(place);
-        Some(score)
+        self.members.settle();
     }
-}
-
-/// What the type of a heap keeps of its scores.
-fn in_range(members: &Indexed)
-    ensures { AreInRange members.now.held }
-{
-    // For the proof: the type of a heap keeps its scores in range.
-    let _pairs = members.iter();
 }

@@ -40,7 +40,7 @@ impl Queue {
         ensures { result ≡ position (is_of_member member.now)
             (listed self.now.rule self.now.entries) }
     {
-        let score = self.standing(member)?;
+        let score = self.members.score(member)?;
         Some(self.members.count_before(score, member))
     }
 
@@ -49,7 +49,7 @@ impl Queue {
         ensures { result ≡ position (is_of_member member.now)
             (reverse (listed self.now.rule self.now.entries)) }
     {
-        let score = self.standing(member)?;
+        let score = self.members.score(member)?;
         let before = self.members.count_before(score, member);
         Some(self.members.len() - 1 - before)
     }

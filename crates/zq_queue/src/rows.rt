@@ -4,20 +4,19 @@ ghost use Rattle.std.specs.Prelude.{IfOk, map, ◌≡◌};
 ghost use Rattle.std.specs.FinMap as finite;
 ghost use Rattle.zq_queue.specs.Lent.{lent_entry, lent_turned};
 ghost use Rattle.zq_posheap.specs.Listing.{IsListing};
-ghost use Rattle.zq_queue.specs.Queued.{entries_of};
 
-use crate::indexed::Indexed;
+use crate::members::Members;
 use crate::queue::Queue;
 use std::alloc::{AllocError, Global};
 use zq_entry::Entry;
 
 /// The members with their entries, in no order.
-fn in_any_order(alloc: Global, members: &Indexed) -> Result<Vec<(&[u8], &Entry)>, AllocError>
+fn in_any_order(alloc: Global, members: &Members) -> Result<Vec<(&[u8], &Entry)>, AllocError>
     ensures { IfOk result
-        (λ rows. IsListing (entries_of members.now.held) (map lent_turned rows.items)) }
+        (λ rows. IsListing members.now.entries (map lent_turned rows.items)) }
 {
     let mut rows = Vec::with_capacity(alloc, members.len())?;
-    for ((_, member), entry) in members.iter() {
+    for (member, entry) in members.iter() {
         rows.push((member, entry))?;
     }
     Ok(rows)

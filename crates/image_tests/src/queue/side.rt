@@ -29,31 +29,51 @@ impl Side {
 
     /// Puts a member of one byte at this score: whether it could.
     pub fn puts(&mut self, alloc: Global, member: u8, value: i64) -> bool {
+        self.puts_name(alloc, &[member], value)
+    }
+
+    /// Drops a member of one byte: whether it could.
+    pub fn drops(&mut self, alloc: Global, member: u8) -> bool {
+        self.drops_name(alloc, &[member])
+    }
+
+    /// Puts a member of one byte at this score, and the member gets back what it had: whether it
+    /// could.
+    pub fn undoes(&mut self, alloc: Global, member: u8, value: i64) -> bool {
+        self.undoes_name(alloc, &[member], Some(value))
+    }
+
+    /// Puts a member at this score: whether it could.
+    pub fn puts_name(&mut self, alloc: Global, member: &[u8], value: i64) -> bool {
         match Score::new(value) {
             Some(score) => self.take(alloc, member, Act::Put(score)).is_some(),
             None => false,
         }
     }
 
-    /// Drops a member of one byte: whether it could.
-    pub fn drops(&mut self, alloc: Global, member: u8) -> bool {
+    /// Drops a member: whether it could.
+    pub fn drops_name(&mut self, alloc: Global, member: &[u8]) -> bool {
         self.take(alloc, member, Act::Drop).is_some()
     }
 
-    /// Puts a member of one byte at this score, and the member gets back what it had: whether it
+    /// Puts a member at this score, or drops it, and the member gets back what it had: whether it
     /// could.
-    pub fn undoes(&mut self, alloc: Global, member: u8, value: i64) -> bool {
-        let Some(score) = Score::new(value) else {
-            return false;
+    pub fn undoes_name(&mut self, alloc: Global, member: &[u8], value: Option<i64>) -> bool {
+        let act = match value {
+            Some(value) => match Score::new(value) {
+                Some(score) => Act::Put(score),
+                None => return false,
+            },
+            None => Act::Drop,
         };
-        match self.take(alloc, member, Act::Put(score)) {
-            Some(before) => self.queue.put_back(&[member], before).is_ok(),
+        match self.take(alloc, member, act) {
+            Some(before) => self.queue.put_back(member, before).is_ok(),
             None => false,
         }
     }
 
-    /// Makes an operation on a member of one byte, and answers what the member had.
-    fn take(&mut self, alloc: Global, member: u8, act: Act) -> Option<Option<Entry>>
+    /// Makes an operation on a member, and answers what the member had.
+    fn take(&mut self, alloc: Global, member: &[u8], act: Act) -> Option<Option<Entry>>
         requires { is_bump (act_of act) ≡ false }
     {
         let dot = self.seen.next(self.site).ok()?;
@@ -61,14 +81,14 @@ impl Side {
     }
 }
 
-/// Takes an act on a member of one byte that has seen what the vector has, and answers what the
+/// Takes an act on a member that has seen what the vector has, and answers what the
 /// member had. The vector comes to know it.
 fn put(
     queue: &mut Queue,
     seen: &mut Vector,
     alloc: Global,
     dot: Dot,
-    member: u8,
+    member: &[u8],
     act: Act,
 ) -> Option<Option<Entry>>
     requires counter { (1 ≤ dot.n) × (dot.n ≤ LAST) }
@@ -76,7 +96,7 @@ fn put(
 {
     let Dot { site, n } = dot;
     let effect = Effect { dot, act, seen };
-    let before = queue.take(alloc, &[member], &effect).ok()?;
+    let before = queue.take(alloc, member, &effect).ok()?;
     seen.set(site, n);
     Some(before)
 }

@@ -1,11 +1,10 @@
 use Rattle.std.specs.FinMap.{get}
 use Rattle.std.specs.Prelude.{true, ◌≡◌}
 use Rattle.zq_queue.specs.Built.{IsBuilt}
-use Rattle.zq_queue.specs.Queued.{entries_of}
 use Rattle.zq_queue.proofs.copies.add_copies.Given as goal
 
 abbrev pub invariant-loop-member : goal.invariant-loop-member
 invariant-loop-member l = record {
   rule : l.copied.rule ≡ l.fn.copied.rule;
-  built : IsBuilt l.members.held (λ _. true) (get (entries_of l.members.held)) l.member-iterator l.copied.entries;
+  built : IsBuilt l.members.entries (λ _. true) (get l.members.entries) l.member-iterator l.copied.entries;
 }

@@ -13,6 +13,6 @@ returns c = λ its.
     let held = c.args.members.now.held in
     let m = c.args.member.now in
     let got : get held m ≡ Some (c.at-before.result.0, c.at-before.result.1.now) = c.at-before.ensures m c.requires.place in
-    let fits : FitsSigned w128 c.at-before.result.0 = c.in_range.ensures m _ got in
+    let fits : FitsSigned w128 c.at-before.result.0 = c.requires.in_range m _ got in
     let moved = rw (to_z-of_z w128 c.at-before.result.0 fits, to_z-of_z w128 c.args.score c.ranges.score) at c.with_moved.ensures in
     moved (scores_of held) (its_score held m _ got) (subst (IsIndexOf (scores_of held)) c.in_ok-index.was its)

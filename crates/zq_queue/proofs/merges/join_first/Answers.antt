@@ -6,18 +6,18 @@ use Rattle.zq_queue.proofs.merges.join_first.Goals as goal
 pub loop-member-init : goal.loop-member-init
 loop-member-init c = record {
   rule = refl;
-  built = first_begins c.args.members.now.held c.args.mine.now c.args.theirs.now c.args.other.now.entries _ c.iter-member-items.ensures.lists c.args.merged.now.entries c.requires.empty _
+  built = first_begins c.args.members.now.entries c.args.mine.now c.args.theirs.now c.args.other.now.entries _ c.iter-member-items.ensures c.args.merged.now.entries c.requires.empty _
       c.into_iter-member-iterator.ensures.into_iter_gives;
 }
 
 pub add-requires : goal.add-requires
 add-requires c =
-    let held = c.args.members.now.held in
+    let held = c.args.members.now.entries in
     not_yet held each (of_first held c.args.mine.now c.args.theirs.now c.args.other.now.entries) _ _ _ c.in-Some.ensures.steps c.loop-member.merged.entries c.loop-member.invariant.built refl
 
 pub loop-member-preserved : goal.loop-member-preserved
 loop-member-preserved c =
-    let held = c.args.members.now.held in
+    let held = c.args.members.now.entries in
     let f = of_first held c.args.mine.now c.args.theirs.now c.args.other.now.entries in
     let there = row_there held each f _ _ _ c.in-Some.ensures.steps c.loop-member.merged.entries c.loop-member.invariant.built in
     let e = c.in_ok-joined.joined in
@@ -29,6 +29,6 @@ loop-member-preserved c =
 
 pub returns-clause-joined : goal.returns-clause-joined
 returns-clause-joined c =
-    let held = c.args.members.now.held in
+    let held = c.args.members.now.entries in
     let f = of_first held c.args.mine.now c.args.theirs.now c.args.other.now.entries in
     all_built held each f _ c.loop-member.merged.entries c.in-None.ensures.steps.0 c.loop-member.invariant.built

@@ -16,5 +16,5 @@ returns-in-Some c =
     IfOk-weaker c.section.result (λ slice. map lent_pair slice.items ≡ take (to - from) (drop from c.deref.result.now))
     (λ slice. (pairs : List Scored) → ListsInOrder (scores_of held) pairs → map lent_pair slice.items ≡ take (to - from) (drop from pairs))
     (λ slice are pairs order.
-    are ∙ ap (λ xs. take (to - from) (drop from xs)) (c.deref.ensures ∙ index_lists (scores_of c.self.inside.members.held) c.self.inside.index c.in-Some.index c.in-Some.is c.self.invariant pairs
+    are ∙ ap (λ xs. take (to - from) (drop from xs)) (c.deref.ensures ∙ index_lists (scores_of c.self.inside.members.held) c.self.inside.index c.in-Some.index c.in-Some.is c.self.invariant.0 pairs
     (subst (λ m. ListsInOrder (scores_of m.held) pairs) (sym c.self.view_is) order))) c.section.ensures

@@ -1,14 +1,12 @@
 use Rattle.std.proofs.Common.{ap, sym, ◌∙◌}
 use Rattle.std.specs.FinMap.{empty_of_len, len, len-empty}
 use Rattle.zq_model.specs.Image.{Entry}
-use Rattle.zq_queue.proofs.Helds.{len-entries_of}
 use Rattle.zq_queue.specs.Entries.{bytes_cmp}
 use Rattle.zq_queue.proofs.queue.Queue.is_empty.Goals as goal
 
 pub returns : goal.returns
 returns c =
-    let len_is = len-entries_of c.self.inside.members.held in
     let seen = ap (λ q. q.entries) c.self.view_is in (
-      λ yes. sym seen ∙ empty_of_len _ (len_is ∙ c.is_empty.ensures.0 yes),
-      λ none. c.is_empty.ensures.1 (sym len_is ∙ ap len (seen ∙ none) ∙ len-empty bytes_cmp Entry),
+      λ yes. sym seen ∙ empty_of_len _ (c.is_empty.ensures.0 yes),
+      λ none. c.is_empty.ensures.1 (ap len (seen ∙ none) ∙ len-empty bytes_cmp Entry),
     )

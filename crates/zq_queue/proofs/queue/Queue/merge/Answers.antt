@@ -7,5 +7,6 @@ pub returns-clause-joined : goal.returns-clause-joined
 returns-clause-joined c =
     let u = c.args.mine.now in
     let v = c.args.theirs.now in
-    is_joined u v c.args.self.now.entries c.args.other.now.entries c.join_second.new.merged.entries (λ q.
+    ap (λ q. q.entries) c.settle.ensures
+    ∙ is_joined u v c.args.self.now.entries c.args.other.now.entries c.join_second.new.merged.entries (λ q.
     c.in_ok-join_second.ensures.joined q ∙ ap (λ w. entry_joined u v c.args.self.now.entries w.entries q) c.other.view_is)

@@ -1,7 +1,6 @@
 use Rattle.std.proofs.Common.{ap, sym, ◌∙◌, ◌≡◌}
 use Rattle.std.specs.Prelude.{length, map, reverse, ◌-◌}
-use Rattle.zq_dots.specs.Rule.{rule_of}
-use Rattle.zq_queue.proofs.Listeds.{length-listed}
+use Rattle.zq_queue.proofs.Listeds.{length-listed_entries}
 use Rattle.zq_queue.proofs.Parts.{map_reversed, turned_part}
 use Rattle.zq_queue.specs.Lent.{lent_pair}
 use Rattle.zq_queue.specs.Listed.{listed, part}
@@ -9,11 +8,11 @@ use Rattle.zq_queue.proofs.queue.Queue.slice_turned.Goals as goal
 
 pub returns : goal.returns
 returns c =
-    let held = c.self.inside.members.held in
+    let its = c.self.inside.members in
     let queue = listed c.args.self.now.rule c.args.self.now.entries in
     let pairs = c.in_ok-pairs.pairs.items in
     let long : c.len-len.result ≡ length queue
-    = c.len-len.ensures.number ∙ sym (length-listed (rule_of c.self.inside.rule) held c.self.invariant) ∙ ap (λ q. length (listed q.rule q.entries)) c.self.view_is in
+    = c.len-len.ensures.number ∙ sym (length-listed_entries its.rule its.entries c.len-len.ensures.kept) ∙ ap (λ q. length (listed q.rule q.entries)) c.self.view_is in
     let low = c.saturating_sub.ensures ∙ ap (λ n. n - c.args.to) long in
     let high = c.saturating_sub-2.ensures ∙ ap (λ n. n - c.args.from) long in
     ap (map lent_pair) c.reverse.ensures.items ∙ map_reversed lent_pair pairs

@@ -1,48 +1,44 @@
 use Rattle.std.proofs.Common.{ap, subst, sym, ◌∙◌, ◌≡◌}
 use Rattle.std.specs.FinMap.{get}
-use Rattle.std.specs.Prelude.{Some, option_map, unwrap_or}
+use Rattle.std.specs.Prelude.{unwrap_or}
 use Rattle.zq_model.specs.Image.{no_additions}
-use Rattle.zq_queue.proofs.Helds.{absent_got, get-entries_of}
+use Rattle.zq_posheap.proofs.Entries.{none_of}
 use Rattle.zq_queue.specs.Effects.{HasRoom, affected}
 use Rattle.zq_queue.specs.Entries.{entry_in, set_entry}
-use Rattle.zq_queue.specs.Queued.{entries_of}
 use Rattle.zq_queue.proofs.queue.Queue.take.Goals as goal
 
 pub changed-requires-clause-room : goal.changed-requires-clause-room
 changed-requires-clause-room c =
     let m = c.args.member.now in
-    let held = c.self.inside.members.held in
-    let got : get held m ≡ Some (c.at.result.0, c.at.result.1.now) = c.at.ensures m c.in-Some.ensures.place in
-    let its : entry_in c.args.self.now.entries m ≡ c.at.result.1.now
-    = ap (λ q. entry_in q.entries m) (sym c.self.view_is) ∙ ap (λ r. unwrap_or r no_additions) (get-entries_of held m ∙ ap (λ r. option_map (λ p. p.1) r) got) in
+    let got = c.at.ensures m c.in-Some.ensures.place in
+    let its : entry_in c.args.self.now.entries m ≡ c.at.result.now
+    = ap (λ q. entry_in q.entries m) (sym c.self.view_is) ∙ ap (λ r. unwrap_or r no_additions) got in
     subst (HasRoom c.args.effect.now) its c.requires.room
 
 pub changed-requires-in-None-clause-room : goal.changed-requires-in-None-clause-room
 changed-requires-in-None-clause-room c =
     let m = c.args.member.now in
-    let none = absent_got c.self.inside.members.held m c.in-None.ensures.there in
+    let none = none_of (get c.self.inside.members.entries m) c.in-None.ensures.there in
     let its : entry_in c.args.self.now.entries m ≡ c.new.result
     = ap (λ q. entry_in q.entries m) (sym c.self.view_is) ∙ ap (λ r. unwrap_or r no_additions) none ∙ sym c.new.ensures in
     subst (HasRoom c.args.effect.now) its c.requires.room
 
 pub add-requires : goal.add-requires
-add-requires c = ap (λ q. get q.entries c.args.member.now) (sym c.self.view_is) ∙ absent_got c.self.inside.members.held c.args.member.now c.in-None.ensures.there
+add-requires c = ap (λ q. get q.entries c.args.member.now) (sym c.self.view_is) ∙ none_of (get c.self.inside.members.entries c.args.member.now) c.in-None.ensures.there
 
 pub returns-in_ok-entry-in-Some-clause-taken : goal.returns-in_ok-entry-in-Some-clause-taken
 returns-in_ok-entry-in-Some-clause-taken c =
     let m = c.args.member.now in
-    let held = c.self.inside.members.held in
-    let at = c.in-Some.ensures.place in
-    let got : get held m ≡ Some (c.at.result.0, c.at.result.1.now) = c.at.ensures m at in
-    let its : entry_in (entries_of held) m ≡ c.at.result.1.now = ap (λ r. unwrap_or r no_additions) (get-entries_of held m ∙ ap (λ r. option_map (λ p. p.1) r) got) in
+    let held = c.self.inside.members.entries in
+    let its : entry_in held m ≡ c.at.result.now = ap (λ r. unwrap_or r no_additions) (c.at.ensures m c.in-Some.ensures.place) in
     c.exchange.ensures.set
-    ∙ ap (set_entry (entries_of held) m) (c.in_ok-entry-in-Some.ensures ∙ ap (affected c.args.effect.now) (sym its))
+    ∙ ap (set_entry held m) (c.in_ok-entry-in-Some.ensures ∙ ap (affected c.args.effect.now) (sym its))
     ∙ ap (λ q. set_entry q.entries m (affected c.args.effect.now (entry_in q.entries m))) c.self.view_is
 
 pub returns-in_ok-add-in-None-clause-taken : goal.returns-in_ok-add-in-None-clause-taken
 returns-in_ok-add-in-None-clause-taken c =
     let m = c.args.member.now in
-    let none = absent_got c.self.inside.members.held m c.in-None.ensures.there in
+    let none = none_of (get c.self.inside.members.entries m) c.in-None.ensures.there in
     let its : entry_in c.args.self.now.entries m ≡ c.new.result
     = ap (λ q. entry_in q.entries m) (sym c.self.view_is) ∙ ap (λ r. unwrap_or r no_additions) none ∙ sym c.new.ensures in
     c.in_ok-add-in-None.ensures.added
@@ -50,4 +46,4 @@ returns-in_ok-add-in-None-clause-taken c =
 
 pub returns-in_ok-add-in-None-clause-before : goal.returns-in_ok-add-in-None-clause-before
 returns-in_ok-add-in-None-clause-before c =
-    sym (ap (λ q. get q.entries c.args.member.now) (sym c.self.view_is) ∙ absent_got c.self.inside.members.held c.args.member.now c.in-None.ensures.there)
+    sym (ap (λ q. get q.entries c.args.member.now) (sym c.self.view_is) ∙ none_of (get c.self.inside.members.entries c.args.member.now) c.in-None.ensures.there)
