@@ -8,10 +8,7 @@ ghost use Rattle.zq_model.specs.Books.{Book as Books};
 ghost use Rattle.zq_journal.specs.Books.{LAST_STAMP};
 
 use crate::site_books::SiteBooks;
-use zq_journal::Book;
-
-/// The last stamp.
-const LAST: u64 = 4_611_686_018_427_387_904;
+use zq_journal::{Book, LAST_COUNT};
 
 impl SiteBooks {
     /// The stamp of the next call: the one after the greatest of the books', and `None` where that
@@ -22,7 +19,7 @@ impl SiteBooks {
         ensures worn { result ≡ None → HasStamp LAST_STAMP self.now }
     {
         let stamp = self.stamp();
-        if stamp < LAST { Some(stamp + 1) } else { None }
+        if stamp < LAST_COUNT { Some(stamp + 1) } else { None }
     }
 
     /// Begins a call of this stamp, which is no less than the books': cuts each tail to its limits,

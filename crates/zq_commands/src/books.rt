@@ -5,6 +5,7 @@ ghost use Rattle.std.specs.Prelude.{IfOk, IsErrOf, List, OnErr, OnOk, Some, coun
 ghost use Rattle.zq_commands.specs.Lending.{HasBook, IsDated, IsLending, Lending, lent_after};
 ghost use Rattle.zq_commands.specs.FirstPairs.{lent_pair};
 ghost use Rattle.zq_dots.specs.Act.{act_of};
+ghost use Rattle.zq_journal.specs.Books.{state_of};
 ghost use Rattle.zq_model.specs.Books.{Book};
 ghost use Rattle.zq_model.specs.Image.{entry_at};
 ghost use Rattle.zq_model.specs.Operation.{LONGEST};
@@ -15,9 +16,11 @@ ghost use Rattle.zq_model.specs.Readings.{is_before};
 ghost use Rattle.zq_semantics.specs.Ranges.{is_within, turned_if};
 ghost use Rattle.zq_semantics.specs.Run.{IsWhy, Number};
 
+use crate::one_book::count_between;
 use crate::stopped::Stopped;
 use std::alloc::{AllocError, Global};
 use zq_dots::{Act, SiteNo};
+use zq_shard::Shard;
 use zq_words::Bound;
 
 /// The books of some heaps of a site, each at its place.
@@ -42,6 +45,13 @@ pub trait Books {
         ensures home { (book : Book) → slice_get (lent self.now).books result ≡ Some book →
             is_home_of key.now member.now book ≡ true };
 
+    /// The heap of the book at a place.
+    fn shard(&self, place: usize) -> &Shard
+        requires lent { IsLending (lent self.now) }
+        requires inside { place < length (lent self.now).books }
+        ensures { (book : Book) → slice_get (lent self.now).books place ≡ Some book →
+            result.now ≡ record (state_of book) { rule = (lent self.now).rule } };
+
     /// The score of a member of a key in the book at a place, and `None` where it does not stand
     /// there.
     fn score(&self, place: usize, key: &[u8], member: &[u8]) -> Option<i128>
@@ -49,14 +59,20 @@ pub trait Books {
         requires inside { place < length (lent self.now).books }
         ensures { (book : Book) → slice_get (lent self.now).books place ≡ Some book →
             result ≡ score_of (lent self.now).rule
-            (entry_at book.state.members (key.now, member.now)) };
+            (entry_at book.state.members (key.now, member.now)) }
+    {
+        self.shard(place).score(key, member)
+    }
 
     /// The number of members of a key in the book at a place.
     fn count(&self, place: usize, key: &[u8]) -> usize
         requires lent { IsLending (lent self.now) }
         requires inside { place < length (lent self.now).books }
         ensures { (book : Book) → slice_get (lent self.now).books place ≡ Some book →
-            result ≡ length (queues_of (lent self.now).rule (book ∷ []) key.now) };
+            result ≡ length (queues_of (lent self.now).rule (book ∷ []) key.now) }
+    {
+        self.shard(place).count(key)
+    }
 
     /// How many pairs of a key in the book at a place go before this one, which need not stand
     /// there.
@@ -65,7 +81,10 @@ pub trait Books {
         requires inside { place < length (lent self.now).books }
         ensures { (book : Book) → slice_get (lent self.now).books place ≡ Some book →
             result ≡ count_by (λ pair. is_before pair (score.now, member.now))
-            (queues_of (lent self.now).rule (book ∷ []) key.now) };
+            (queues_of (lent self.now).rule (book ∷ []) key.now) }
+    {
+        self.shard(place).count_before(key, *score, member)
+    }
 
     /// How many go after it.
     fn count_after(&self, place: usize, key: &[u8], score: &i128, member: &[u8]) -> usize
@@ -73,7 +92,10 @@ pub trait Books {
         requires inside { place < length (lent self.now).books }
         ensures { (book : Book) → slice_get (lent self.now).books place ≡ Some book →
             result ≡ count_by (λ pair. is_before (score.now, member.now) pair)
-            (queues_of (lent self.now).rule (book ∷ []) key.now) };
+            (queues_of (lent self.now).rule (book ∷ []) key.now) }
+    {
+        self.shard(place).count_after(key, *score, member)
+    }
 
     /// How many pairs of a key in the book at a place have a score within these bounds.
     fn count_within(&self, place: usize, key: &[u8], min: &Bound, max: &Bound) -> usize
@@ -81,7 +103,10 @@ pub trait Books {
         requires inside { place < length (lent self.now).books }
         ensures { (book : Book) → slice_get (lent self.now).books place ≡ Some book →
             result ≡ count_by (is_within min.now max.now)
-            (queues_of (lent self.now).rule (book ∷ []) key.now) };
+            (queues_of (lent self.now).rule (book ∷ []) key.now) }
+    {
+        count_between(self.shard(place), key, min, max)
+    }
 
     /// The first pair of a key in the book at a place.
     fn top(&self, place: usize, key: &[u8]) -> Option<(i128, &[u8])>
@@ -89,7 +114,10 @@ pub trait Books {
         requires inside { place < length (lent self.now).books }
         ensures { (book : Book) → slice_get (lent self.now).books place ≡ Some book →
             option_map lent_pair result
-            ≡ slice_get (queues_of (lent self.now).rule (book ∷ []) key.now) 0 };
+            ≡ slice_get (queues_of (lent self.now).rule (book ∷ []) key.now) 0 }
+    {
+        self.shard(place).top(key)
+    }
 
     /// The pairs of a key in the book at a place, in order or turned round, from one place of
     /// theirs on and before another; places count from 0.
@@ -108,7 +136,15 @@ pub trait Books {
             IfOk result (λ pairs.
             map lent_pair pairs.items
             ≡ slice_range (turned_if is_turned
-            (queues_of (lent self.now).rule (book ∷ []) key.now)) from to) };
+            (queues_of (lent self.now).rule (book ∷ []) key.now)) from to) }
+    {
+        let shard = self.shard(place);
+        if is_turned {
+            shard.slice_turned(alloc, key, from, to)
+        } else {
+            shard.slice(alloc, key, from, to)
+        }
+    }
 
     /// Makes an ordered index of a key's members in the book at a place, where it has none and
     /// readings in order would look at many members. The books stay as they are. Where memory is

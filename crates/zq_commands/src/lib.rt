@@ -35,7 +35,7 @@ mod zrem;
 
 pub use books::Books;
 pub use indexing::MOST_SCANNED;
-pub use one_book::{count_between, make_in};
+pub use one_book::make_in;
 pub use ran::Ran;
 pub use replies::{cut_reply, message_reply};
 pub use running::{read_told, run, run_told};

@@ -31,7 +31,7 @@ fn count_to(shard: &Shard, key: &[u8], is_out: bool, limit: Limit) -> usize
 }
 
 /// How many scores of a key are within these bounds.
-pub fn count_between(shard: &Shard, key: &[u8], min: &Bound, max: &Bound) -> usize
+pub(crate) fn count_between(shard: &Shard, key: &[u8], min: &Bound, max: &Bound) -> usize
     ensures { result ≡ count_by (is_within min.now max.now) (queue_at shard.now key.now) }
 {
     let below = count_to(shard, key, max.is_out, max.limit);

@@ -9,13 +9,12 @@ ghost use Rattle.zq_model.specs.Sets.{IsIn};
 
 use crate::books::Books;
 use crate::indexing::MOST_SCANNED;
-use crate::one_book::{count_between, make_in};
+use crate::one_book::make_in;
 use crate::stopped::Stopped;
-use std::alloc::{AllocError, Global};
+use std::alloc::Global;
 use zq_dots::{Act, SiteNo, heap_of};
 use zq_journal::Book;
 use zq_shard::Shard;
-use zq_words::Bound;
 
 impl Books for Vec<Book> {
     ghost use Rattle.zq_commands.specs.RecordedBooks.{recorded_books_itself, recorded_books_through};
@@ -36,45 +35,9 @@ impl Books for Vec<Book> {
         }
     }
 
-    fn score(&self, place: usize, key: &[u8], member: &[u8]) -> Option<i128> {
-        heap_at(self, place).score(key, member)
-    }
-
-    fn count(&self, place: usize, key: &[u8]) -> usize {
-        heap_at(self, place).count(key)
-    }
-
-    fn count_before(&self, place: usize, key: &[u8], score: &i128, member: &[u8]) -> usize {
-        heap_at(self, place).count_before(key, *score, member)
-    }
-
-    fn count_after(&self, place: usize, key: &[u8], score: &i128, member: &[u8]) -> usize {
-        heap_at(self, place).count_after(key, *score, member)
-    }
-
-    fn count_within(&self, place: usize, key: &[u8], min: &Bound, max: &Bound) -> usize {
-        count_between(heap_at(self, place), key, min, max)
-    }
-
-    fn top(&self, place: usize, key: &[u8]) -> Option<(i128, &[u8])> {
-        heap_at(self, place).top(key)
-    }
-
-    fn slice(
-        &self,
-        alloc: Global,
-        place: usize,
-        key: &[u8],
-        is_turned: bool,
-        from: usize,
-        to: usize,
-    ) -> Result<Vec<(i128, &[u8])>, AllocError> {
-        let shard = heap_at(self, place);
-        if is_turned {
-            shard.slice_turned(alloc, key, from, to)
-        } else {
-            shard.slice(alloc, key, from, to)
-        }
+    #[inline(always)]
+    fn shard(&self, place: usize) -> &Shard {
+        heap_at(self, place)
     }
 
     fn index(&mut self, alloc: Global, place: usize, key: &[u8]) {

@@ -18,8 +18,8 @@ use zq_dots::{Op, Vector};
 use zq_model::{keeping, reaching, telling};
 use zq_shard::Shard;
 
-/// The last stamp, and the last count.
-pub(crate) const LAST: u64 = 4_611_686_018_427_387_904;
+/// The last stamp, and the last count of a book.
+pub const LAST_COUNT: u64 = 4_611_686_018_427_387_904;
 
 /// The journal of one heap: its state, and the records of what was new since an older state, the
 /// base, oldest first. Each record has the stamp of the call that made it, and the book counts all

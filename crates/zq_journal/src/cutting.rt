@@ -6,7 +6,7 @@ ghost use Rattle.zq_journal.specs.Books.{LAST_STAMP, state_of};
 ghost use Rattle.zq_journal.specs.Records.{vector_over};
 ghost use Rattle.zq_shard.specs.Shard.{IsSameHeap};
 
-use crate::book::{Book, LAST};
+use crate::book::{Book, LAST_COUNT};
 use crate::faults::{Advanced, MergeFault};
 use crate::records::Record;
 use std::alloc::Global;
@@ -49,7 +49,7 @@ impl Book {
         if other.rule() != self.shard.rule() {
             return Err(MergeFault::WrongRule);
         }
-        if self.count == LAST {
+        if self.count == LAST_COUNT {
             return Err(MergeFault::Worn);
         }
         // Heap and rule are the same, so that memory alone can be refused.

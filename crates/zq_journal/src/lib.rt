@@ -15,7 +15,7 @@ mod records;
 mod since;
 mod trimming;
 
-pub use book::Book;
+pub use book::{Book, LAST_COUNT};
 pub use faults::{Advanced, MergeFault, TakeFault};
 pub use limits::TailLimits;
 pub use since::Since;

@@ -14,7 +14,7 @@ ghost use Rattle.zq_model.specs.Sets as sets;
 ghost use Rattle.zq_shard.specs.Shard.{IsOfHeap, next_operation};
 ghost use Rattle.zq_shard.specs.Taken.{answer_of};
 
-use crate::book::{Book, LAST};
+use crate::book::{Book, LAST_COUNT};
 use crate::faults::TakeFault;
 use crate::names::Names;
 use crate::own::Own;
@@ -150,7 +150,7 @@ impl Book {
         if taken != Taken::New {
             return Ok(taken);
         }
-        if self.count == LAST {
+        if self.count == LAST_COUNT {
             return Err(TakeFault::Worn);
         }
         let copy = boxed(alloc, op)?;
@@ -174,7 +174,7 @@ impl Book {
             IsRanged (next_operation (state_of self.now) site key member act)) }
         ensures room { OnOk result (self.now.count < LAST_STAMP) }
     {
-        if self.count == LAST {
+        if self.count == LAST_COUNT {
             return Err(MakeFault::Worn);
         }
         self.shard.next_here(site)

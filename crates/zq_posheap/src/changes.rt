@@ -15,6 +15,9 @@ use indexmap::IndexMap;
 use std::alloc::AllocError;
 use std::mem::replace;
 
+/// Room for so many members, or for fewer, stays when members go.
+const SMALL: usize = 64;
+
 /// Notes another score and value for the member at an index, and answers the value that it had.
 fn exchange<V>(
     members: &mut IndexMap<Name, ScoredValue<V>, Seeded>,
@@ -79,6 +82,21 @@ impl<V: Drop> Heap<V> {
         self.slots.reserve(additional)?;
         self.positions.reserve(additional)?;
         self.members.reserve(additional)
+    }
+
+    /// Gives half of the room back where three quarters of it are free and it is not small. A list
+    /// for which the smaller memory is refused stays as large.
+    pub(crate) fn shrink(&mut self)
+        ensures slots { self.new.slots.items ≡ self.old.slots.items }
+        ensures positions { self.new.positions.items ≡ self.old.positions.items }
+        ensures members { self.new.members.entries ≡ self.old.members.entries }
+    {
+        let room = self.slots.capacity();
+        if room > SMALL && self.slots.len() <= room / 4 {
+            self.slots.shrink_to(room / 2);
+            self.positions.shrink_to(room / 2);
+            self.members.shrink_to(room / 2);
+        }
     }
 
     /// Adds a member that is not there, in room that is there.

@@ -173,6 +173,14 @@ impl<V: Drop> PosHeap<V> {
         self.heap.reserve(additional)
     }
 
+    /// Gives memory back where most of the room is free. It is never refused.
+    pub fn shrink(&mut self)
+        ensures held { self.new.held ≡ self.old.held }
+        ensures places { self.new.places ≡ self.old.places }
+    {
+        self.heap.shrink();
+    }
+
     /// Adds a member that is not there, in room that was made. It is never refused.
     pub fn insert_reserved(&mut self, member: Vec<u8>, score: i128, value: V)
         requires absent { get self.old.held member.items ≡ None }

@@ -109,7 +109,7 @@ module _ (rule : Rule) (form : Form) (list : Vec Member) (xs : List Member) (is 
   name_is : (i : ℕ) (member : Member) (name : List ℕ) → i < length xs → member ≡ get_or xs i member → slice_get (names_in xs) i ≡ Some name → member.name ≡ name
   name_is i member name within at named = same_Some member.name name (sym (named_at xs i member within at) ∙ named)
 
-  pub few_addition : (name : List ℕ) (entry : Entry) (new : List Member) → get (entries_in form) name ≡ None → is_bare entry ≡ false → length xs < 16 →
+  pub few_addition : (name : List ℕ) (entry : Entry) (new : List Member) → get (entries_in form) name ≡ None → is_bare entry ≡ false → length xs < 32 →
       new ≡ xs ++ record { name = name; entry = entry } ∷ [] → AreFew new × (entries_by new ≡ insert (entries_in form) name entry)
   few_addition name entry new none some room is_new =
       let r = few_pushed xs few_all (record { name = name; entry = entry }) (ap (λ m. get m name) few_map ∙ none) some room new is_new in
@@ -128,12 +128,12 @@ module _ (rule : Rule) (form : Form) (list : Vec Member) (xs : List Member) (is 
       (r.0, r.1 ∙ (λ k. insert (few_map k) (name_is i member name within at named k) entry))
 
   -- where a member was put in, or there was no memory
-  pub few_either : {E : Type 0} (r : Result (Unit {0}) E) (name : List ℕ) (entry : Entry) (new : List Member) → get (entries_in form) name ≡ None → is_bare entry ≡ false → length xs < 16 →
+  pub few_either : {E : Type 0} (r : Result (Unit {0}) E) (name : List ℕ) (entry : Entry) (new : List Member) → get (entries_in form) name ≡ None → is_bare entry ≡ false → length xs < 32 →
       OnOk r (new ≡ xs ++ record { name = name; entry = entry } ∷ []) → OnErr r (new ≡ xs) → AreFew new
   few_either (Ok u) name entry new none some room pushed refused = (few_addition name entry new none some room pushed).0
   few_either (Err e) name entry new none some room pushed refused = subst AreFew (sym refused) few_all
 
-  pub few_added : {E : Type 0} (r : Result (Unit {0}) E) (name : List ℕ) (entry : Entry) (new : List Member) → get (entries_in form) name ≡ None → is_bare entry ≡ false → length xs < 16 →
+  pub few_added : {E : Type 0} (r : Result (Unit {0}) E) (name : List ℕ) (entry : Entry) (new : List Member) → get (entries_in form) name ≡ None → is_bare entry ≡ false → length xs < 32 →
       OnOk r (new ≡ xs ++ record { name = name; entry = entry } ∷ []) → (all : Entries) → insert (entries_in form) name entry ≡ all → OnOk r (entries_by new ≡ all)
   few_added (Ok u) name entry new none some room pushed all is_all = (few_addition name entry new none some room pushed).1 ∙ is_all
   few_added (Err e) name entry new none some room pushed all is_all = tt

@@ -6,17 +6,12 @@ use Rattle.std.proofs.lemmas.Option.{get_or_from_slice_get, none-some, same_Some
 use Rattle.std.specs.FinMap.{FinMap, empty, get, get-empty, insert, len, remove}
 use Rattle.std.specs.List.{swap_remove}
 use Rattle.std.specs.List.Sorted.{IsPermutation}
-use Rattle.std.specs.Prelude.{Contains, List, None, Option, Some, [], false, length, map, option_map, slice_get, slice_set, suc, zero, ℕ, ◌++◌, ◌<◌, ◌∷◌, ◌≡◌, ◌≤◌}
-use Rattle.zq_model.proofs.Listing.{in_map_from}
+use Rattle.std.specs.Prelude.{List, None, Some, [], false, length, option_map, slice_get, slice_set, suc, zero, ℕ, ◌++◌, ◌<◌, ◌∷◌, ◌≡◌, ◌≤◌}
 use Rattle.zq_model.specs.Image.{Entry, is_bare}
-use Rattle.zq_model.specs.Rule.{Rule}
-use Rattle.zq_model.specs.Score.{score_of}
-use Rattle.zq_posheap.proofs.Lists.{there_is}
-use Rattle.zq_posheap.proofs.Listings.{length-listing, listing, map_of, shuffled}
-use Rattle.zq_posheap.specs.Listing.{IsListing, Row}
+use Rattle.zq_posheap.proofs.Listings.{length-listing, listing, shuffled}
+use Rattle.zq_posheap.specs.Listing.{IsListing}
 use Rattle.zq_queue.proofs.Helds.{by_test, get_inserted, get_removed, same_at_each}
 use Rattle.zq_queue.proofs.Indexes.{got_removed, inserted_again, listing_less, listing_more}
-use Rattle.zq_queue.proofs.Listeds.{contains_in, in_contains}
 use Rattle.zq_queue.specs.Entries.{Entries, NoneIsBare, bytes_cmp}
 use Rattle.zq_queue.specs.Few.{AreApart, AreFew, entries_by, names_in, row_of, rows_of}
 use Rattle.zq_queue.specs.declared.few.Member.{Member}
@@ -130,7 +125,7 @@ module _ (list : List Member) (its : AreFew list) where
   abbrev m : Entries
   m = entries_by list
 
-  pub few_pushed : (member : Member) → get m member.name ≡ None → is_bare member.entry ≡ false → length list < 16 → (new : List Member) → new ≡ list ++ member ∷ [] →
+  pub few_pushed : (member : Member) → get m member.name ≡ None → is_bare member.entry ≡ false → length list < 32 → (new : List Member) → new ≡ list ++ member ∷ [] →
       AreFew new × (entries_by new ≡ insert m member.name member.entry)
   few_pushed member none some room new is = subst (λ xs. AreFew xs × (entries_by xs ≡ insert m member.name member.entry)) (sym is) (
     record {

@@ -17,7 +17,7 @@ use Rattle.zq_model.proofs.Maps.{key_same, same_key}
 use Rattle.zq_model.specs.Image.{Entry}
 use Rattle.zq_model.specs.Meaning.{Scored, scored_cmp}
 use Rattle.zq_posheap.proofs.Entries.{bytes_antisymmetric, option_map-cond}
-use Rattle.zq_posheap.proofs.Firsts.{has_first, has_later}
+use Rattle.zq_posheap.proofs.Firsts.{has_later}
 use Rattle.zq_posheap.proofs.Listings.{shuffled}
 use Rattle.zq_posheap.proofs.ScoresOf.{get-scores_of}
 use Rattle.zq_posheap.specs.InOrder.{ListsInOrder}

@@ -9,13 +9,12 @@ use Rattle.std.proofs.lemmas.Bool.{and_parts}
 use Rattle.std.proofs.lemmas.Cmp.{eq_by_cmp_equiv, nat_list_cmp_total}
 use Rattle.std.proofs.lemmas.List.{length-map}
 use Rattle.std.proofs.lemmas.Map.Steps.{length-le_from_keys}
-use Rattle.std.proofs.lemmas.Option.{none-some}
 use Rattle.std.specs.FinMap.{contains_key-keys, entries, entries_sorted, get, get-entries, is_sorted, keys, len, len-entries}
 use Rattle.std.specs.FinMap.Entries.{below_all, find}
 use Rattle.std.specs.List.{AllByRecursion, IsDistinct, list_any}
 use Rattle.std.specs.Map.{lookup}
 use Rattle.std.specs.Ordering.{eq_by_cmp, is_eq, is_lt}
-use Rattle.std.specs.Prelude.{Bool, IsSome, List, None, Some, [], cond, false, is_some, length, map, not, option_map, true, ℕ, ℤ, ◌||◌, ◌∷◌, ◌≡◌, ◌≤◌}
+use Rattle.std.specs.Prelude.{Bool, IsSome, List, None, Some, [], cond, false, is_some, length, map, not, true, ℕ, ◌||◌, ◌∷◌, ◌≡◌, ◌≤◌}
 use Rattle.std.specs.declared.cmp.Ordering.{Ordering}
 use Rattle.std.specs.declared.cmp.Ordering.TheVariants.{Equal, Greater, Less}
 use Rattle.zq_model.proofs.Maps.{same_key}

@@ -1,5 +1,4 @@
 -- What a queue is seen as, by what its members are.
-use Rattle.std.proofs.Common.{ap, sym, ◌∙◌}
 use Rattle.std.specs.Prelude.{◌≡◌}
 use Rattle.zq_queue.specs.Kept.{AreSame, Kept}
 use Rattle.zq_queue.specs.Queued.{Queued}

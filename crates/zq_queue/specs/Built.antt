@@ -2,7 +2,7 @@
 
 use Rattle.std.specs.FinMap.{get}
 use Rattle.std.specs.Ordering.{eq_by_cmp}
-use Rattle.std.specs.Prelude.{Bool, List, None, Option, Some, [], cond, false, is_some, not, ℕ, ℤ, ◌&&◌, ◌||◌, ◌∷◌, ◌≡◌, ◌≢◌}
+use Rattle.std.specs.Prelude.{Bool, List, None, Option, Some, [], cond, false, is_some, not, ℕ, ◌&&◌, ◌||◌, ◌∷◌, ◌≡◌, ◌≢◌}
 use Rattle.zq_model.specs.Image.{Entry}
 use Rattle.zq_model.specs.Sets.{IsIn}
 use Rattle.zq_posheap.specs.Listing.{Row}

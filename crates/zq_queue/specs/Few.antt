@@ -1,7 +1,7 @@
 -- Few members in a list.
 
 use Rattle.std.specs.FinMap.{from_entries}
-use Rattle.std.specs.Prelude.{AllPairs, List, Option, length, map, pos, unwrap_or, ℕ, ℤ, ◌≡◌, ◌≢◌, ◌≤◌}
+use Rattle.std.specs.Prelude.{AllPairs, List, length, map, pos, unwrap_or, ℕ, ◌≢◌, ◌≤◌}
 use Rattle.zq_model.specs.Image.{Entry}
 use Rattle.zq_model.specs.Meaning.{Scored}
 use Rattle.zq_model.specs.Rule.{Rule}
@@ -39,4 +39,4 @@ AreApart list = AllPairs (λ x y. x.1 ≢ y.1) (rows_of list)
 pub record AreFew (list : List Member) : Type 0 where
   pub apart : AreApart list
   pub stand : NoneIsBare (entries_by list)
-  pub few : length list ≤ 16
+  pub few : length list ≤ 32

@@ -113,6 +113,13 @@ impl Indexed {
         self.members.reserve(additional)
     }
 
+    /// Gives memory back where most of the room for members is free.
+    pub fn shrink(&mut self)
+        ensures { self.new.held ≡ self.old.held }
+    {
+        self.members.shrink();
+    }
+
     /// Gives the member at its place another score and entry, and answers the entry that it had.
     #[inline(always)]
     pub fn replace_at(&mut self, member: &[u8], place: Place, score: i128, entry: Entry) -> Entry

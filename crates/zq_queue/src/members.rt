@@ -27,7 +27,7 @@ use zq_entry::Entry;
 use zq_posheap::Seeded;
 
 /// How many members of a key lie in a plain list.
-pub(crate) const MOST_FEW: usize = 16;
+pub(crate) const MOST_FEW: usize = 32;
 
 /// To how many members the large form has to fall to become a list again.
 const FEW_AGAIN: usize = MOST_FEW / 4;
@@ -245,6 +245,7 @@ impl Members {
             Form::Few(list) => list.swap_remove(place.few()).entry,
             Form::Many(many) => {
                 let entry = many.remove_at(member, place.many());
+                many.shrink();
                 self.settle();
                 entry
             }

@@ -4,7 +4,7 @@ use Rattle.std.proofs.Common.{List, None, Some, [], ap, false, is_some, refl, su
 use Rattle.std.proofs.lemmas.Option.{same_Some, slice_get-map}
 use Rattle.std.specs.Map.{keys_of, lookup, values_of}
 use Rattle.std.specs.Prelude.{option_map, slice_get, suc, zero}
-use Rattle.indexmap.proofs.CallerLemmas.{updates-with_value_at}
+use Rattle.indexmap.proofs.CallerLemmas.{keys-with_value_at, updates-with_value_at}
 use Rattle.indexmap.specs.IndexMap.{IndexMap, IsUnique, Updates, set_value_at, with_value_at}
 use Rattle.zq_posheap.proofs.Entries.{has_text, none_of, same_key_laws}
 use Rattle.zq_posheap.specs.Order.{same_key}
@@ -20,7 +20,8 @@ rewritten_at (e ∷ pairs) zero k x at = ap (λ (y : List ℕ × _). (e.0, y.1) 
 rewritten_at (e ∷ pairs) (suc i) k x at = ap (λ rest. e ∷ rest) (rewritten_at pairs i k x at)
 
 module _ {X S : Type 0} (m : IndexMap (List ℕ) X S) (i : ℕ) (key k : List ℕ) (x : X) (there : slice_get (keys_of m.entries) i ≡ Some key) (at : slice_get m.entries i ≡ Some (k, x)) where
-  key_is : k ≡ key
+  -- the key there is the one that was found
+  pub key_is : k ≡ key
   key_is = same_Some k key (sym (slice_get-map (λ e. e.0) m.entries i ∙ ap (option_map (λ e. e.0)) at) ∙ there)
 
   -- what was found for the key
@@ -30,6 +31,10 @@ module _ {X S : Type 0} (m : IndexMap (List ℕ) X S) (i : ℕ) (key k : List �
   -- a value written there is the key's, and other keys keep theirs
   pub updates_at : IsUnique same_key m → (w : X) → Updates same_key m (with_value_at m i w) key (Some w)
   updates_at unique w = subst (λ q. Updates same_key m (with_value_at m i w) q (Some w)) key_is (updates-with_value_at m i w same_key_laws unique k x at)
+
+-- after a write at an index the key that was found there still is there
+pub there_after : {X S : Type 0} (m : IndexMap (List ℕ) X S) (i : ℕ) (key : List ℕ) (w : X) → slice_get (keys_of m.entries) i ≡ Some key → slice_get (keys_of (with_value_at m i w).entries) i ≡ Some key
+there_after m i key w there = ap (λ ks. slice_get ks i) (keys-with_value_at m i w) ∙ there
 
 -- nothing was found for a key
 pub none_is : {X : Type 0} (pairs : List (List ℕ × X)) (key : List ℕ) → false ≡ is_some (lookup (has_text key) pairs) → None ≡ lookup (has_text key) pairs

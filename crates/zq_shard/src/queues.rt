@@ -1,7 +1,8 @@
 //! The keys of a heap, each with its members.
 
-ghost use Rattle.std.specs.Prelude.{◌≡◌, ◌≢◌, ◌≤◌, ◌↔◌, ◌∷◌, [], IfNone, IfOk, IfSome, IsTrue, List, None, Some, ℕ, OnErr, OnOk, length, option_map};
+ghost use Rattle.std.specs.Prelude.{◌≡◌, ◌≢◌, ◌≤◌, ◌↔◌, ◌∷◌, [], IfNone, IfOk, IfSome, IsTrue, List, None, Some, ℕ, OnErr, OnOk, length, option_map, slice_get};
 ghost use Rattle.std.specs.FinMap as map;
+ghost use Rattle.indexmap.specs.IndexMap.{keys};
 ghost use Rattle.zq_dots.specs.Rule.{rule_of};
 ghost use Rattle.zq_model.specs.Image.{entry_at, is_bare, put_entry};
 ghost use Rattle.zq_model.specs.Queue.{queue_of};
@@ -19,7 +20,7 @@ use std::alloc::{AllocError, Global};
 use std::marker::Model;
 use zq_dots::Rule;
 use zq_entry::Entry;
-use zq_posheap::{Guess, Name, NameRef, Seeded};
+use zq_posheap::{Guess, Name, Seeded};
 use zq_queue::{Effect, Queue};
 
 /// A table with room for so many keys, or for fewer, keeps it when keys go.
@@ -238,7 +239,7 @@ fn take(
         let queue = boxed.get_mut();
         let before = queue.take(alloc, member, effect)?;
         if queue.is_empty() {
-            remove(queues, key);
+            remove_at(queues, index);
         }
         return Ok(before);
     }
@@ -270,7 +271,7 @@ fn put_back(
         let queue = boxed.get_mut();
         queue.put_back(member, before)?;
         if queue.is_empty() {
-            remove(queues, key);
+            remove_at(queues, index);
         }
         return Ok(());
     }
@@ -299,12 +300,17 @@ pub(crate) fn add(
     Ok(())
 }
 
-/// Takes a key out with its queue. Where three quarters of the table's room are free then, it gives
-/// half of the room back; where memory for the smaller table is refused, it stays as large.
-fn remove(queues: &mut IndexMap<Name, BoxedQueue, Seeded>, key: &[u8])
-    ensures { HasAt key.now None queues.old.entries queues.new.entries }
+/// Takes the key at an index out with its queue. Where three quarters of the table's room are free
+/// then, it gives half of the room back; where memory for the smaller table is refused, it stays as
+/// large.
+fn remove_at(queues: &mut IndexMap<Name, BoxedQueue, Seeded>, index: usize)
+    ensures { (key : List ℕ) → slice_get (keys queues.old) index ≡ Some key →
+        HasAt key None queues.old.entries queues.new.entries }
 {
-    drop(queues.swap_remove(NameRef(key)));
+    let Some(pair) = queues.swap_remove_index(index) else {
+        return;
+    };
+    drop(pair);
     let room = queues.capacity();
     if room > SMALL && queues.len() <= room / 4 {
         queues.shrink_to(room / 2);

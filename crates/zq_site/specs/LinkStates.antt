@@ -66,5 +66,5 @@ halted state = record { outbox = cleared state.outbox; link = None; last = state
 abbrev pub put_on : {S : Type 0} → Topic → List ℕ → LinkState S → LinkState S
 put_on topic frame state =
     if is_some state.link && nat_lt (heap_of topic) state.outbox.heaps
-    then record { outbox = record { heaps = state.outbox.heaps; parcels = put_in topic frame state.outbox.parcels }; link = state.link; last = state.last; over = state.over }
+    then record state { outbox = record state.outbox { parcels = put_in topic frame state.outbox.parcels } }
     else state

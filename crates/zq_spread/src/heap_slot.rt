@@ -10,9 +10,10 @@ ghost use Rattle.zq_tally.specs.Words as tally;
 ghost use Rattle.zq_ticketlock.specs.Seats.{id_of, lock_of, logged, reached, seen, served, HasSeen, held_lock, held_logged, given, value_of};
 ghost use Rattle.zq_ticketlock.specs.Steps.{FollowsSeen};
 
-use crate::locked_heap::{LAST, LockedHeap};
+use crate::locked_heap::LockedHeap;
 use std::sync::Wait;
 use zq_dots::Rule;
+use zq_journal::LAST_COUNT;
 use zq_tally::{Count, Tally};
 use zq_ticketlock::{Held, Seat, TicketLock, TryFault};
 
@@ -120,7 +121,7 @@ impl HeapSlot {
             ⊎ IsAtLast (reached back) (seen back)) }
     {
         let last = u64::max(floor, held.value().book.stamp());
-        if last >= LAST {
+        if last >= LAST_COUNT {
             return Err(self.lock.unlock(held));
         }
         held.value_mut().begin(last + 1);

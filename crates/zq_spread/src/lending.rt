@@ -5,11 +5,10 @@ ghost use Rattle.zq_model.specs.Books.{Book as Books};
 ghost use Rattle.zq_journal.specs.Books.{state_of};
 
 use crate::locked_heap::LockedHeap;
-use std::alloc::{AllocError, Global};
-use zq_commands::{Books, MOST_SCANNED, Stopped, count_between, make_in};
+use std::alloc::Global;
+use zq_commands::{Books, MOST_SCANNED, Stopped, make_in};
 use zq_dots::{Act, SiteNo};
 use zq_shard::Shard;
-use zq_words::Bound;
 
 impl Books for LockedHeap {
     ghost use Rattle.zq_spread.specs.Recorded.{kept_itself, kept_through, IsKeptOn};
@@ -26,45 +25,8 @@ impl Books for LockedHeap {
         0
     }
 
-    fn score(&self, place: usize, key: &[u8], member: &[u8]) -> Option<i128> {
-        heap_at(self, place).score(key, member)
-    }
-
-    fn count(&self, place: usize, key: &[u8]) -> usize {
-        heap_at(self, place).count(key)
-    }
-
-    fn count_before(&self, place: usize, key: &[u8], score: &i128, member: &[u8]) -> usize {
-        heap_at(self, place).count_before(key, *score, member)
-    }
-
-    fn count_after(&self, place: usize, key: &[u8], score: &i128, member: &[u8]) -> usize {
-        heap_at(self, place).count_after(key, *score, member)
-    }
-
-    fn count_within(&self, place: usize, key: &[u8], min: &Bound, max: &Bound) -> usize {
-        count_between(heap_at(self, place), key, min, max)
-    }
-
-    fn top(&self, place: usize, key: &[u8]) -> Option<(i128, &[u8])> {
-        heap_at(self, place).top(key)
-    }
-
-    fn slice(
-        &self,
-        alloc: Global,
-        place: usize,
-        key: &[u8],
-        is_turned: bool,
-        from: usize,
-        to: usize,
-    ) -> Result<Vec<(i128, &[u8])>, AllocError> {
-        let shard = heap_at(self, place);
-        if is_turned {
-            shard.slice_turned(alloc, key, from, to)
-        } else {
-            shard.slice(alloc, key, from, to)
-        }
+    fn shard(&self, place: usize) -> &Shard {
+        heap_at(self, place)
     }
 
     fn index(&mut self, alloc: Global, _place: usize, key: &[u8]) {

@@ -14,13 +14,12 @@ ghost use Rattle.zq_ticketlock.specs.Seats.{value_of};
 
 use crate::locked_heap::LockedHeap;
 use crate::locked_heaps::LockedHeaps;
-use std::alloc::{AllocError, Global};
-use zq_commands::{Books, MOST_SCANNED, Stopped, count_between, make_in};
+use std::alloc::Global;
+use zq_commands::{Books, MOST_SCANNED, Stopped, make_in};
 use zq_dots::{Act, SiteNo, heap_of};
 use zq_journal::Book;
 use zq_shard::Shard;
 use zq_ticketlock::Held;
-use zq_words::Bound;
 
 impl Books for LockedHeaps {
     ghost use Rattle.zq_spread.specs.Several.{AreHeldOn, held_on_itself, held_on_through};
@@ -37,45 +36,8 @@ impl Books for LockedHeaps {
         place_of(self, heap_of(key, member, book_at(self, 0).shard().heaps()))
     }
 
-    fn score(&self, place: usize, key: &[u8], member: &[u8]) -> Option<i128> {
-        shard_at(self, place).score(key, member)
-    }
-
-    fn count(&self, place: usize, key: &[u8]) -> usize {
-        shard_at(self, place).count(key)
-    }
-
-    fn count_before(&self, place: usize, key: &[u8], score: &i128, member: &[u8]) -> usize {
-        shard_at(self, place).count_before(key, *score, member)
-    }
-
-    fn count_after(&self, place: usize, key: &[u8], score: &i128, member: &[u8]) -> usize {
-        shard_at(self, place).count_after(key, *score, member)
-    }
-
-    fn count_within(&self, place: usize, key: &[u8], min: &Bound, max: &Bound) -> usize {
-        count_between(shard_at(self, place), key, min, max)
-    }
-
-    fn top(&self, place: usize, key: &[u8]) -> Option<(i128, &[u8])> {
-        shard_at(self, place).top(key)
-    }
-
-    fn slice(
-        &self,
-        alloc: Global,
-        place: usize,
-        key: &[u8],
-        is_turned: bool,
-        from: usize,
-        to: usize,
-    ) -> Result<Vec<(i128, &[u8])>, AllocError> {
-        let shard = shard_at(self, place);
-        if is_turned {
-            shard.slice_turned(alloc, key, from, to)
-        } else {
-            shard.slice(alloc, key, from, to)
-        }
+    fn shard(&self, place: usize) -> &Shard {
+        shard_at(self, place)
     }
 
     fn index(&mut self, alloc: Global, place: usize, key: &[u8]) {

@@ -14,9 +14,6 @@ use zq_shard::{Shard, Taken};
 use zq_tally::Total;
 use zq_ticketlock::Keeps;
 
-/// The last stamp.
-pub(crate) const LAST: u64 = 4_611_686_018_427_387_904;
-
 /// The book of a heap, and how many records and merges the passes have made in it.
 #[derive(Drop)]
 pub struct LockedHeap {

@@ -11,12 +11,13 @@ ghost use Rattle.zq_spread.specs.Worn.{IsStopOf};
 ghost use Rattle.zq_ticketlock.specs.Seats.{held_logged, value_of};
 
 use crate::lock_scan::{LockScan, Stop};
-use crate::locked_heap::{LAST, LockedHeap};
+use crate::locked_heap::LockedHeap;
 use crate::locked_heaps::LockedHeaps;
 use crate::pass::Pass;
 use crate::site::Site;
 use crate::stacking::begun;
 use std::sync::Wait;
+use zq_journal::LAST_COUNT;
 use zq_ticketlock::Held;
 
 impl LockScan {
@@ -48,7 +49,7 @@ impl LockScan {
         if !self.is_enough {
             return Err(Stop::Nothing);
         }
-        if self.stamp >= LAST {
+        if self.stamp >= LAST_COUNT {
             return Err(Stop::Worn);
         }
         Ok(self.stamp + 1)

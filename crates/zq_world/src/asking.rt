@@ -9,7 +9,6 @@ ghost use Rattle.zq_world.specs.Play.{Holds, IsDone, Played, after, run_of};
 
 use crate::answer::Answer;
 use crate::faults::PlayFault;
-use crate::holder::LAST;
 use crate::outcome::Outcome;
 use crate::player::Player;
 use crate::running::{read_over, run_by};
@@ -18,6 +17,7 @@ use std::alloc::Global;
 use std::mem;
 use zq_commands::{Stopped, cut_reply};
 use zq_dots::SiteNo;
+use zq_journal::LAST_COUNT;
 use zq_resp::{Reply, Request, write_reply};
 use zq_words::{Command, Kind, Refused};
 
@@ -93,7 +93,7 @@ fn do_command(
         return Ok(read_over(alloc, &player.sites[place], command)?);
     }
     let stamp = greatest_stamp(&player.sites[place]);
-    if stamp == LAST {
+    if stamp == LAST_COUNT {
         return Ok(cut_reply(Stopped::Worn, 0));
     }
     let Some(site) = SiteNo::new(site) else {

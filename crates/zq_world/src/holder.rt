@@ -9,15 +9,11 @@ ghost use Rattle.zq_model.specs.Lent.{is_home_of, made_in};
 ghost use Rattle.zq_semantics.specs.Run.{LAST_COUNT, is_worn};
 ghost use Rattle.zq_world.specs.Told.{told_in};
 
-use std::alloc::{AllocError, Global};
+use std::alloc::Global;
 use zq_commands::{Books, Stopped};
 use zq_dots::{Act, Op, SiteNo};
 use zq_journal::Book;
 use zq_shard::MakeFault;
-use zq_words::Bound;
-
-/// The last count of a book, and the last stamp.
-pub(crate) const LAST: u64 = 4_611_686_018_427_387_904;
 
 /// Books of a site, with the operations that were made, the oldest first.
 #[derive(Drop)]
@@ -42,40 +38,8 @@ impl Books for Holder {
         self.books.home(key, member)
     }
 
-    fn score(&self, place: usize, key: &[u8], member: &[u8]) -> Option<i128> {
-        self.books.score(place, key, member)
-    }
-
-    fn count(&self, place: usize, key: &[u8]) -> usize {
-        self.books.count(place, key)
-    }
-
-    fn count_before(&self, place: usize, key: &[u8], score: &i128, member: &[u8]) -> usize {
-        self.books.count_before(place, key, score, member)
-    }
-
-    fn count_after(&self, place: usize, key: &[u8], score: &i128, member: &[u8]) -> usize {
-        self.books.count_after(place, key, score, member)
-    }
-
-    fn count_within(&self, place: usize, key: &[u8], min: &Bound, max: &Bound) -> usize {
-        self.books.count_within(place, key, min, max)
-    }
-
-    fn top(&self, place: usize, key: &[u8]) -> Option<(i128, &[u8])> {
-        self.books.top(place, key)
-    }
-
-    fn slice(
-        &self,
-        alloc: Global,
-        place: usize,
-        key: &[u8],
-        is_turned: bool,
-        from: usize,
-        to: usize,
-    ) -> Result<Vec<(i128, &[u8])>, AllocError> {
-        self.books.slice(alloc, place, key, is_turned, from, to)
+    fn shard(&self, place: usize) -> &Shard {
+        self.books.shard(place)
     }
 
     fn index(&mut self, alloc: Global, place: usize, key: &[u8]) {
@@ -173,7 +137,7 @@ fn draft_in(
         book.now) }
     ensures worn { IsErrOf result Stopped.Worn ↔ (is_worn site book.now ≡ true) }
 {
-    if book.count() == LAST {
+    if book.count() == zq_journal::LAST_COUNT {
         return Err(Stopped::Worn);
     }
     match book.shard().draft(alloc, site, key, member, act) {

@@ -12,11 +12,10 @@ ghost use Rattle.zq_world.specs.Steps.{IsMerged};
 use crate::answer::Answer;
 use crate::faults::PlayFault;
 use crate::frames::receive;
-use crate::holder::LAST;
 use crate::player::Player;
 use crate::stamps::{greatest_stamp, look_at};
 use std::alloc::Global;
-use zq_journal::{Book, MergeFault};
+use zq_journal::{Book, LAST_COUNT, MergeFault};
 use zq_posheap::Seeded;
 use zq_shard::Shard;
 
@@ -52,7 +51,7 @@ fn merge_in(alloc: Global, books: &mut Vec<Book>, shard: &Shard) -> Result<(), P
 {
     look_at(books);
     let stamp = greatest_stamp(books);
-    if stamp == LAST {
+    if stamp == LAST_COUNT {
         return Ok(());
     }
     match books[shard.heap() as usize].merge(alloc, stamp + 1, shard) {

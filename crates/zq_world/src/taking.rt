@@ -11,12 +11,11 @@ ghost use Rattle.zq_world.specs.Steps.{IsHanded};
 use crate::answer::Answer;
 use crate::faults::PlayFault;
 use crate::frames::{carry, carrying};
-use crate::holder::LAST;
 use crate::player::Player;
 use crate::stamps::{greatest_stamp, look_at};
 use std::alloc::Global;
 use zq_dots::Op;
-use zq_journal::{Book, TakeFault};
+use zq_journal::{Book, LAST_COUNT, TakeFault};
 use zq_shard::Taken;
 
 /// Hands a site the operation of this place among those that were made. It fails only where memory
@@ -50,7 +49,7 @@ fn take_in(alloc: Global, books: &mut Vec<Book>, op: &Op) -> Result<Option<Taken
 {
     look_at(books);
     let stamp = greatest_stamp(books);
-    if stamp == LAST {
+    if stamp == LAST_COUNT {
         return Ok(None);
     }
     match books[op.heap() as usize].take(alloc, stamp + 1, op) {

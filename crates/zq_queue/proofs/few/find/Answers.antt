@@ -1,11 +1,10 @@
 use Rattle.std.proofs.Common.{ap, arith, inl, inr, sym, ◌∙◌, ◌≡◌}
 use Rattle.std.proofs.lemmas.Bool.{cases_lt, true≢false}
-use Rattle.std.proofs.lemmas.Option.{get_or_from_slice_get, same_Some, slice_get-map, slice_get_within}
-use Rattle.std.specs.FinMap.{get}
-use Rattle.std.specs.Prelude.{Some, is_some, length, option_map, slice_get}
+use Rattle.std.proofs.lemmas.Option.{same_Some, slice_get_within}
+use Rattle.std.specs.Prelude.{Some, is_some, slice_get}
 use Rattle.zq_model.proofs.Places.{bytes_same, same_bytes}
 use Rattle.zq_queue.proofs.Scans.{as_many_names, named_at, not_there, there_at}
-use Rattle.zq_queue.specs.Few.{entries_by, names_in}
+use Rattle.zq_queue.specs.Few.{names_in}
 use Rattle.zq_queue.specs.declared.few.Member.{Member}
 use Rattle.zq_queue.proofs.few.find.Goals.{Then-eq}
 use Rattle.zq_queue.proofs.few.find.Goals as goal

@@ -3,7 +3,6 @@ use Rattle.std.proofs.lemmas.List.{drop_all, drop_more}
 use Rattle.std.specs.FinMap.{get, insert}
 use Rattle.std.specs.Prelude.{List, Some, drop, get_or, is_none, length, true, ◌+◌, ◌<◌, ◌∷◌, ℕ}
 use Rattle.zq_dots.specs.Rule.{rule_of}
-use Rattle.zq_model.specs.Image.{Entry}
 use Rattle.zq_model.specs.Score.{score_of}
 use Rattle.zq_queue.proofs.Built.{all_built, copied_row, copy_begins, each, not_yet, one_more, row_there}
 use Rattle.zq_queue.proofs.Changing.{handed_on, written_is_set}

@@ -1,7 +1,7 @@
-use Rattle.std.proofs.Common.{ap, arith, refl, subst, sym, ◌∙◌, ◌≡◌}
+use Rattle.std.proofs.Common.{ap, subst, ◌∙◌, ◌≡◌}
 use Rattle.std.proofs.lemmas.List.{append-nil}
 use Rattle.std.specs.FinMap.{len}
-use Rattle.std.specs.Prelude.{List, [], map, ◌++◌, ℕ}
+use Rattle.std.specs.Prelude.{List, [], map, ◌++◌}
 use Rattle.zq_model.specs.Image.{Entry}
 use Rattle.zq_posheap.specs.Listing.{IsListing, Row}
 use Rattle.zq_queue.proofs.Fews.{is_map, length-few}

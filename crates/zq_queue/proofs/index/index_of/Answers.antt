@@ -1,12 +1,10 @@
-use Rattle.std.proofs.Common.{ap, subst, sym, ◌∙◌}
 use Rattle.std.proofs.lemmas.Int.{to_z-of_z}
-use Rattle.std.specs.FinMap.{get}
 use Rattle.std.specs.Int.{w128}
 use Rattle.std.specs.Prelude.{FitsSigned}
 use Rattle.zq_posheap.proofs.Listed.{scored_listing}
 use Rattle.zq_posheap.proofs.ScoresOf.{score_in_range}
 use Rattle.zq_posheap.specs.Members.{scores_of}
-use Rattle.zq_queue.proofs.Indexes.{all_in, row_got, row_lists, row_rises}
+use Rattle.zq_queue.proofs.Indexes.{row_got, row_lists, row_rises}
 use Rattle.zq_ranked.proofs.Sorted.{none_ranked}
 use Rattle.zq_queue.proofs.index.index_of.Goals as goal
 

@@ -1,8 +1,8 @@
 use Rattle.std.proofs.Common.{ap, subst, sym, to_z, ◌∙◌, ◌≡◌, ℤ}
 use Rattle.std.proofs.lemmas.Int.{to_z-of_z}
-use Rattle.std.specs.FinMap.{get, insert, remove}
+use Rattle.std.specs.FinMap.{remove}
 use Rattle.std.specs.Int.{w128}
-use Rattle.std.specs.Prelude.{None, Some}
+use Rattle.std.specs.Prelude.{Some}
 use Rattle.zq_queue.proofs.Indexes.{got_removed, inserted_again, inserted_same}
 use Rattle.zq_queue.specs.Indexed.{IsIndexOf}
 use Rattle.zq_queue.proofs.index.with_moved.Goals as goal

@@ -1,4 +1,4 @@
-use Rattle.std.proofs.Common.{ap, arith, sym, ◌∙◌, ◌≡◌}
+use Rattle.std.proofs.Common.{ap, arith, ◌∙◌, ◌≡◌}
 use Rattle.std.proofs.lemmas.List.{map-append}
 use Rattle.std.specs.Prelude.{[], map, take, vec_len, ◌++◌, ◌+◌, ◌-◌, ◌∷◌}
 use Rattle.zq_posheap.specs.Listing.{lent_pair}

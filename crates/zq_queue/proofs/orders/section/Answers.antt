@@ -1,9 +1,8 @@
-use Rattle.std.proofs.Common.{ap, sym, ◌∙◌, ◌≡◌}
+use Rattle.std.proofs.Common.{ap, ◌∙◌, ◌≡◌}
 use Rattle.std.proofs.lemmas.Result.{IfOk-weaker}
 use Rattle.std.specs.Prelude.{drop, length, map, min, take, ◌-◌}
 use Rattle.zq_posheap.specs.Listing.{lent_pair}
 use Rattle.zq_queue.proofs.Parts.{part_count}
-use Rattle.zq_queue.specs.Listed.{part}
 use Rattle.zq_queue.proofs.orders.section.Goals as goal
 
 pub returns : goal.returns

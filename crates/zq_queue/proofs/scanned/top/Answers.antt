@@ -1,4 +1,4 @@
-use Rattle.std.proofs.Common.{ap, subst, sym, ◌∙◌}
+use Rattle.std.proofs.Common.{subst, sym, ◌∙◌}
 use Rattle.std.specs.Prelude.{option_map, take, ◌+◌}
 use Rattle.zq_dots.specs.Rule.{rule_of}
 use Rattle.zq_queue.proofs.Scans.{step_one, step_same}

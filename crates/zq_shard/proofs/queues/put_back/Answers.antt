@@ -4,7 +4,7 @@ use Rattle.zq_dots.specs.Rule.{rule_of}
 use Rattle.zq_queue.proofs.Changing.{on_any_err}
 use Rattle.zq_queue.specs.Entries.{set_entry}
 use Rattle.zq_queue.specs.Queued.{Queued}
-use Rattle.zq_shard.proofs.AtIndex.{lent_at, none_is, rewritten_at, updates_at, value_is}
+use Rattle.zq_shard.proofs.AtIndex.{lent_at, none_is, rewritten_at, there_after, updates_at, value_is}
 use Rattle.zq_shard.proofs.AtKeys.{entries_found, removed_at, written_at}
 use Rattle.zq_shard.proofs.ByBytes.{found}
 use Rattle.zq_shard.proofs.Outcomes.{ok_map}
@@ -34,8 +34,8 @@ pub returns-then-is_empty-clause-back : goal.returns-then-is_empty-clause-back
 returns-then-is_empty-clause-back c =
     let d = (goal.at.returns-then-is_empty-clause-back c).In_ok-put_back in
     let written = updates_at c.args.queues.now c.in-Some.index c.args.key.now _ c.get_mut-queue.result.now c.in-Some.ensures.there (lent_at c.args.queues.now.entries c.in-Some.index _ c.pair_mut-boxed.ensures.value c.get_mut-queue.ensures.value) c.pair_mut-boxed.ensures.unique c.put_back.new.self in
-    removed_at c.args.key.now c.put_back.new.self _ c.args.queues.now.entries (set_value_at c.args.queues.now.entries c.in-Some.index c.put_back.new.self) c.remove.new.queues.entries
-    written.3 c.remove.ensures (is_after d) (c.is_empty.ensures.0 c.if-is_empty.true)
+    removed_at c.args.key.now c.put_back.new.self _ c.args.queues.now.entries (set_value_at c.args.queues.now.entries c.in-Some.index c.put_back.new.self) c.remove_at.new.queues.entries
+    written.3 (c.remove_at.ensures c.args.key.now (there_after c.args.queues.now c.in-Some.index c.args.key.now c.put_back.new.self c.in-Some.ensures.there)) (is_after d) (c.is_empty.ensures.0 c.if-is_empty.true)
 
 pub returns-else-is_empty-clause-back : goal.returns-else-is_empty-clause-back
 returns-else-is_empty-clause-back c =

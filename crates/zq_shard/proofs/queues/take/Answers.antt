@@ -6,7 +6,7 @@ use Rattle.zq_queue.proofs.Changing.{on_any_err}
 use Rattle.zq_queue.specs.Effects.{HasRoom, entries_after}
 use Rattle.zq_queue.specs.Entries.{bytes_cmp, entry_in}
 use Rattle.zq_queue.specs.Queued.{Queued}
-use Rattle.zq_shard.proofs.AtIndex.{lent_at, none_is, rewritten_at, updates_at, value_is}
+use Rattle.zq_shard.proofs.AtIndex.{lent_at, none_is, rewritten_at, there_after, updates_at, value_is}
 use Rattle.zq_shard.proofs.AtKeys.{entries_found, removed_at, written_at}
 use Rattle.zq_shard.proofs.ByBytes.{found}
 use Rattle.zq_shard.specs.Queues.{HasAt, entries_in, unless_empty}
@@ -61,7 +61,7 @@ returns-in-Some-clause-taken c =
     elim c.if-is_empty.branch [
       | then-is_empty w ↦
           subst (λ m. HasAt key (unless_empty (at_key d)) old m.entries) (sym w.queues-is)
-          (removed_at key c.take.new.self (at_key d) old mid w.remove.new.queues.entries written.3 w.remove.ensures (is_after d) (c.is_empty.ensures.0 w.if-is_empty.true))
+          (removed_at key c.take.new.self (at_key d) old mid w.remove_at.new.queues.entries written.3 (w.remove_at.ensures key (there_after c.args.queues.now c.in-Some.index key c.take.new.self c.in-Some.ensures.there)) (is_after d) (c.is_empty.ensures.0 w.if-is_empty.true))
       | else-is_empty w ↦
           subst (λ m. HasAt key (unless_empty (at_key d)) old m.entries) (sym w.queues-is)
           (written_at key c.take.new.self (at_key d) old mid written.1 written.3 (is_after d)

@@ -20,13 +20,13 @@ read_over-requires-clause-lent c =
     let at = slice_get_read sites (length sites) c.args.site c.index.result.now refl c.requires.inside c.index.ensures in
     site_lending c.index.result.now.items (of_its c.requires.held.0 c.args.player.now c.requires.held.1 c.args.site c.index.result.now at)
 
-pub returns-then-stamp-eq-LAST-clause-done : goal.returns-then-stamp-eq-LAST-clause-done
-returns-then-stamp-eq-LAST-clause-done c = λ played held.
+pub returns-then-stamp-eq-LAST_COUNT-clause-done : goal.returns-then-stamp-eq-LAST_COUNT-clause-done
+returns-then-stamp-eq-LAST_COUNT-clause-done c = λ played held.
     let sites = c.args.player.now.sites.items in
     let at = slice_get_read sites (length sites) c.args.site c.index-2.result.now refl c.requires.inside c.index-2.ensures in
     let command = c.args.command.now in
     let st = (run_of played).now in
-    let last = sym (c.greatest_stamp-stamp.ensures.greatest ∙ ap greatest_stamp c.deref.ensures.value) ∙ c.if-stamp-eq-LAST.true in
+    let last = sym (c.greatest_stamp-stamp.ensures.greatest ∙ ap greatest_stamp c.deref.ensures.value) ∙ c.if-stamp-eq-LAST_COUNT.true in
     not_commanded played c.args.player.now held c.args.site c.index-2.result.now at c.args.words.0 c.args.words.1 command
     (queues_for played.rule played.heaps (st.sets c.args.site) c.args.words.0 c.args.words.1 command) c.cut_reply.result
     (ap is_ping (sym c.kind.ensures.kind) ∙ no_ping c.kind.result.now c.in_default.not-Ping) last c.cut_reply.ensures.bytes
@@ -53,7 +53,7 @@ pub run_by-requires-clause-dated : goal.run_by-requires-clause-dated
 run_by-requires-clause-dated c =
     let d = (goal.at.run_by-requires-clause-dated c).After-replace-made in
     dated c.requires.held.0 c.args.player.now c.requires.held.1 c.args.site c.replace-books.result (its_at d) c.greatest_stamp-stamp.result (stamp_is d)
-    (omega (arith, c.greatest_stamp-stamp.ensures.bounded, c.if-stamp-eq-LAST.false))
+    (omega (arith, c.greatest_stamp-stamp.ensures.bounded, c.if-stamp-eq-LAST_COUNT.false))
 
 pub run_by-requires-clause-homes : goal.run_by-requires-clause-homes
 run_by-requires-clause-homes c =
@@ -83,5 +83,5 @@ returns-clause-done c = λ played held.
     let ran = subst (λ (xs : List Placed). RanBy c.args.site stamp command c.args.words.0 c.args.words.1 books.items xs left) (ap (λ (v : Vec Placed Global). v.items) c.replace-made.ensures.value)
     (subst (λ (s : ℕ). RanBy s stamp command c.args.words.0 c.args.words.1 books.items c.replace-made.result.items left) c.in-Some.ensures.1 c.in_ok-left.ensures.ran) in
     commanded played old held c.args.site books (its_at d) c.args.words.0 c.args.words.1 stamp left unworn command
-    (ap is_ping (sym c.kind.ensures.kind) ∙ no_ping c.kind.result.now c.in_default.not-Ping) (omega (arith, is)) (omega (arith, c.greatest_stamp-stamp.ensures.bounded, c.if-stamp-eq-LAST.false))
+    (ap is_ping (sym c.kind.ensures.kind) ∙ no_ping c.kind.result.now c.in_default.not-Ping) (omega (arith, is)) (omega (arith, c.greatest_stamp-stamp.ensures.bounded, c.if-stamp-eq-LAST_COUNT.false))
     c.kind.ensures.limits ran _ (set-set old.sites.items c.args.site c.replace-books.new.dest left.books) refl

@@ -16,6 +16,6 @@ returns-in-Ok-clause-worn c = (
         let home = ap (λ (s : HeapImage). heap_of c.args.key.now c.args.member.now s.heaps) same ∙ eqb-true _ _ c.requires.home ∙ sym (ap (λ (s : HeapImage). s.heap) same) in
         let fault = c.in-Ok.ensures.worn.1 (home, ap (λ (s : HeapImage). slice_index s.image.vector c.args.site) same ∙ dot) in
         absurd (cc)
-    | inr last ↦ let count = c.count.ensures.same in absurd (c.if-count-eq-LAST.false (count ∙ last))
+    | inr last ↦ let count = c.count.ensures.same in absurd (c.if-count-eq-LAST_COUNT.false (count ∙ last))
   ],
 )

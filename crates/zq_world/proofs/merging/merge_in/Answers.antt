@@ -36,11 +36,11 @@ of_heap c =
     let same : c.requires.placed.0 ≡ c.index_mut.result.now = same_Some c.requires.placed.0 c.index_mut.result.now (sym c.requires.placed.1 ∙ here c) in
     subst (λ (b : Book). IsSameHeap (state_of b) c.args.shard.now × (b.rule ≡ c.args.shard.now.rule)) same (c.requires.placed.2, c.requires.placed.3)
 
-pub returns-then-stamp-eq-LAST-clause-merged : goal.returns-then-stamp-eq-LAST-clause-merged
-returns-then-stamp-eq-LAST-clause-merged c = λ rule K st site T are world closed shut image.
+pub returns-then-stamp-eq-LAST_COUNT-clause-merged : goal.returns-then-stamp-eq-LAST_COUNT-clause-merged
+returns-then-stamp-eq-LAST_COUNT-clause-merged c = λ rule K st site T are world closed shut image.
     let books = c.args.books.now.items in
     let heap = c.args.shard.now.heap in
-    let last = sym (stamp_is (goal.at.returns-then-stamp-eq-LAST-clause-merged c).After-greatest_stamp-stamp) ∙ c.if-stamp-eq-LAST.true in
+    let last = sym (stamp_is (goal.at.returns-then-stamp-eq-LAST_COUNT-clause-merged c).After-greatest_stamp-stamp) ∙ c.if-stamp-eq-LAST_COUNT.true in
     merged_not rule K st site heap T books are (blocked_stamp rule K st site books are last heap)
 
 pub index_mut-requires : goal.index_mut-requires
@@ -60,7 +60,7 @@ merge-requires-clause-stamp c =
 
 pub merge-requires-clause-bounded : goal.merge-requires-clause-bounded
 unfolding LAST_STAMP
-merge-requires-clause-bounded c = omega (arith, c.greatest_stamp-stamp.ensures.bounded, c.if-stamp-eq-LAST.false)
+merge-requires-clause-bounded c = omega (arith, c.greatest_stamp-stamp.ensures.bounded, c.if-stamp-eq-LAST_COUNT.false)
 
 pub unreachable-requires : goal.unreachable-requires
 unreachable-requires c =
@@ -80,7 +80,7 @@ returns-in-Ok-clause-merged c = λ rule K st site T are world closed shut image.
     let stamp = c.greatest_stamp-stamp.result in
     let is = stamp_is (goal.at.returns-in-Ok-clause-merged c).After-greatest_stamp-stamp in
     let count = (c.look_at.ensures b (subst (λ (xs : List Book). IsIn b xs) (sym c.deref.ensures.value) (in_place books c.heap.result b (stands d)))).1 in
-    let below : greatest_stamp books < LAST_COUNT = omega (arith, is, c.greatest_stamp-stamp.ensures.bounded, c.if-stamp-eq-LAST.false) in
+    let below : greatest_stamp books < LAST_COUNT = omega (arith, is, c.greatest_stamp-stamp.ensures.bounded, c.if-stamp-eq-LAST_COUNT.false) in
     let away : (b.count ≡ LAST_COUNT) → ⊥ = λ last. (let fault = c.in-Ok.ensures.worn.1 ((of_heap d).0, (of_heap d).1, last) in absurd (cc)) in
     let few : b.count < LAST_COUNT = omega (arith, count, away) in
     let set : slice_set books c.heap.result c.merge.new.self ≡ slice_set books heap (merged b (stamp + 1) c.args.shard.now.image) = λ i. slice_set books (c.heap.ensures.same i) (c.in-Ok.ensures.merged i) in

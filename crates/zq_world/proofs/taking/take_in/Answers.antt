@@ -36,10 +36,10 @@ of_heap c =
     let same : c.requires.placed.0 ≡ c.index_mut.result.now = same_Some c.requires.placed.0 c.index_mut.result.now (sym c.requires.placed.1 ∙ here c) in
     subst (λ (b : Book). IsOfHeap (state_of b) c.args.op.now) same c.requires.placed.2
 
-pub returns-then-stamp-eq-LAST-clause-handed : goal.returns-then-stamp-eq-LAST-clause-handed
-returns-then-stamp-eq-LAST-clause-handed c = λ rule K st site are world closed.
+pub returns-then-stamp-eq-LAST_COUNT-clause-handed : goal.returns-then-stamp-eq-LAST_COUNT-clause-handed
+returns-then-stamp-eq-LAST_COUNT-clause-handed c = λ rule K st site are world closed.
     let o = c.args.op.now.operation in
-    let last = sym (stamp_is (goal.at.returns-then-stamp-eq-LAST-clause-handed c).After-greatest_stamp-stamp) ∙ c.if-stamp-eq-LAST.true in
+    let last = sym (stamp_is (goal.at.returns-then-stamp-eq-LAST_COUNT-clause-handed c).After-greatest_stamp-stamp) ∙ c.if-stamp-eq-LAST_COUNT.true in
     let worn = worn_taken rule K st site c.args.books.now.items are o (judged st site o) last in
     (subst (λ s. AreBooksOf rule K s site c.args.books.now.items) (sym worn.0) are, sym worn.1)
 
@@ -60,7 +60,7 @@ take-requires-clause-stamp c =
 
 pub take-requires-clause-bounded : goal.take-requires-clause-bounded
 unfolding LAST_STAMP
-take-requires-clause-bounded c = omega (arith, c.greatest_stamp-stamp.ensures.bounded, c.if-stamp-eq-LAST.false)
+take-requires-clause-bounded c = omega (arith, c.greatest_stamp-stamp.ensures.bounded, c.if-stamp-eq-LAST_COUNT.false)
 
 pub unreachable-requires : goal.unreachable-requires
 unreachable-requires c =
@@ -79,7 +79,7 @@ returns-in-Ok-clause-handed c = λ rule K st site are world closed.
     let is = stamp_is (goal.at.returns-in-Ok-clause-handed c).After-greatest_stamp-stamp in
     let judge : judged st site o ≡ J = sym (ap (λ (a : Image). taken_of a.vector o) (are.each o.heap b (here d)).state) in
     let count = (c.look_at.ensures b (subst (λ (xs : List Book). IsIn b xs) (sym c.deref.ensures.value) (in_place books c.heap.result b (stands d)))).1 in
-    let below : greatest_stamp books < LAST_COUNT = omega (arith, is, c.greatest_stamp-stamp.ensures.bounded, c.if-stamp-eq-LAST.false) in
+    let below : greatest_stamp books < LAST_COUNT = omega (arith, is, c.greatest_stamp-stamp.ensures.bounded, c.if-stamp-eq-LAST_COUNT.false) in
     let few : J ≡ New → b.count < LAST_COUNT = λ new_is.
     let away : (b.count ≡ LAST_COUNT) → ⊥ = λ last. (let fault = c.in-Ok.ensures.worn.1 (of_heap d, new_is, last) in absurd (cc)) in
     omega (arith, count, away) in

@@ -15,7 +15,7 @@ unfolding LAST_STAMP
 invariant_of-self-2 c =
     let none : records_in c.merge.new.self c.vector.result.now c.clear.new.self.items ≡ [] = ap (records_in c.merge.new.self c.vector.result.now) c.clear.ensures.items in
     opened_stands c.merge.new.self c.vector.result.now (records_in c.merge.new.self c.vector.result.now c.clear.new.self.items) (limits_of c.self.inside.limits) c.self.inside.handed c.args.stamp (c.self.inside.count + 1) none c.vector.ensures.same
-    c.vector.ensures.kept.bounded c.requires.bounded (omega (arith, c.if-self-eq-LAST.false, c.self.invariant.last_count))
+    c.vector.ensures.kept.bounded c.requires.bounded (omega (arith, c.if-self-eq-LAST_COUNT.false, c.self.invariant.last_count))
 
 pub returns-clause-merged : goal.returns-clause-merged
 returns-clause-merged c =

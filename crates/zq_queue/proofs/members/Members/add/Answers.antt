@@ -1,6 +1,6 @@
 use Rattle.std.proofs.Common.{ap, arith, refl, rules, subst, sym, ◌∙◌, ◌≡◌}
 use Rattle.std.specs.FinMap.{get}
-use Rattle.std.specs.Prelude.{None, is_none, length, ◌<◌}
+use Rattle.std.specs.Prelude.{is_none, length, ◌<◌}
 use Rattle.std.specs.Vec.{vec_len}
 use Rattle.zq_dots.specs.Rule.{rule_of}
 use Rattle.zq_queue.proofs.Changing.{handed_on, set_bare, set_some}
@@ -22,7 +22,7 @@ invariant_of-self c =
     let list = c.in-Few.list in
     let m = c.args.member.now in
     let count : vec_len list ≡ length list.items = search rules in
-    let room : length list.items < 16 = omega (arith, c.if-len-lt-MOST_FEW.true, c.len.ensures, count) in
+    let room : length list.items < 32 = omega (arith, c.if-len-lt-MOST_FEW.true, c.len.ensures, count) in
     few_either (rule_of c.self.inside.rule) c.self.inside.form list list.items c.in-Few.is refl c.self.invariant c.push.result m c.args.entry c.push.new.list.items
     (ap (λ k. get k.entries m) c.self.view_is ∙ c.requires) (sym c.in-Some.ensures.none) room c.push.ensures.pushed c.push.ensures.refused
 
@@ -31,7 +31,7 @@ returns-then-len-lt-MOST_FEW-clause-added c =
     let list = c.in-Few.list in
     let m = c.args.member.now in
     let count : vec_len list ≡ length list.items = search rules in
-    let room : length list.items < 16 = omega (arith, c.if-len-lt-MOST_FEW.true, c.len.ensures, count) in
+    let room : length list.items < 32 = omega (arith, c.if-len-lt-MOST_FEW.true, c.len.ensures, count) in
     few_added (rule_of c.self.inside.rule) c.self.inside.form list list.items c.in-Few.is refl c.self.invariant c.push.result m c.args.entry c.push.new.list.items
     (ap (λ k. get k.entries m) c.self.view_is ∙ c.requires) (sym c.in-Some.ensures.none) room c.push.ensures.pushed
     (set_entry c.args.self.now.entries m c.args.entry)

@@ -1,12 +1,11 @@
 use Rattle.std.proofs.Common.{ap, arith, refl, sym, ◌∙◌, ◌≡◌}
 use Rattle.std.specs.FinMap.{get}
-use Rattle.std.specs.Prelude.{Some, get_or, length, slice_get, ◌<◌}
+use Rattle.std.specs.Prelude.{Some, length, slice_get, ◌<◌}
 use Rattle.zq_dots.specs.Rule.{rule_of}
 use Rattle.zq_queue.proofs.Eithers.{few_got, many_got}
 use Rattle.zq_queue.proofs.Scans.{as_many_names}
 use Rattle.zq_queue.specs.Few.{names_in}
 use Rattle.zq_queue.specs.Form.{places_in}
-use Rattle.zq_queue.specs.Place.{index_of}
 use Rattle.zq_queue.proofs.members.Members.at.Goals as goal
 
 pub returns-in-Few : goal.returns-in-Few

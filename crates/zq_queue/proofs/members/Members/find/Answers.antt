@@ -1,6 +1,6 @@
 use Rattle.std.proofs.Common.{ap, subst, sym, ◌∙◌}
 use Rattle.std.specs.FinMap.{contains_key, get}
-use Rattle.std.specs.Prelude.{is_some, option_map}
+use Rattle.std.specs.Prelude.{is_some}
 use Rattle.zq_dots.specs.Rule.{rule_of}
 use Rattle.zq_posheap.proofs.Lists.{is_some-map}
 use Rattle.zq_queue.proofs.Eithers.{many_entries, stands}

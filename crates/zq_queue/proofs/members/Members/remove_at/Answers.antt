@@ -42,7 +42,7 @@ pub invariant_of-self-in-Many : goal.invariant_of-self-in-Many
 invariant_of-self-in-Many c =
     let x = c.deref_mut.result.now in
     let rule = rule_of c.self.inside.rule in
-    subst (AreScored rule) (sym c.remove_at-entry.ensures.held)
+    subst (AreScored rule) (sym (c.shrink.ensures ∙ ap (λ y. y.held) c.deref_mut-in-Many.ensures.value ∙ c.remove_at-entry.ensures.held))
     (scored-remove rule x.held c.args.member.now (many_scored rule c.self.inside.form c.in-Many.many x c.in-Many.is c.deref_mut.ensures.value c.self.invariant))
 
 pub returns-in-Few-clause-before : goal.returns-in-Few-clause-before
@@ -73,6 +73,6 @@ pub returns-in-Many-clause-rest : goal.returns-in-Many-clause-rest
 returns-in-Many-clause-rest c =
     let m = c.args.member.now in
     let x = c.deref_mut.result.now in
-    c.settle.ensures.entries ∙ ap entries_of c.remove_at-entry.ensures.held ∙ entries_of-remove x.held m
+    c.settle.ensures.entries ∙ ap entries_of (c.shrink.ensures ∙ ap (λ y. y.held) c.deref_mut-in-Many.ensures.value ∙ c.remove_at-entry.ensures.held) ∙ entries_of-remove x.held m
     ∙ ap (λ e. remove e m) (many_entries (rule_of c.self.inside.rule) c.self.inside.form c.in-Many.many x c.in-Many.is c.deref_mut.ensures.value c.self.invariant)
     ∙ ap (λ k. remove k.entries m) c.self.view_is

@@ -1,4 +1,4 @@
-use Rattle.std.proofs.Common.{ap, subst, sym, ◌∙◌}
+use Rattle.std.proofs.Common.{ap, sym, ◌∙◌}
 use Rattle.std.specs.Prelude.{option_map, slice_get}
 use Rattle.zq_dots.specs.Rule.{rule_of}
 use Rattle.zq_queue.proofs.Eithers.{few_head, many_order}

@@ -1,6 +1,5 @@
 use Rattle.std.proofs.Common.{ap, sym, ◌∙◌, ◌≡◌}
 use Rattle.std.specs.FinMap.{get, len}
-use Rattle.std.specs.Prelude.{Some}
 use Rattle.zq_queue.proofs.Sames.{one_map, same_rules}
 use Rattle.zq_queue.proofs.queue.Queue.same.Goals as goal
 
