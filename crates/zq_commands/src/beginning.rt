@@ -19,7 +19,11 @@ impl SiteBooks {
         ensures worn { result ≡ None → HasStamp LAST_STAMP self.now }
     {
         let stamp = self.stamp();
-        if stamp < LAST_COUNT { Some(stamp + 1) } else { None }
+        if stamp < LAST_COUNT {
+            Some(stamp + 1)
+        } else {
+            None
+        }
     }
 
     /// Begins a call of this stamp, which is no less than the books': cuts each tail to its limits,
