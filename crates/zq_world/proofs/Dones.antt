@@ -1,9 +1,9 @@
 -- What a command that no memory cut makes of a site's books, and of the list of what was made.
 
-use Rattle.std.proofs.Common.{Bool, List, None, Option, Some, ap, false, map, refl, subst, sym, true, true≢false, ℕ, ◌<◌, ◌==◌, ◌∙◌, ◌≡◌}
+use Rattle.std.proofs.Common.{List, Some, ap, false, map, refl, subst, sym, true≢false, ℕ, ◌<◌, ◌==◌, ◌∙◌, ◌≡◌}
 use Rattle.std.proofs.lemmas.List.{take-append-drop}
 use Rattle.std.proofs.lemmas.Option.{same_Some}
-use Rattle.std.specs.Prelude.{drop, slice_get, take}
+use Rattle.std.specs.Prelude.{drop, take}
 use Rattle.zq_commands.specs.Lending.{Lending}
 use Rattle.zq_commands.specs.Running.{EndsOver, part, told_after, whole}
 use Rattle.zq_commands.specs.VecBooks.{rule_in}

@@ -1,10 +1,10 @@
 -- The image of a world's operations has no more members than there are dots in a heap.
 
-use Rattle.std.proofs.Common.{Less, List, [], arith, ap, eqb, false, inl, inr, length, refl, subst, sym, true, ℕ, ◌*◌, ◌+◌, ◌<◌, ◌^◌, ◌≤◌, ◌∙◌, ◌∷◌, ◌≡◌, ◌≢◌}
+use Rattle.std.proofs.Common.{Less, List, [], arith, ap, eqb, false, inl, inr, length, refl, subst, sym, ℕ, ◌*◌, ◌+◌, ◌<◌, ◌^◌, ◌≤◌, ◌∙◌, ◌∷◌, ◌≡◌, ◌≢◌}
 use Rattle.std.proofs.lemmas.Bool.{eqb-true, ne_eqb}
 use Rattle.std.proofs.lemmas.Cmp.{tied_itself}
 use Rattle.std.proofs.lemmas.Map.Steps.{length-le_from_distinct_below}
-use Rattle.std.specs.List.{AllByRecursion, IsDistinct, list_any}
+use Rattle.std.specs.List.{AllByRecursion, IsDistinct}
 use Rattle.zq_model.proofs.Entries.{set_entries}
 use Rattle.zq_model.proofs.Kept.{kept_from}
 use Rattle.zq_model.proofs.Maps.{place_total}

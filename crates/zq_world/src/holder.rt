@@ -13,7 +13,7 @@ use std::alloc::Global;
 use zq_commands::{Books, Stopped};
 use zq_dots::{Act, Op, SiteNo};
 use zq_journal::Book;
-use zq_shard::MakeFault;
+use zq_shard::{MakeFault, Shard};
 
 /// Books of a site, with the operations that were made, the oldest first.
 #[derive(Drop)]
