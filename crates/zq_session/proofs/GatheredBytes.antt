@@ -1,5 +1,5 @@
 -- Bytes that are gathered and written, one after the other.
-use Rattle.std.proofs.Common.{◌≡◌, ◌≤◌, Err, Ok, Result, List, ℕ, [], ◌++◌, length, refl, sym, ap, subst, ◌∙◌, append_assoc, append-nil, take, drop, take-append-drop}
+use Rattle.std.proofs.Common.{◌≡◌, ◌≤◌, ◌<◌, Err, MatchResult, Ok, arith, Result, List, ℕ, [], ◌++◌, length, refl, sym, ap, subst, ◌∙◌, append_assoc, append-nil, take, drop, take-append-drop}
 use Rattle.zq_session.specs.Gathering.{Held, Gathers, IsCutOff, Puts, held}
 use Rattle.zq_session.specs.Steps.{Does, FULL, Said, Says}
 use Rattle.zq_session.specs.declared.outcome.SessionFault.{SessionFault}
@@ -29,15 +29,14 @@ module _ {E : Type 0} (does : Does E) where
   pub gathers-kept : (ends : E) (gathered bytes : List ℕ) → Gathers does (held ends gathered) (held ends (gathered ++ bytes)) bytes
   gathers-kept ends gathered bytes = ([], fills-none does ends, refl)
 
-  -- All was written.
-  pub gathers-sent : (old new : E) (gathered bytes : List ℕ) → FULL ≤ length (gathered ++ bytes) → does old (Said (gathered ++ bytes)) new → Gathers does (held old gathered) (held new []) bytes
-  gathers-sent old new gathered bytes full p = (gathered ++ bytes, fills-one does old new (gathered ++ bytes) full p, sym (append-nil (gathered ++ bytes)))
-
-  -- The writer failed.
-  pub cut-sent : (old new : E) (gathered rest bytes : List ℕ) (at : ℕ) → does old (Said (take at (gathered ++ bytes))) new → IsCutOff does (held old gathered) (held new rest) bytes
-  cut-sent old new gathered rest bytes at p =
-      let all = gathered ++ bytes in
-      (take at all, drop at all, says-one does old new (take at all) p, sym (take-append-drop at all))
+  -- All that is gathered was written, since it was much; or the writer failed.
+  pub many-written : (old new : E) (out rest : List ℕ) (result : Result (Unit {0}) SessionFault) → FULL ≤ length out
+      → MatchResult result (λ done. (rest ≡ []) × does old (Said out) new) (λ fault. (fault ≡ Write) × (rest ≡ []) × ((at : ℕ) × does old (Said (take at out)) new))
+      → MatchResult result (λ done. Gathers does (held old out) (held new rest) [] × (length rest < FULL)) (λ fault. (fault ≡ Write) × IsCutOff does (held old out) (held new rest) [])
+  many-written old new out rest (Ok done) full p =
+      ((out, fills-one does old new out full p.1, ap (λ l. out ++ l) (sym p.0)), let none = ap length p.0 in omega arith)
+  many-written old new out rest (Err fault) full p =
+      let at = p.2.0 in (p.0, (take at out, drop at out, says-one does old new (take at out) p.2.1, append-nil out ∙ sym (take-append-drop at out)))
 
   -- What is gathered is written too.
   pub all-written : (old mid new : E) (gathered bytes : List ℕ) → Gathers does (held old []) (held mid gathered) bytes → does mid (Said gathered) new → Says does old new bytes

@@ -2,7 +2,11 @@ pub mod Talks
 pub mod Conversations
 pub mod GatheredBytes
 pub mod KnownBytes
-pub mod Replied
+pub mod AnsweredPart
+pub mod Turns
+pub mod Alongside
+pub mod Connections
+pub mod Seen
 pub mod Runs
 pub mod Served
 pub mod Written

@@ -1,5 +1,5 @@
 -- Runs of requests and their replies, one after the other.
-use Rattle.std.proofs.Common.{◌≡◌, ℕ, List, [], ◌∷◌, ◌++◌, refl, sym, ap, ◌∙◌, subst, append_assoc, append-nil, arith}
+use Rattle.std.proofs.Common.{◌≡◌, ◌≢◌, ℕ, List, [], ◌∷◌, ◌++◌, refl, sym, ap, ◌∙◌, subst, append_assoc, append-nil, arith}
 use Rattle.zq_resp.specs.declared.reply.Reply.{Reply}
 use Rattle.zq_resp.specs.Reply.{all_bytes, reply_bytes}
 use Rattle.zq_resp.specs.Stream.{Requests}
@@ -9,12 +9,15 @@ all_bytes-append : (xs ys : List Reply) → all_bytes (xs ++ ys) ≡ all_bytes x
 all_bytes-append [] ys = refl
 all_bytes-append (x ∷ xs) ys = ap (λ bytes. reply_bytes x ++ bytes) (all_bytes-append xs ys) ∙ sym (append_assoc (reply_bytes x) (all_bytes xs) (all_bytes ys))
 
-runs-join : {S : Type 0} (answers : Relation S) (a b c : S) (xs ys : Requests) (rs ss : List Reply)
+pub runs-join : {S : Type 0} (answers : Relation S) (a b c : S) (xs ys : Requests) (rs ss : List Reply)
     → Runs answers a xs rs b → Runs answers b ys ss c → Runs answers a (xs ++ ys) (rs ++ ss) c
 runs-join answers a b c [] ys [] ss p q = subst (λ s. Runs answers s ys ss c) (sym p) q
 runs-join answers a b c (x ∷ xs) ys (r ∷ rs) ss p q = (p.0, p.1, runs-join answers p.0 b c xs ys rs ss p.2 q)
 runs-join answers a b c [] ys (r ∷ rs) ss p q = absurd p
 runs-join answers a b c (x ∷ xs) ys [] ss p q = absurd p
+
+pub some_reply : (reply : Reply) → reply ∷ [] ≢ []
+some_reply reply = λ none. absurd cc
 
 pub answered-none : {S : Type 0} (answers : Relation S) (s : S) → IsAnswered answers s s [] []
 answered-none answers s = ([], refl, refl)

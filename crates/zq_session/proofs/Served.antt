@@ -15,7 +15,7 @@ use Rattle.zq_session.specs.declared.outcome.SessionFault.TheVariants as stop
 use Rattle.zq_session.specs.Session.{Relation, IsAnswered, IsBegun, IsClosed, IsOwed, IsStopped, IsWanting, Serves, closing}
 use Rattle.zq_session.specs.Serving.{AnswersAll, EndsWith, ServesLast, ServesPiece}
 use Rattle.zq_session.proofs.Runs.{answered-none, answered-join, begun-whole, stopped-join, stopped-begun}
-use Rattle.zq_session.proofs.Streams.{reaches-more, reaches-on, splits-on, breaks-on, splits-none, handed-append}
+use Rattle.zq_session.proofs.Streams.{breaks-more, reaches-more, reaches-on, splits-on, breaks-on, splits-none, handed-append}
 
 module _ {S : Type 0} (answers : Relation S) where
   -- the text so far is answered whole, but for the unfinished request
@@ -116,6 +116,19 @@ module _ {S : Type 0} (answers : Relation S) where
     p.5,
   )
 
+  -- a piece whose front was served, of which these bytes were kept
+  pub piece-after : (old mid new : S) (had front back written bytes : List ℕ) (between kept : Option (List ℕ)) (result : Result Served SessionFault)
+      (s : ServesPiece answers old mid had front between written (Ok More)) → ServesPiece answers mid new s.1 back kept bytes result
+      → ServesPiece answers old new had (front ++ back) kept (written ++ bytes) result
+  piece-after old mid new had front back written bytes between kept result s p =
+      piece-goes-on old mid new had front back written bytes s.1 kept result (record { all = s.0; splits = s.3; answered = s.4 }) p
+
+  -- more follows what breaks the protocol
+  pub piece-broken : (old new : S) (had piece more bytes : List ℕ) (kept : Option (List ℕ))
+      → ServesPiece answers old new had piece kept bytes (Ok Broken) → ServesPiece answers old new had (piece ++ more) kept bytes (Ok Broken)
+  piece-broken old new had piece more bytes kept p =
+      (p.0, p.1, subst (λ text. Breaks text p.0 p.1) (append_assoc had piece more) (breaks-more (had ++ piece) more p.0 p.1 p.2), p.3)
+
   -- a piece whose front was served
   pub piece-then : (old mid new : S) (had front back written bytes : List ℕ) (between kept : Option (List ℕ)) (result : Result Served SessionFault)
       → ServesPiece answers old mid had front between written (Ok More)
@@ -148,8 +161,33 @@ module _ {S : Type 0} (answers : Relation S) where
   owed-whole old new had piece bytes kept (Err stop.Write) p = p
   owed-whole old new had piece bytes kept (Err stop.NoMemory) p = inl (p.0, p.1, p.3, stopped-begun answers old new (handed p.0) bytes p.2 p.4)
 
+  -- what a session writes that ends with a fault of the protocol is owed
+  pub owed-broken : (old new : S) (text bytes : List ℕ) → Serves answers old new text bytes (Ok Protocol) → IsOwed answers old new text bytes
+  owed-broken old new text bytes p = inr (p.0, p.1, [], p.2, subst (IsClosed answers old new (handed p.0)) (sym (append-nil bytes)) p.3)
+
+  -- so is what one writes that ends for want of memory
+  pub owed-refused : (old new : S) (text bytes : List ℕ) → Serves answers old new text bytes (Err stop.NoMemory) → IsOwed answers old new text bytes
+  owed-refused old new text bytes (inl p) =
+      subst (λ text. IsOwed answers old new text bytes) (sym p.nothing_read) (subst (λ bytes. IsOwed answers old new [] bytes) (sym p.nothing_written)
+      (subst (λ new. IsOwed answers old new [] []) p.none_answered (inl ([], [], splits-none.reaches, begun-whole answers old old [] [] (answered-none answers old)))))
+  owed-refused old new text bytes (inr p) =
+      let requests = p.all ++ p.more in
+      subst (λ text. IsOwed answers old new text bytes) (sym p.text_is)
+      (inl (
+        requests,
+        p.rest,
+        reaches-on p.before p.had p.piece p.rest p.all p.more p.splits.reaches p.reaches,
+        subst (IsBegun answers old new (handed requests)) (sym p.bytes_are)
+            (begun-on old p.mid new p.all p.more p.written p.last p.answered (stopped-begun answers p.mid new (handed p.more) p.last p.unwritten p.stopped)),
+      ))
+
+  -- What is owed of a text is owed of a longer one.
+  pub owed-longer : (old new : S) (text more bytes : List ℕ) → IsOwed answers old new text bytes → IsOwed answers old new (text ++ more) bytes
+  owed-longer old new text more bytes (inl p) = inl (p.0, p.1 ++ more, reaches-more text more p.1 p.0 p.2, p.3)
+  owed-longer old new text more bytes (inr p) = inr (p.0, p.1, p.2, breaks-more text more p.0 p.1 p.3, p.4)
+
   -- A front of what is owed is owed.
-  owed-front : (old new : S) (text front back : List ℕ) → IsOwed answers old new text (front ++ back) → IsOwed answers old new text front
+  pub owed-front : (old new : S) (text front back : List ℕ) → IsOwed answers old new text (front ++ back) → IsOwed answers old new text front
   owed-front old new text front back (inl p) =
       let b = p.3 in
       inl (p.0, p.1, p.2, (b.0, b.1, back ++ b.2, b.3, subst (IsAnswered answers old new b.0) (append_assoc front back b.2) b.4))
@@ -166,7 +204,7 @@ module _ {S : Type 0} (answers : Relation S) where
   pub piece-stops : (old new : S) (had piece bytes rest : List ℕ) (all : Requests) (kept : Option (List ℕ)) (why : SessionFault)
       → Reaches (had ++ piece) all rest → AnswersAll answers old new (handed all) bytes (Err why) → ServesPiece answers old new had piece kept bytes (Err why)
   piece-stops old new had piece bytes rest all kept stop.Read r p = absurd p
-  piece-stops old new had piece bytes rest all kept stop.Write r p = inl (all, rest, r, p)
+  piece-stops old new had piece bytes rest all kept stop.Write r p = absurd p
   piece-stops old new had piece bytes rest all kept stop.NoMemory r p = (all, rest, p.0, r, p.2, inl p.1)
 
   -- a piece whose requests are answered

@@ -5,7 +5,7 @@ use Rattle.zq_resp.specs.declared.fault.FeedFault.{FeedFault}
 use Rattle.zq_resp.specs.Front.{Part}
 use Rattle.zq_resp.specs.Grammar.{request_at}
 use Rattle.zq_resp.specs.Stream.{Requests, Reaches, Splits, Breaks, handed}
-use Rattle.zq_resp.proofs.Stable.{got_stays}
+use Rattle.zq_resp.proofs.Stable.{got_stays, wrong_stays}
 
 -- more bytes
 pub reaches-more : (bytes more rest : List ℕ) (all : Requests) → Reaches bytes all rest → Reaches (bytes ++ more) all (rest ++ more)
@@ -25,6 +25,10 @@ splits-on text had piece rest all more p q = record { reaches = reaches-on text 
 
 pub breaks-on : (text had piece : List ℕ) (all more : Requests) (why : FeedFault) → Splits text all had → Breaks (had ++ piece) more why → Breaks (text ++ piece) (all ++ more) why
 breaks-on text had piece all more why p q = record { rest = q.rest; reaches = reaches-on text had piece q.rest all more p.reaches q.reaches; wrong = q.wrong }
+
+-- more bytes, behind what begins no request
+pub breaks-more : (text more : List ℕ) (all : Requests) (why : FeedFault) → Breaks text all why → Breaks (text ++ more) all why
+breaks-more text more all why p = record { rest = p.rest ++ more; reaches = reaches-more text more p.rest all p.reaches; wrong = wrong_stays p.rest more why p.wrong }
 
 pub handed-append : (xs ys : Requests) → handed (xs ++ ys) ≡ handed xs ++ handed ys
 handed-append xs ys = filter-append _ xs ys

@@ -1,6 +1,6 @@
 -- Bytes that are gathered, and written when they are many.
-use Rattle.std.specs.Prelude.{◌≡◌, ◌<◌, ℕ, List, [], ◌++◌, length, Result, Ok, Err}
-use Rattle.zq_session.specs.Steps.{Does, FULL, Fills, Says}
+use Rattle.std.specs.Prelude.{◌≡◌, ℕ, List, ◌++◌, Result, Ok, Err}
+use Rattle.zq_session.specs.Steps.{Does, Fills, Says}
 use Rattle.zq_session.specs.declared.outcome.SessionFault.{SessionFault}
 use Rattle.zq_session.specs.declared.outcome.SessionFault.TheVariants.{Read, Write, NoMemory}
 
@@ -22,15 +22,6 @@ Gathers does old new bytes = (sent : List ℕ) × Fills does old.ends new.ends s
 abbrev pub IsCutOff : {S : Type 0} → Does S → Held S → Held S → List ℕ → Type 0
 IsCutOff does old new bytes = (sent lost : List ℕ) × Says does old.ends new.ends sent
     × (old.gathered ++ bytes ≡ sent ++ lost)
-
--- One reply: less than a full part waits then. Where memory is refused for it, nothing is put
--- behind what was gathered.
-abbrev pub Gives : {S : Type 0} → Does S → Held S → Held S → List ℕ →
-    Result (Unit {0}) SessionFault → Type 0
-Gives does old new bytes (Ok done) = Gathers does old new bytes × (length new.gathered < FULL)
-Gives does old new bytes (Err Read) = ⊥
-Gives does old new bytes (Err Write) = IsCutOff does old new bytes
-Gives does old new bytes (Err NoMemory) = Gathers does old new []
 
 -- The bytes that were put behind what was gathered, by how it ended.
 abbrev pub Puts : {S T : Type 0} → Does S → Held S → Held S → List ℕ → Result T SessionFault →

@@ -2,6 +2,9 @@ pub mod Steps
 pub mod Gathering
 pub mod Serving
 pub mod Session
+pub mod Answering
+pub mod Among
+pub mod Connection
 pub mod Conversation
 pub mod Plain
 pub mod Meaning

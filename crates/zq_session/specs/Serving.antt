@@ -13,12 +13,12 @@ use Rattle.zq_session.specs.declared.outcome.SessionFault.{SessionFault}
 use Rattle.zq_session.specs.declared.outcome.SessionFault.TheVariants as stop
 use Rattle.zq_session.specs.Session.{Relation, IsAnswered, IsBegun, IsClosed, IsStopped, IsOwed, IsWanting, Serves}
 
--- The bytes for some requests, by how it ended.
+-- The bytes for some requests, where memory may be refused and nothing is written yet.
 abbrev pub AnswersAll : {S : Type 0} → Relation S → S → S → Requests → List ℕ →
     Result (Unit {0}) SessionFault → Type 0
 AnswersAll answers old new requests bytes (Ok done) = IsAnswered answers old new requests bytes
 AnswersAll answers old new requests bytes (Err stop.Read) = ⊥
-AnswersAll answers old new requests bytes (Err stop.Write) = IsBegun answers old new requests bytes
+AnswersAll answers old new requests bytes (Err stop.Write) = ⊥
 AnswersAll answers old new requests bytes (Err stop.NoMemory) =
     (unwritten : List Reply) × (unwritten ≢ []) × IsStopped answers old new requests bytes unwritten
 

@@ -1,6 +1,6 @@
 //! What a server of a site answers, by the operations that the site has taken by then.
 
-ghost use Rattle.std.specs.Prelude.{List, Ok, [], true, ℕ, ◌++◌, ◌∷◌, ◌≡◌, ◌≤◌};
+ghost use Rattle.std.specs.Prelude.{List, Ok, Result, [], true, ℕ, ◌++◌, ◌∷◌, ◌≡◌, ◌≤◌};
 ghost use Rattle.zq_dots.specs.Rule.{rule_of};
 ghost use Rattle.zq_model.specs.Operation.{Operation};
 ghost use Rattle.zq_model.specs.Rule.{Rule as Rules};
@@ -14,9 +14,13 @@ ghost use Rattle.zq_resp.specs.Stream.{Requests};
 ghost use Rattle.zq_resp.specs.declared.reply.Reply.{Reply as Replies};
 ghost use Rattle.zq_semantics.specs.Reading.{heaps_in, is_question, queues_over};
 ghost use Rattle.zq_notes.specs.Sites.{AreEventsOf, Event, has_at, made_of};
+ghost use Rattle.zq_session.specs.Among.{AnyRequest};
 ghost use Rattle.zq_session.specs.Calls.{AreAnsweredBy, Asking, IsAnsweredBy, IsAskingOf, IsCallOf, Stands, StandsBy};
+ghost use Rattle.zq_session.specs.Connection.{IsSession};
 ghost use Rattle.zq_session.specs.Passing.{AnswersByCall, Passed, words_for};
 ghost use Rattle.zq_session.specs.Session.{Runs};
+ghost use Rattle.zq_session.specs.declared.outcome.End.{End};
+ghost use Rattle.zq_session.specs.declared.outcome.SessionFault.{SessionFault};
 ghost use Rattle.zq_spread.specs.Calls.{heaps_of};
 ghost use Rattle.zq_spread.specs.declared.site.Site.{Site};
 ghost use Rattle.zq_words.specs.Command.{Command, command_of};
@@ -27,7 +31,8 @@ use zq_semantics::asking;
 
 /// Each request of a server of a site is a call of the site, or left no note; and so is each of a
 /// session, one after the other by its pass, at one site, each with the words that the draws of the
-/// one before left. Where the site's calls each found in their heaps what those before them left
+/// one before left; and so is each of a connection that is served in turn with others, and each of
+/// theirs between. Where the site's calls each found in their heaps what those before them left
 /// there, and what they make, take and merge is of one world, the reply is what the operations
 /// gathered before the call answer: by the plan of the command over their queues, or by that of a
 /// cut, whose moves are the call's steps; and a request that only reads is answered what these
@@ -40,6 +45,10 @@ pub fn passing_meaning()
         Stands p old (command_of words) (reply_bytes reply) new }
     ensures sessions { (p : ℕ) (old new : Passed) (requests : Requests) (replies : List Replies) →
         Runs AnswersByCall old requests replies new → Runs (StandsBy p) old requests replies new }
+    ensures connections { (p : ℕ) (begun now : Passed) (text written : Word)
+        (ended : Result End SessionFault) →
+        IsSession (AnyRequest AnswersByCall) AnswersByCall begun now text written ended →
+        IsSession (AnyRequest (StandsBy p)) (StandsBy p) begun now text written ended }
     ensures runs { (W : List Operation) (opening : Books) (before : List Call) (c : Call)
         (after : List Call) (old new : Passed) (command : Command) (bytes : Word) →
         IsWorld (heaps_of old.site) W →

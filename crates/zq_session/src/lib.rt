@@ -1,6 +1,9 @@
 //! Sessions of a server that speaks the protocol of Redis.
 #![tactic(auto)]
 
+mod along;
+mod answering;
+mod connection;
 mod ends;
 mod gathering;
 mod histories;
@@ -12,6 +15,8 @@ mod serving;
 mod stream;
 mod transfer;
 
+pub use along::keeping;
+pub use connection::Connection;
 pub use ends::Ends;
 pub use histories::passing_meaning;
 pub use meanings::meaning;

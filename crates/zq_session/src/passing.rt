@@ -65,10 +65,15 @@ fn draw(draws: &mut Draws, command: &Command) -> (u64, u64)
 }
 
 impl<'a, R: Wait> Answers for Passing<'a, R> {
+    ghost use Rattle.zq_session.specs.Among.{AnyRequest};
     ghost use Rattle.zq_session.specs.Passing.{AnswersByCall, passed};
 
     ghost answers = { λ old words reply new.
         AnswersByCall (passed old.site.now old.pass old.draws) words reply
+        (passed new.site.now new.pass new.draws) };
+
+    ghost others = { λ old new.
+        AnyRequest AnswersByCall (passed old.site.now old.pass old.draws)
         (passed new.site.now new.pass new.draws) };
 
     fn answer(&mut self, alloc: Global, request: &Request) -> Reply {

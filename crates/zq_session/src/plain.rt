@@ -89,9 +89,12 @@ impl Plain {
 }
 
 impl Answers for Plain {
+    ghost use Rattle.zq_session.specs.Among.{AnyRequest};
     ghost use Rattle.zq_session.specs.Plain.{AnswersByPlan};
 
     ghost answers = { AnswersByPlan };
+
+    ghost others = { AnyRequest AnswersByPlan };
 
     fn answer(&mut self, alloc: Global, request: &Request) -> Reply {
         match Command::read(alloc, request) {

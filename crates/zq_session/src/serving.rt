@@ -1,15 +1,17 @@
 //! Answers to the requests of one piece of the input.
 
-ghost use Rattle.std.specs.Prelude.{◌≡◌, ◌++◌, ◌+◌, ◌<◌, ◌∷◌, ◌↔◌, [], IsErrOf, IsTrue, List, MatchResult, OnErr, length, ℕ, Some};
+ghost use Rattle.std.specs.Prelude.{◌≡◌, ◌++◌, ◌+◌, ◌<◌, ◌↔◌, IsTrue, List, MatchResult, OnErr, length, ℕ, Some};
 ghost use Rattle.std.specs.Vec.{vec_capacity, vec_len};
-ghost use Rattle.zq_resp.specs.Reply.{is_writable, reply_bytes};
+ghost use Rattle.zq_resp.specs.Reply.{is_writable};
 ghost use Rattle.zq_resp.specs.declared.reply.Reply.{Reply};
 ghost use Rattle.zq_session.specs.Gathering.{Puts, held};
 ghost use Rattle.zq_session.specs.Session.{closing};
-ghost use Rattle.zq_session.specs.Serving.{AnswersAll, IsBreak, ServesPiece};
+ghost use Rattle.zq_session.specs.Serving.{IsBreak, ServesPiece};
+ghost use Rattle.zq_session.specs.Steps.{FULL};
 
+use crate::answering::answer_some;
 use crate::ends::Ends;
-use crate::gathering::gather;
+use crate::gathering::{GATHERED, write_many};
 use crate::outcome::SessionFault;
 use std::alloc::Global;
 use zq_resp::{FeedFault, Reader, Reply, Request, write_reply};
@@ -18,6 +20,10 @@ use zq_resp::{FeedFault, Reader, Reply, Request, write_reply};
 pub trait Answers {
     /// The state before, a request's words, the reply, and the state after.
     ghost answers: { Self → List (List ℕ) → Reply → Self → Type 0 };
+
+    /// What a request of another connection may do, where one answers for more than one: the state
+    /// before and after. What a connection has of its own stays the same there.
+    ghost others: { Self → Self → Type 0 } = { λ _ _. ⊥ };
 
     /// The reply to a request. Its texts end no line.
     fn answer(&mut self, alloc: Global, request: &Request) -> Reply
@@ -50,6 +56,7 @@ pub fn serve_piece<A: Answers, R, W, E: Ends<R, W>>(
     writer: &mut W,
     out: &mut Vec<u8>,
 ) -> Result<Served, SessionFault>
+    requires few { length out.old.items < FULL }
     ensures { (had : List ℕ) → input.old ≡ Some had → (bytes : List ℕ)
         × ServesPiece A.answers answerer.old answerer.new had piece.now input.new bytes result
         × Puts E.does (held (reader.old, writer.old) out.old.items)
@@ -59,46 +66,19 @@ pub fn serve_piece<A: Answers, R, W, E: Ends<R, W>>(
     let _inside = input.inside();
     let mut at = 0;
     while at < piece.len() {
-        match input.next_request(alloc, &piece[at..]) {
-            Ok((found, taken)) => {
-                if let Some(request) = found {
-                    answer_one(alloc, answerer, &request, ends, reader, writer, out)?;
-                    input.give_back(request);
-                }
-                at += taken;
-            }
-            Err(fault) => return end(fault, out),
+        let answered = answer_some(alloc, answerer, input, &piece[at..], out, GATHERED)?;
+        write_many(ends, reader, writer, out)?;
+        match answered.served {
+            Served::More => at += answered.taken,
+            Served::Broken => return Ok(Served::Broken),
         }
     }
     Ok(Served::More)
 }
 
-/// Answers a request. Memory is wanting only where there is no room for the reply behind what is
-/// gathered.
-fn answer_one<A: Answers, R, W, E: Ends<R, W>>(
-    alloc: Global,
-    answerer: &mut A,
-    request: &Request,
-    ends: &E,
-    reader: &mut R,
-    writer: &mut W,
-    out: &mut Vec<u8>,
-) -> Result<(), SessionFault>
-    ensures answered { (bytes : List ℕ)
-        × AnswersAll A.answers answerer.old answerer.new (request.now ∷ []) bytes result
-        × Puts E.does (held (reader.old, writer.old) out.old.items)
-        (held (reader.new, writer.new) out.new.items) bytes result }
-    ensures full { IsErrOf result SessionFault.NoMemory → (reply : Reply)
-        × A.answers answerer.old request.now reply answerer.new
-        × (vec_capacity out.old < vec_len out.old + length (reply_bytes reply)) }
-{
-    let reply = answerer.answer(alloc, request);
-    gather(ends, reader, writer, out, &reply)
-}
-
 /// Ends the input at a fault. One that closes the input finds no memory only where there is no room
 /// for the closing words.
-fn end(fault: FeedFault, out: &mut Vec<u8>) -> Result<Served, SessionFault>
+pub(crate) fn end(fault: FeedFault, out: &mut Vec<u8>) -> Result<Served, SessionFault>
     ensures ended { MatchResult result
         (λ served. IsBreak fault × (served ≡ Served.Broken)
         × (out.new.items ≡ out.old.items ++ closing))

@@ -6,8 +6,10 @@ use Rattle.zq_notes.specs.Gathered.{gathered}
 use Rattle.zq_notes.specs.Sites.{has_at, made_of}
 use Rattle.zq_resp.specs.Reply.{reply_bytes}
 use Rattle.zq_session.proofs.InHistory.{all_stand, answered_so, run_off, stands}
-use Rattle.zq_session.specs.Calls.{IsAnsweredBy}
-use Rattle.zq_session.specs.Passing.{words_for}
+use Rattle.zq_session.proofs.Seen.{session-seen}
+use Rattle.zq_session.specs.Among.{AnyRequest}
+use Rattle.zq_session.specs.Calls.{IsAnsweredBy, StandsBy}
+use Rattle.zq_session.specs.Passing.{AnswersByCall, words_for}
 use Rattle.zq_spread.specs.Calls.{heaps_of}
 use Rattle.zq_words.specs.Command.{command_of}
 use Rattle.zq_session.proofs.histories.passing_meaning.Goals as goal
@@ -17,6 +19,12 @@ returns-clause-stands c = λ p old new words reply is. stands c.noting.ensures.c
 
 pub returns-clause-sessions : goal.returns-clause-sessions
 returns-clause-sessions c = λ p old new requests replies is. all_stand c.noting.ensures.calls p old new requests replies is
+
+pub returns-clause-connections : goal.returns-clause-connections
+returns-clause-connections c = λ p begun now text written ended is.
+    session-seen (λ s. s) (AnyRequest AnswersByCall) (AnyRequest (StandsBy p)) AnswersByCall (StandsBy p)
+    (λ old new any. (any.0, any.1, stands c.noting.ensures.calls p old new (reply_bytes any.1) (command_of any.0) any.2))
+    (λ old new words reply is. stands c.noting.ensures.calls p old new (reply_bytes reply) (command_of words) is) begun now text written ended is
 
 pub returns-clause-runs : goal.returns-clause-runs
 returns-clause-runs c = λ W opening before call after old new command bytes world are over of is.

@@ -1,0 +1,25 @@
+use Rattle.std.proofs.Common.{◌≡◌, ◌++◌, ap, refl, subst, sym, ◌∙◌}
+use Rattle.zq_session.proofs.Connections.{along-again, requests-again}
+use Rattle.zq_session.specs.Connection.{CanGoOn, ConnectionState, IsAlong}
+use Rattle.zq_session.proofs.connection.Connection.go_on.Goals as goal
+
+pub returns-clause-along : goal.returns-clause-along
+returns-clause-along g c = λ begun text written p.
+    let s = c.self.inside in
+    let old : ConnectionState = record { unfinished = s.reader; waiting = s.waiting.items; replies = s.replies.items; sent = s.sent; is_closed = s.is_closed } in
+    let view : old ≡ c.args.self.now = c.self.view_is in
+    let can = subst CanGoOn (sym view) c.requires in
+    let along = subst (IsAlong g.A.Answers.others g.A.Answers.answers begun c.args.answerer.now text written) (sym view) p in
+    let piece : c.deref.result.now ≡ s.waiting.items = c.deref.ensures.value ∙ ap (λ v. v.items) c.replace-piece.ensures.value in
+    let none = ap (λ v. v.items) c.replace-piece.ensures.after ∙ c.new.ensures.items in
+    along-again g.A.Answers.others g.A.Answers.answers begun _ text written old _ along refl none refl refl refl _ _
+    (λ taken q. subst (λ piece. IsAlong g.A.Answers.others g.A.Answers.answers begun c.hear.new.answerer (taken ++ piece) written c.hear.new.self) piece (c.hear.ensures.along begun taken written q)) can.is_open
+
+pub returns-clause-requests : goal.returns-clause-requests
+returns-clause-requests g c = λ begun text written p.
+    let s = c.self.inside in
+    let old : ConnectionState = record { unfinished = s.reader; waiting = s.waiting.items; replies = s.replies.items; sent = s.sent; is_closed = s.is_closed } in
+    let view : old ≡ c.args.self.now = c.self.view_is in
+    let along = subst (IsAlong g.A.Answers.others g.A.Answers.answers begun c.args.answerer.now text written) (sym view) p in
+    let none = ap (λ v. v.items) c.replace-piece.ensures.after ∙ c.new.ensures.items in
+    requests-again g.A.Answers.others g.A.Answers.answers begun _ text written old _ along refl none refl refl refl _ (λ taken q. c.hear.ensures.requests begun taken written q)
