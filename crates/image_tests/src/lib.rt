@@ -9,6 +9,8 @@ mod dots;
 #[cfg(test)]
 mod entry;
 #[cfg(test)]
+mod held;
+#[cfg(test)]
 mod journal;
 #[cfg(test)]
 mod plain;

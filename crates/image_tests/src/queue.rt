@@ -12,7 +12,7 @@ use zq_queue::Queue;
 
 /// One of two sides.
 #[derive(Clone, Copy)]
-enum Who {
+pub enum Who {
     A,
     B,
 }
@@ -113,7 +113,9 @@ impl Sides {
         match *step {
             Step::Put(who, member, value) => self.side(who).puts(alloc, member, value),
             Step::Drop(who, member) => self.side(who).drops(alloc, member),
-            Step::Undone(who, member, value) => self.side(who).undoes(alloc, member, value),
+            Step::Undone(who, member, value) => self
+                .side(who)
+                .undoes(alloc, &[member], Some(value)),
             Step::Meet => self.meet(alloc),
             Step::Shows(who, pairs) => shows_queue(&self.side(who).queue, alloc, pairs),
         }

@@ -1,6 +1,7 @@
 //! Two sites that make, deliver and merge, step by step, and what is refused.
 
 mod comparison;
+mod keys;
 mod steps;
 
 use crate::deed::Deed;

@@ -5,12 +5,13 @@
 //! nothing was lost, 10 where memory was refused before or after the call, 4 where a line cannot be
 //! read or written, and 1 where something was lost, or came otherwise than it is owed.
 //! tools/refused-growths runs each case with each growth refused in turn. The cases of nodes, links
-//! and worlds stand here, all others in the library `zq_trials`.
+//! and worlds stand here, and that of a key's forms; all others in the library `zq_trials`.
 //!
 //! `zq_hostile texts` reads texts of settings from standard input, and says what each is read as;
 //! bench/fuzz.py draws them.
 #![tactic(auto)]
 
+mod forms;
 mod hearing;
 mod links;
 mod nodes;
@@ -95,10 +96,10 @@ fn tell<R: Print>(rt: &R, name: &str, ended: Option<Ended>) -> io::Result<()> {
     }
 }
 
-/// How the case of this name ends: one that needs a node, a link or a world, or else one that needs
-/// none.
+/// How the case of this name ends: one that stands here, or else one of `zq_trials`.
 fn case<R: Threads + Wait + Sync>(rt: &R, alloc: Global, name: &str) -> Option<Ended> {
     match name {
+        "forms" => forms::grown(alloc),
         "play" => playing::world(alloc),
         "work" => working::workers(rt, alloc),
         "hear" => at_node(rt, alloc, Hearing::Frame { is_turned: false }),

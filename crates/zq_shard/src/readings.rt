@@ -15,9 +15,10 @@ use std::alloc::{AllocError, Global};
 
 impl Shard {
     /// Makes an ordered index of a key's members, unless it has one or has no more members than so
-    /// many. Until the key is gone, or the shard is merged, changes keep it, and readings of the
-    /// key in order cost a logarithm of its members and what they answer. Where memory is refused
-    /// there is no index, now or from a later change on, and such readings look at all members.
+    /// many, or few. Until the key has few, or the shard is merged, changes keep it, and readings of
+    /// the key in order cost a logarithm of its members and what they answer. Where memory is
+    /// refused there is no index, now or from a later change on, and such readings look at all
+    /// members.
     pub fn index(&mut self, alloc: Global, key: &[u8], most: usize)
         ensures { self.new ≡ self.old }
     {

@@ -1,5 +1,5 @@
 //! A queue at one side, with the vector of what the side has seen.
-ghost use Rattle.std.specs.Prelude.{false, ◌≡◌, ◌≤◌};
+ghost use Rattle.std.specs.Prelude.{IfSome, false, ◌≡◌, ◌≤◌};
 ghost use Rattle.zq_dots.specs.Act.{act_of};
 ghost use Rattle.zq_model.specs.Operation.{is_bump};
 ghost use Rattle.zq_model.specs.Sets.{LAST};
@@ -29,42 +29,34 @@ impl Side {
 
     /// Puts a member of one byte at this score: whether it could.
     pub fn puts(&mut self, alloc: Global, member: u8, value: i64) -> bool {
-        self.puts_name(alloc, &[member], value)
+        self.changes(alloc, &[member], Some(value)).is_some()
     }
 
     /// Drops a member of one byte: whether it could.
     pub fn drops(&mut self, alloc: Global, member: u8) -> bool {
-        self.drops_name(alloc, &[member])
+        self.changes(alloc, &[member], None).is_some()
     }
 
-    /// Puts a member of one byte at this score, and the member gets back what it had: whether it
-    /// could.
-    pub fn undoes(&mut self, alloc: Global, member: u8, value: i64) -> bool {
-        self.undoes_name(alloc, &[member], Some(value))
-    }
-
-    /// Puts a member at this score: whether it could.
-    pub fn puts_name(&mut self, alloc: Global, member: &[u8], value: i64) -> bool {
-        match Score::new(value) {
-            Some(score) => self.take(alloc, member, Act::Put(score)).is_some(),
-            None => false,
+    /// Puts a member at this score, or drops it, and answers the score that it had; `None` where it
+    /// could not.
+    pub fn changes(
+        &mut self,
+        alloc: Global,
+        member: &[u8],
+        value: Option<i64>,
+    ) -> Option<Option<i128>> {
+        let rule = self.queue.rule();
+        match self.take(alloc, member, act(value)?)? {
+            Some(before) => Some(before.score(rule)),
+            None => Some(None),
         }
-    }
-
-    /// Drops a member: whether it could.
-    pub fn drops_name(&mut self, alloc: Global, member: &[u8]) -> bool {
-        self.take(alloc, member, Act::Drop).is_some()
     }
 
     /// Puts a member at this score, or drops it, and the member gets back what it had: whether it
     /// could.
-    pub fn undoes_name(&mut self, alloc: Global, member: &[u8], value: Option<i64>) -> bool {
-        let act = match value {
-            Some(value) => match Score::new(value) {
-                Some(score) => Act::Put(score),
-                None => return false,
-            },
-            None => Act::Drop,
+    pub fn undoes(&mut self, alloc: Global, member: &[u8], value: Option<i64>) -> bool {
+        let Some(act) = act(value) else {
+            return false;
         };
         match self.take(alloc, member, act) {
             Some(before) => self.queue.put_back(member, before).is_ok(),
@@ -78,6 +70,16 @@ impl Side {
     {
         let dot = self.seen.next(self.site).ok()?;
         put(&mut self.queue, &mut self.seen, alloc, dot, member, act)
+    }
+}
+
+/// A Put at this score, or a Drop; `None` where the number is no score.
+fn act(value: Option<i64>) -> Option<Act>
+    ensures { IfSome result (λ act. is_bump (act_of act) ≡ false) }
+{
+    match value {
+        Some(value) => Some(Act::Put(Score::new(value)?)),
+        None => Some(Act::Drop),
     }
 }
 
