@@ -14,6 +14,7 @@ import tempfile
 import threading
 
 import pipe
+import served
 import streams
 
 ROOT = pathlib.Path(__file__).resolve().parent.parent
@@ -37,7 +38,7 @@ def requests(count):
 def of_zqueue(count):
     """Bytes that the members take in `./zqueue pipe`, without an index and with one."""
     program = ROOT / "crates" / "zqueue" / "out" / "zqueue"
-    with subprocess.Popen([program, "pipe"], stdin=subprocess.PIPE, stdout=subprocess.PIPE) as process:
+    with subprocess.Popen([program, "pipe"], stdin=subprocess.PIPE, stdout=subprocess.PIPE, env=served.ENVIRONMENT) as process:
         def call(data, size):
             sender = threading.Thread(target=lambda: (process.stdin.write(data), process.stdin.flush()))
             sender.start()

@@ -20,6 +20,7 @@ import tempfile
 import threading
 import time
 
+import served
 import streams
 
 ROOT = pathlib.Path(__file__).resolve().parent.parent
@@ -56,7 +57,7 @@ class Feed:
 
     def seconds(self, *to, first=None):
         command = [self.program, first or self.first, self.second, *map(str, to)]
-        return float(subprocess.run(command, stdout=subprocess.PIPE, check=True).stdout)
+        return float(subprocess.run(command, stdout=subprocess.PIPE, check=True, env=served.ENVIRONMENT).stdout)
 
 
 class Redis:

@@ -1,6 +1,8 @@
 """A `zqueue serve` of a run's own, on free ports of the loopback."""
 import contextlib
+import os
 import pathlib
+import re
 import shutil
 import socket
 import subprocess
@@ -11,6 +13,10 @@ import time
 ROOT = pathlib.Path(__file__).resolve().parent.parent
 # Seconds within which all ports have to be listened on.
 OPENING = 20
+# What `./zqueue` tells the C library of memory.
+TUNABLES = re.search(r"GLIBC_TUNABLES=.*}(.*)\"", (ROOT / "zqueue").read_text())[1]
+# The environment in which it starts the program.
+ENVIRONMENT = {**os.environ, "GLIBC_TUNABLES": TUNABLES}
 
 
 def built():
@@ -73,7 +79,7 @@ class Served:
         self.written, self.complaints = folder / "written", folder / "complaints"
         words = guarded([program, "serve", folder / "settings.toml"])
         with open(self.written, "wb") as out, open(self.complaints, "wb") as errors:
-            self.server = subprocess.Popen(words, stdin=subprocess.DEVNULL, stdout=out, stderr=errors)
+            self.server = subprocess.Popen(words, stdin=subprocess.DEVNULL, stdout=out, stderr=errors, env=ENVIRONMENT)
 
     def is_open(self, is_last):
         """Whether all ports are listened on. Where not, the server is gone; the last time that is an error."""
