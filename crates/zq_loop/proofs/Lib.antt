@@ -1,0 +1,2 @@
+pub mod AtSocket
+pub mod Crossing
