@@ -1,2 +1,0 @@
-pub mod AtSocket
-pub mod Crossing

@@ -1,5 +1,0 @@
-use Rattle.zq_session.specs.Steps.{heard, said}
-use Rattle.zq_loop.proofs.peer.Peer.serve.Goals as goal
-
-pub returns-then-can_go_on-clause-requests : goal.returns-then-can_go_on-clause-requests
-returns-then-can_go_on-clause-requests g c = λ first begun p. c.go_on.ensures.requests begun (heard p.steps) (said p.steps) p.along

@@ -1,2 +1,0 @@
-pub mod Socket
-pub mod Peer
