@@ -28,15 +28,17 @@ pub const LAST_COUNT: u64 = 4_611_686_018_427_387_904;
 /// The base is not kept: each record has what its member had before it, so that undoing the records
 /// from the newest to the oldest gives the base's members. Its vector is kept.
 /// The records lie in a ring, so that a cut of the oldest moves none that stay.
+// Fields lie in this order: what every call reads and writes is in few lines of a cache, beside the
+// front of the shard, and the vector behind all.
 #[derive(Drop)]
 pub struct Book {
-    pub(crate) shard: Shard,
-    pub(crate) vector: Vector,
-    pub(crate) tail: VecDeque<Record>,
     pub(crate) stamp: u64,
     pub(crate) count: u64,
+    pub(crate) tail: VecDeque<Record>,
     pub(crate) limits: TailLimits,
     pub(crate) handed: Option<u64>,
+    pub(crate) shard: Shard,
+    pub(crate) vector: Vector,
 }
 
 impl Model for Book {

@@ -11,10 +11,13 @@ use indexmap::IndexMap;
 use std::cell::Cell;
 
 /// Where the last look-up in a map ended, and the next one begins: a call often looks for the name
-/// that the one before it found, and then hashes nothing. What is found does not depend on it.
+/// that the one before it found, and then hashes nothing. A name that ends in other bytes is looked
+/// for at once, so that a wrong guess reads nothing of the map. What is found does not depend on it.
 #[derive(Drop)]
 pub struct Guess {
     index: Cell<usize>,
+    // How the name there ends, where that is known.
+    ending: Cell<Option<u64>>,
 }
 
 impl Guess {
@@ -22,6 +25,7 @@ impl Guess {
     pub fn new() -> Guess {
         Guess {
             index: Cell::new(0),
+            ending: Cell::new(None),
         }
     }
 
@@ -35,12 +39,23 @@ impl Guess {
             (λ index. slice_get (values names.now) index ≡ get_by (same_key name.now) names.now) }
     {
         let guess = self.index.get();
-        if is_at(names, guess, name) {
+        let ending = ending_of(name);
+        if self.fits(ending) && is_at(names, guess, name) {
             return Some(guess);
         }
         let index = names.get_index_of(NameRef(name))?;
         self.index.set(index);
+        self.ending.set(Some(ending));
         Some(index)
+    }
+
+    /// Whether a name that ends so may be the one at the guess.
+    #[inline(always)]
+    fn fits(&self, ending: u64) -> bool {
+        match self.ending.get() {
+            Some(known) => known == ending,
+            None => true,
+        }
     }
 
     /// What a map has for a name, and `None` where the name is not there.
@@ -52,9 +67,22 @@ impl Guess {
         Some(value)
     }
 
-    /// Notes an index at which the next look-up is to begin.
+    /// Notes an index at which the next look-up is to begin, whatever its name.
     pub fn note(&self, index: usize) {
         self.index.set(index);
+        self.ending.set(None);
+    }
+}
+
+/// The last eight bytes of a name, or the last four of a shorter one.
+#[inline(always)]
+fn ending_of(name: &[u8]) -> u64 {
+    match name.last_chunk::<8>() {
+        Some(bytes) => u64::from_le_bytes(*bytes),
+        None => match name.last_chunk::<4>() {
+            Some(bytes) => u64::from(u32::from_le_bytes(*bytes)),
+            None => 0,
+        },
     }
 }
 

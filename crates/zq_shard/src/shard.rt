@@ -20,12 +20,14 @@ use zq_entry::Entry;
 use zq_posheap::Seeded;
 
 /// One heap of a site: its version vector, and its keys with the members that have live additions.
+// Fields lie in this order: what every call reads is in few lines of a cache, and the vector behind
+// it.
 #[derive(Drop)]
 pub struct Shard {
     pub(crate) heap: u8,
     pub(crate) heaps: u8,
-    pub(crate) vector: Vector,
     pub(crate) queues: Queues,
+    pub(crate) vector: Vector,
 }
 
 impl Model for Shard {

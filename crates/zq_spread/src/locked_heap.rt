@@ -15,10 +15,11 @@ use zq_tally::Total;
 use zq_ticketlock::Keeps;
 
 /// The book of a heap, and how many records and merges the passes have made in it.
+// The total lies beside the front of the book, which every call reads and writes.
 #[derive(Drop)]
 pub struct LockedHeap {
-    pub(crate) book: Book,
     pub(crate) total: Total,
+    pub(crate) book: Book,
 }
 
 impl Keeps for LockedHeap {
