@@ -1,6 +1,6 @@
 -- Where the clearing of a key stands, and what the clearing of several comes to.
 
-use Rattle.std.proofs.Common.{Bool, List, None, [], ap, arith, true, drop, length, map, option_map, refl, subst, suc, sym, zero, ℕ, ◌++◌, ◌+◌, ◌<◌, ◌∙◌, ◌∷◌, ◌≡◌, ◌≤◌, false}
+use Rattle.std.proofs.Common.{Bool, List, None, [], ap, arith, true, drop, length, map, option_map, refl, subst, suc, sym, zero, ℕ, ◌++◌, ◌+◌, ◌<◌, ◌∙◌, ◌∷◌, ◌≡◌, ◌≤◌}
 use Rattle.std.proofs.lemmas.List.{length-append, length-map, take-append-le, take_all}
 use Rattle.std.proofs.lemmas.Option.{slice_get-map}
 use Rattle.std.specs.Prelude.{Some, if◌then◌else◌, slice_get, take}

@@ -1,6 +1,6 @@
 -- Where a pop stands after some of its pairs, and what it comes to.
 
-use Rattle.std.proofs.Common.{Bool, List, [], ap, arith, drop, flat_map, length, map, refl, subst, suc, sym, true, zero, ℕ, ◌++◌, ◌+◌, ◌<◌, ◌∙◌, ◌∷◌, ◌≡◌, ◌≤◌, false}
+use Rattle.std.proofs.Common.{Bool, List, [], ap, arith, drop, flat_map, length, map, refl, subst, suc, sym, true, zero, ℕ, ◌++◌, ◌+◌, ◌<◌, ◌∙◌, ◌∷◌, ◌≡◌, ◌≤◌}
 use Rattle.std.proofs.lemmas.List.{length-map, length-take, map-append, take-map, take-take, take_all}
 use Rattle.std.specs.Prelude.{Some, decimal, slice_get, take}
 use Rattle.zq_commands.proofs.InTurn.{lent-append, take_next}

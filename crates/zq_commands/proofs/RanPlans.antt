@@ -5,9 +5,9 @@ use Rattle.std.proofs.lemmas.Bool.{cond-true}
 use Rattle.std.specs.Prelude.{List, Some, [], codes, drop, length, slice_get, take, ℕ, ◌++◌, ◌+◌, ◌∷◌, ◌≡◌}
 use Rattle.zq_commands.proofs.InTurn.{StandsAfter, moves_split, stands_cut, stands_whole}
 use Rattle.zq_commands.specs.Stopped.{want_of}
-use Rattle.zq_commands.specs.Lending.{Lending, lent_after, queues_in}
+use Rattle.zq_commands.specs.Lending.{Lending, queues_in}
 use Rattle.zq_commands.specs.Commands.{IsRunOver, is_reading}
-use Rattle.zq_commands.specs.Running.{EndsOver, IsReadAs, lent_after_all, part, whole}
+use Rattle.zq_commands.specs.Running.{EndsOver, IsReadAs, part, whole}
 use Rattle.zq_commands.specs.declared.stopped.Stopped.{Stopped}
 use Rattle.zq_commands.specs.declared.stopped.Stopped.TheVariants.{NoMemory, Worn}
 use Rattle.zq_model.specs.Moves.{Move, Queues, after_all}

@@ -51,4 +51,16 @@ book_code =
         (b.rule, (b.base, (b.state, (b.tail, (b.stamp, (b.count, (b.limits, b.handed))))))),
       ),
     ))
-    (λ p. record { heap = p.0; heaps = p.1.0; rule = p.1.1.0; base = p.1.1.1.0; state = p.1.1.1.1.0; tail = p.1.1.1.1.1.0; stamp = p.1.1.1.1.1.1.0; count = p.1.1.1.1.1.1.1.0; limits = p.1.1.1.1.1.1.1.1.0; handed = p.1.1.1.1.1.1.1.1.1 }) (λ _. refl)
+    (λ p. record {
+      heap = p.0;
+      heaps = p.1.0;
+      rule = p.1.1.0;
+      base = p.1.1.1.0;
+      state = p.1.1.1.1.0;
+      tail = p.1.1.1.1.1.0;
+      stamp = p.1.1.1.1.1.1.0;
+      count = p.1.1.1.1.1.1.1.0;
+      limits = p.1.1.1.1.1.1.1.1.0;
+      handed = p.1.1.1.1.1.1.1.1.1;
+    })
+    (λ _. refl)

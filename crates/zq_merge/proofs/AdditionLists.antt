@@ -1,11 +1,10 @@
 -- Additions as they are read.
 
-use Rattle.std.proofs.Common.{ap, arith, Err, false, inl, inr, length, List, None, Ok, refl, Some, subst, sym, true, [], ℕ, ℤ, ◌*◌, ◌+◌, ◌++◌, ◌<◌, ◌≤◌, ◌∙◌, ◌∷◌, ◌≡◌, ◌≢◌}
-use Rattle.std.specs.Prelude.{IsOk, pos, slice_index, slice_index_or, ◌⊎◌}
-use Rattle.zq_dots.proofs.Counters.{sites_is}
+use Rattle.std.proofs.Common.{ap, arith, Err, false, inl, inr, length, List, None, Ok, refl, Some, subst, sym, [], ℕ, ℤ, ◌*◌, ◌+◌, ◌++◌, ◌<◌, ◌≤◌, ◌∙◌, ◌∷◌, ◌≡◌}
+use Rattle.std.specs.Prelude.{IsOk, pos, slice_index, ◌⊎◌}
 use Rattle.zq_entry.specs.Sums.{dense_sums, sum_found}
-use Rattle.zq_merge.proofs.Repeated.{IsReadTo, read_done, read_fails, read_more, read_start, refused_next}
-use Rattle.zq_merge.proofs.RisingSites.{next_more, rising_more, rising_wider}
+use Rattle.zq_merge.proofs.Repeated.{IsReadTo, read_fails, read_more, read_start, refused_next}
+use Rattle.zq_merge.proofs.RisingSites.{next_more, rising_more}
 use Rattle.zq_merge.specs.Bounds.{AreAdditionsBounded, AreSumsBounded, IsAdditionBounded}
 use Rattle.zq_merge.specs.Fields.{addition_at, later_addition_at}
 use Rattle.zq_merge.specs.Reading.{many_at, next_site}
@@ -14,12 +13,10 @@ use Rattle.zq_merge.specs.Spelling.{addition_bytes}
 use Rattle.zq_merge.specs.declared.fault.StateFault.{StateFault}
 use Rattle.zq_merge.specs.declared.version.Version.{Version}
 use Rattle.zq_model.proofs.Sites.{by_site-at, length-by_site}
-use Rattle.zq_model.specs.Entry.{Addition, sum_at}
 use Rattle.zq_model.specs.Image.{Entry, is_bare}
-use Rattle.zq_model.specs.Joining.{IsKnown}
 use Rattle.zq_model.specs.Operation.{IsWithin, MOST}
 use Rattle.zq_model.specs.Rows.{OfSite, additions_from}
-use Rattle.zq_model.specs.Sets.{IsIn, SITES}
+use Rattle.zq_model.specs.Sets.{SITES}
 use Rattle.zq_model.specs.Sparse.{AreBySite}
 
 -- an entry that has an addition is not bare

@@ -1,12 +1,10 @@
 -- Additions, members and keys that were written are read again.
 
-use Rattle.std.proofs.Common.{ap, append_assoc, arith, inl, inr, length, List, None, Ok, Option, refl, Some, subst, sym, true, [], ℕ, ℤ, ◌*◌, ◌+◌, ◌++◌, ◌<◌, ◌^◌, ◌≤◌, ◌∙◌, ◌∷◌, ◌≡◌, ◌≢◌}
+use Rattle.std.proofs.Common.{ap, append_assoc, arith, inl, inr, length, List, None, Ok, Option, refl, subst, sym, true, [], ℕ, ℤ, ◌+◌, ◌++◌, ◌<◌, ◌^◌, ◌≤◌, ◌∙◌, ◌∷◌, ◌≡◌, ◌≢◌}
 use Rattle.std.proofs.lemmas.Bool.{cases_lt}
-use Rattle.std.proofs.lemmas.List.{length-append, length-map}
 use Rattle.std.specs.Int.{to_be_bytes, w64}
 use Rattle.std.specs.List.{flat_map}
-use Rattle.std.specs.Prelude.{pos, slice_index, slice_index_or}
-use Rattle.zq_dots.proofs.Counters.{last_is, sites_is}
+use Rattle.std.specs.Prelude.{slice_index}
 use Rattle.zq_entry.proofs.SparseLemmas.{rising-length}
 use Rattle.zq_fields.specs.Fields.{signed, text}
 use Rattle.zq_merge.proofs.AgainParts.{counter_again, placed_again, site_again, text_above_again}
@@ -18,8 +16,8 @@ use Rattle.zq_merge.specs.Built.{AreKeysAbove, AreMembersAbove}
 use Rattle.zq_merge.specs.Bounds.{AreAdditionsBounded, IsAdditionBounded}
 use Rattle.zq_merge.specs.Fields.{LAST_NUMBER, addition_at, additions_at, key_at, keys_at, last_key, last_member, later_addition_at, later_key_at, later_member_at, member_at, members_at, placed_member_at, sums_at}
 use Rattle.zq_merge.specs.Frame.{Frame}
-use Rattle.zq_merge.specs.Keys.{KeyRows, MemberRow, key_rows, row_in, rows_in}
-use Rattle.zq_merge.specs.Reading.{counter_at, is_after, many_at, next_site, of_part, rising_text_at, site_at}
+use Rattle.zq_merge.specs.Keys.{KeyRows, MemberRow, row_in}
+use Rattle.zq_merge.specs.Reading.{counter_at, is_after, many_at, next_site, rising_text_at, site_at}
 use Rattle.zq_merge.specs.Sound.{IsSoundRow}
 use Rattle.zq_merge.specs.Spelling.{addition_bytes, additions_bytes, key_bytes, keys_bytes, member_bytes, sums_bytes}
 use Rattle.zq_merge.specs.Version.{HasVector, sites}
@@ -29,7 +27,6 @@ use Rattle.zq_model.specs.Rows.{OfSite}
 use Rattle.zq_model.specs.Sets.{IsCounters, IsIn, SITES}
 use Rattle.zq_model.specs.Sparse.{AreBySite}
 use Rattle.zq_fields.proofs.PartsAgain.{byte_in_again, number_in_again, score_read}
-use Rattle.zq_fields.proofs.Counters.{dense_sites_is}
 use Rattle.zq_fields.specs.Reading.{byte_in, number_in, score_at}
 use Rattle.zq_fields.specs.Vectors.{DENSE_SITES}
 

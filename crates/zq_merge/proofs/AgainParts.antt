@@ -1,16 +1,13 @@
 -- Parts that were written are read again, whatever follows them.
 
-use Rattle.std.proofs.Common.{ap, arith, cond, eq-eqb, false, get_or, inl, inr, length, List, map, None, Ok, Option, refl, Some, subst, suc, sym, take, true, zero, [], ℕ, ℤ, ◌*◌, ◌+◌, ◌++◌, ◌<◌, ◌^◌, ◌==◌, ◌≤◌, ◌∙◌, ◌∷◌, ◌≡◌, ◌≢◌}
-use Rattle.std.proofs.lemmas.Bool.{cases_Bool, cases_lt}
+use Rattle.std.proofs.Common.{ap, arith, eq-eqb, false, inl, inr, length, List, None, Ok, Option, refl, Some, sym, true, ℕ, ℤ, ◌*◌, ◌+◌, ◌++◌, ◌<◌, ◌^◌, ◌==◌, ◌≤◌, ◌∷◌, ◌≡◌, ◌≢◌}
+use Rattle.std.proofs.lemmas.Bool.{cases_Bool}
 use Rattle.std.proofs.lemmas.Bool.Decides.{Decides-int_eq, nat_tests}
 use Rattle.std.proofs.lemmas.Int.{ints}
-use Rattle.std.proofs.lemmas.List.{get_or-take, get_or_past, length-take-le}
-use Rattle.std.specs.Cmp.Lexicographic.{slice_cmp}
 use Rattle.std.specs.Int.{to_be_bytes, w64, w128}
-use Rattle.std.specs.List.{flat_map}
-use Rattle.std.specs.Ordering.{int_eq, nat_cmp}
-use Rattle.std.specs.Prelude.{FitsSigned, nat_le, nat_lt, negsuc, pos, slice_index, slice_index_or, unsigned_abs}
-use Rattle.zq_dots.proofs.Counters.{last_is, sites_is}
+use Rattle.std.specs.Ordering.{int_eq}
+use Rattle.std.specs.Prelude.{FitsSigned, nat_le, nat_lt, negsuc, pos, slice_index, unsigned_abs}
+use Rattle.zq_dots.proofs.Counters.{last_is}
 use Rattle.zq_fields.proofs.Again.{u64_read}
 use Rattle.zq_fields.proofs.Halves.{i128_read}
 use Rattle.zq_fields.specs.Fields.{number_field, signed, signed_field, text}

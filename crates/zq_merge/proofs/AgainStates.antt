@@ -1,6 +1,6 @@
 -- States that were written are read again.
 
-use Rattle.std.proofs.Common.{ap, append_assoc, append-nil, arith, inl, inr, length, List, map, None, Ok, Option, refl, Some, subst, sym, [], ℕ, ◌+◌, ◌++◌, ◌<◌, ◌^◌, ◌≤◌, ◌∙◌, ◌∷◌, ◌≡◌, ◌≢◌}
+use Rattle.std.proofs.Common.{ap, append_assoc, append-nil, arith, inl, inr, length, List, map, None, Ok, Option, refl, Some, subst, sym, [], ℕ, ◌+◌, ◌++◌, ◌<◌, ◌≤◌, ◌∙◌, ◌∷◌, ◌≡◌, ◌≢◌}
 use Rattle.std.proofs.lemmas.List.{length-append, length-map}
 use Rattle.std.specs.Prelude.{Result}
 use Rattle.zq_entry.proofs.SparseLemmas.{rising-length}
@@ -12,26 +12,22 @@ use Rattle.zq_merge.specs.Fields.{frame_at, keys_at, rule_at, vector_at}
 use Rattle.zq_merge.specs.Frame.{Frame}
 use Rattle.zq_merge.specs.Groups.{AreWritable}
 use Rattle.zq_merge.specs.Keys.{KeyRows, MemberRow, by_key, key_rows, row_in, rows_in}
-use Rattle.zq_merge.specs.Reading.{of_part}
 use Rattle.zq_merge.specs.Sound.{IsSoundRow}
 use Rattle.zq_merge.specs.Spelling.{frame_bytes, keys_bytes, rule_bytes, vector_bytes}
-use Rattle.zq_merge.specs.State.{HasSpelling, IsState, end_at, fields, frame_in, front_at, heap_image, state_at, state_spelling, version_at}
+use Rattle.zq_merge.specs.State.{HasSpelling, IsState, fields, frame_in, front_at, heap_image, state_at, state_spelling, version_at}
 use Rattle.zq_merge.specs.Version.{HasRule, HasVector, version_byte}
 use Rattle.zq_merge.specs.declared.fault.StateFault.{StateFault}
 use Rattle.zq_merge.specs.declared.version.Version.{Version}
 use Rattle.zq_merge.specs.declared.version.Version.TheVariants.{One, Three, Two}
 use Rattle.zq_model.proofs.BoundedImages.{bounded_row}
 use Rattle.zq_model.proofs.Listing.{in_flat_map}
-use Rattle.zq_model.proofs.Membership.{in_left, in_right}
 use Rattle.zq_model.proofs.RowLists.{rows_are, rows_back}
 use Rattle.zq_model.specs.Bounded.{IsBoundedAt}
 use Rattle.zq_model.specs.Image.{Image, join}
 use Rattle.zq_model.specs.Rows.{OfSite, Row, image_of_rows, rows_of}
-use Rattle.zq_model.specs.Rule.{Rule}
 use Rattle.zq_model.specs.Sets.{IsCounters, IsHeaps, IsIn, SITES}
 use Rattle.zq_fields.proofs.PartsAgain.{heap_read}
 use Rattle.zq_fields.specs.Reading.{heap_at}
-use Rattle.zq_fields.specs.declared.heap_no.HeapNo.{HeapNo}
 use Rattle.zq_shard.specs.Shard.{HeapImage, IsHeapImage}
 
 -- ---- what stands before the keys

@@ -1,6 +1,6 @@
 -- Sums that were written are read again.
 
-use Rattle.std.proofs.Common.{ap, arith, cond, eq-eqb, ne_eqb, false, get_or, inl, inr, length, List, map, None, Ok, Option, refl, Some, subst, suc, sym, take, true, zero, [], ℕ, ℤ, ◌*◌, ◌+◌, ◌++◌, ◌<◌, ◌==◌, ◌≤◌, ◌∙◌, ◌∷◌, ◌≡◌, ◌≢◌}
+use Rattle.std.proofs.Common.{ap, arith, cond, eq-eqb, ne_eqb, false, get_or, inl, inr, length, List, None, Ok, refl, subst, suc, sym, take, true, zero, [], ℕ, ℤ, ◌*◌, ◌+◌, ◌++◌, ◌<◌, ◌==◌, ◌≤◌, ◌∙◌, ◌∷◌, ◌≡◌, ◌≢◌}
 use Rattle.std.proofs.lemmas.Bool.{cases_Bool, cases_lt, cond-false, cond-true}
 use Rattle.std.proofs.lemmas.Bool.Decides.{Decides-int_eq}
 use Rattle.std.proofs.lemmas.Int.{ints}
@@ -16,7 +16,7 @@ use Rattle.zq_merge.proofs.AgainParts.{site_sum_again, sum_again}
 use Rattle.zq_merge.proofs.Repeated.{AreAgain, many_again}
 use Rattle.zq_merge.proofs.RisingSites.{next_more}
 use Rattle.zq_merge.specs.Fields.{all_sums_at, each_sum_at, later_sum_at, listed_sums_at, next_sum_at, some_sums_at, sums_at}
-use Rattle.zq_merge.specs.Reading.{many_at, next_site, of_part, ◌>>=◌}
+use Rattle.zq_merge.specs.Reading.{many_at, next_site}
 use Rattle.zq_merge.specs.Spelling.{each_sum, listed_sums, sum_bytes, sums_bytes}
 use Rattle.zq_merge.specs.Version.{HasVector}
 use Rattle.zq_merge.specs.declared.version.Version.{Version}
@@ -24,7 +24,7 @@ use Rattle.zq_merge.specs.declared.version.Version.TheVariants.{One, Three, Two}
 use Rattle.zq_model.proofs.Sites.{by_site_from}
 use Rattle.zq_model.specs.Operation.{IsWithin, MOST}
 use Rattle.zq_model.specs.Sets.{IsCounters, SITES, by_site}
-use Rattle.zq_model.specs.Sparse.{AreBySite, found}
+use Rattle.zq_model.specs.Sparse.{found}
 use Rattle.zq_fields.proofs.PartsAgain.{byte_in_again}
 use Rattle.zq_fields.proofs.Counters.{dense_sites_is}
 use Rattle.zq_fields.specs.Reading.{byte_in}

@@ -2,9 +2,8 @@
 
 use Rattle.std.proofs.Common.{ap, append_assoc, append-nil, arith, drop, false, inl, inr, length, List, map, None, Ok, Option, refl, Some, subst, sym, true, [], ℕ, ◌+◌, ◌++◌, ◌<◌, ◌≤◌, ◌∙◌, ◌∷◌, ◌≡◌, ◌≢◌, Err}
 use Rattle.std.proofs.lemmas.List.{drop_at, flat_map_more, map-append}
-use Rattle.std.specs.List.{flat_map}
 use Rattle.zq_merge.proofs.KeyLists.{keys_back, keys_in_order, keys_more, last_key_more, last_member_more, members_more}
-use Rattle.zq_merge.proofs.Repeated.{IsReadTo, read_done, read_fails, read_more, read_start}
+use Rattle.zq_merge.proofs.Repeated.{IsReadTo, read_fails, read_more, read_start}
 use Rattle.zq_merge.specs.Bounds.{AreAdditionsBounded}
 use Rattle.zq_merge.specs.Built.{AreKeysAbove, AreMembersAbove, IsBuilt, keys_of, members_since}
 use Rattle.zq_merge.specs.Fields.{key_at, last_key, last_member, later_key_at, later_member_at, member_at}

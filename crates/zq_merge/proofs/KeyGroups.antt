@@ -1,16 +1,15 @@
 -- Rows of one key that stand together make one key.
 
-use Rattle.std.proofs.Common.{ap, append-nil, append_assoc, arith, cond, drop, false, inl, inr, length, List, map, refl, subst, suc, sym, zero, take, true, [], ℕ, ◌+◌, get_or, ◌++◌, ◌-◌, ◌<◌, ◌⊎◌, ◌∙◌, ◌∷◌, ◌≡◌, ◌≢◌, ◌≤◌}
+use Rattle.std.proofs.Common.{ap, append_assoc, arith, cond, drop, false, inl, inr, length, List, map, refl, suc, sym, zero, take, true, [], ℕ, ◌+◌, get_or, ◌++◌, ◌-◌, ◌<◌, ◌∙◌, ◌∷◌, ◌≡◌, ◌≢◌}
 use Rattle.std.proofs.lemmas.Bool.{cases_Bool, cond-false, cond-true}
 use Rattle.std.specs.Cmp.Lexicographic.{pointwise}
 use Rattle.std.specs.List.{flat_map}
 use Rattle.std.specs.Prelude.{nat_eq}
 use Rattle.zq_merge.proofs.KeyLists.{is_same_key, other_key, same_key}
-use Rattle.zq_merge.specs.Groups.{AreWritable, IsWritable, group_key, group_len}
-use Rattle.zq_merge.specs.Keys.{KeyRows, MemberRow, by_key, member_of, with_row}
+use Rattle.zq_merge.specs.Groups.{AreWritable, group_key, group_len}
+use Rattle.zq_merge.specs.Keys.{KeyRows, by_key, member_of, with_row}
 use Rattle.zq_model.proofs.Places.{bytes_same, same_bytes}
 use Rattle.zq_model.specs.Rows.{Row}
-use Rattle.zq_model.specs.Sets.{IsIn}
 
 -- the first key of rows is the first row's
 data FirstKey (row : Row) (rows : List Row) : Type 0 where

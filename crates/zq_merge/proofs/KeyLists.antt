@@ -1,13 +1,12 @@
 -- Rows and the keys that they make.
 
-use Rattle.std.proofs.Common.{ap, append_assoc, append-nil, arith, cond, Equal, false, Greater, inl, inr, Less, List, map, None, Option, Ordering, refl, Some, subst, sym, true, true≢false, [], ℕ, ◌++◌, ◌⊎◌, ◌∙◌, ◌∷◌, ◌≡◌, ◌≢◌}
+use Rattle.std.proofs.Common.{ap, cond, Equal, Greater, inl, inr, Less, List, map, None, Option, Ordering, refl, Some, subst, sym, true, [], ℕ, ◌++◌, ◌⊎◌, ◌∙◌, ◌∷◌, ◌≡◌, ◌≢◌}
 use Rattle.std.proofs.lemmas.Bool.{cases_Bool}
 use Rattle.std.proofs.lemmas.Cmp.{nat_list_cmp_total, tied_itself}
-use Rattle.std.proofs.lemmas.List.{map-append}
 use Rattle.std.proofs.lemmas.List.Sums.{fold-append}
 use Rattle.std.proofs.lemmas.Map.Lookups.{exact_bytes}
 use Rattle.std.specs.Cmp.Lexicographic.{pointwise, slice_cmp}
-use Rattle.std.specs.List.{flat_map, fold}
+use Rattle.std.specs.List.{fold}
 use Rattle.std.specs.Ordering.{is_lt, nat_cmp}
 use Rattle.std.specs.Prelude.{nat_eq}
 use Rattle.zq_merge.specs.Built.{AreKeysAbove, AreMembersAbove}
@@ -15,7 +14,7 @@ use Rattle.zq_merge.specs.Fields.{last_key, last_member}
 use Rattle.zq_merge.specs.Keys.{KeyRows, MemberRow, by_key, key_rows, member_of, row_in, rows_in, with_row}
 use Rattle.zq_merge.specs.Reading.{is_after}
 use Rattle.zq_model.proofs.Listing.{in_flat_map_from, in_map_from}
-use Rattle.zq_model.proofs.Membership.{in_left, in_right, in_union}
+use Rattle.zq_model.proofs.Membership.{in_union}
 use Rattle.zq_model.proofs.Places.{bytes_same, same_bytes}
 use Rattle.zq_model.proofs.Rising.{less_from}
 use Rattle.zq_model.specs.Image.{Place, place_cmp}

@@ -1,6 +1,6 @@
 -- Where memory is refused among members and keys.
 
-use Rattle.std.proofs.Common.{Err, List, Ok, Option, Result, inr, refl, subst, [], ℕ, ◌<◌, ◌≡◌}
+use Rattle.std.proofs.Common.{Err, List, Ok, Option, Result, inr, refl, subst, ℕ, ◌<◌, ◌≡◌}
 use Rattle.std.specs.Prelude.{IsOk}
 use Rattle.zq_merge.proofs.BuiltStates.{AreKeysTo, AreMembersTo}
 use Rattle.zq_merge.proofs.Repeated.{refused_next}

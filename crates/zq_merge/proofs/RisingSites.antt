@@ -1,7 +1,7 @@
 -- Values by rising site, with one more at the end.
 
-use Rattle.std.proofs.Common.{ap, arith, cond, false, refl, inl, inr, List, None, Option, Some, subst, sym, true, [], ℕ, ◌+◌, ◌++◌, ◌<◌, ◌==◌, ◌≤◌, ◌∙◌, ◌∷◌, ◌≡◌, ◌≢◌, eq-eqb, ne_eqb}
-use Rattle.std.proofs.lemmas.Bool.{cases_eq, cond-false, cond-true}
+use Rattle.std.proofs.Common.{ap, arith, cond, false, refl, List, None, Some, sym, true, [], ℕ, ◌+◌, ◌++◌, ◌<◌, ◌==◌, ◌≤◌, ◌∙◌, ◌∷◌, ◌≡◌, ◌≢◌, eq-eqb, ne_eqb}
+use Rattle.std.proofs.lemmas.Bool.{cond-false, cond-true}
 use Rattle.std.proofs.lemmas.List.Sums.{fold-append}
 use Rattle.std.specs.List.{AllByRecursion}
 use Rattle.zq_merge.specs.Reading.{next_site}

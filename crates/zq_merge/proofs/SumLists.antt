@@ -1,6 +1,6 @@
 -- Sums with their sites, as they are read.
 
-use Rattle.std.proofs.Common.{ap, arith, cond, Err, false, get_or, suc, zero, inl, inr, length, List, map, None, Ok, Option, refl, Some, subst, sym, take, true, [], ℕ, ℤ, ◌*◌, ◌+◌, ◌++◌, ◌<◌, ◌≤◌, ◌∙◌, ◌∷◌, ◌≡◌, ◌≢◌}
+use Rattle.std.proofs.Common.{ap, arith, cond, Err, false, get_or, suc, zero, inl, inr, length, List, map, Ok, refl, subst, sym, take, true, [], ℕ, ℤ, ◌*◌, ◌+◌, ◌++◌, ◌<◌, ◌≤◌, ◌∙◌, ◌∷◌, ◌≡◌, ◌≢◌}
 use Rattle.std.proofs.lemmas.Bool.{cases_eq, cases_lt}
 use Rattle.std.proofs.lemmas.Bool.Decides.{Decides-int_eq}
 use Rattle.std.proofs.lemmas.List.{get_or_past, map-append}
@@ -10,14 +10,13 @@ use Rattle.std.specs.List.{AllByRecursion, flat_map, range_with_len}
 use Rattle.std.specs.Ordering.{int_eq}
 use Rattle.std.specs.Prelude.{IsOk, pos, slice_index, slice_index_or, unwrap_or}
 use Rattle.zq_dots.proofs.Counters.{sites_is}
-use Rattle.zq_entry.proofs.SumLemmas.{nonzero-dense}
-use Rattle.zq_entry.specs.Sums.{AreSums, IsSum, dense_sums, nonzero_sums, sum_found}
+use Rattle.zq_entry.specs.Sums.{AreSums, IsSum, dense_sums, sum_found}
 use Rattle.zq_fields.specs.Fields.{signed}
 use Rattle.zq_merge.proofs.Repeated.{IsReadTo, is_read, read_done, read_fails, read_more, read_start, refused_next}
 use Rattle.zq_merge.proofs.RisingSites.{each_more, found_last, found_other, found_past, next_more, rising_more, rising_wider}
 use Rattle.zq_merge.specs.Bounds.{AreSumsBounded}
 use Rattle.zq_merge.specs.Fields.{all_sums_at, each_sum_at, later_sum_at, next_sum_at, site_sum_at}
-use Rattle.zq_merge.specs.Reading.{many_at, next_site, sum_in, ◌>>=◌}
+use Rattle.zq_merge.specs.Reading.{many_at, next_site, sum_in}
 use Rattle.zq_merge.specs.Refused.{IsInFirstSums, IsInSomeSums}
 use Rattle.zq_merge.specs.Spelling.{each_sum, sum_bytes}
 use Rattle.zq_merge.specs.Sums.{with_sum}

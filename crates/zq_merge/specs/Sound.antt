@@ -1,6 +1,6 @@
 -- What each row of a state keeps.
 
-use Rattle.std.specs.Prelude.{List, length, ℕ, ◌≡◌, ◌≤◌}
+use Rattle.std.specs.Prelude.{length, ◌≡◌, ◌≤◌}
 use Rattle.zq_merge.specs.Bounds.{AreAdditionsBounded}
 use Rattle.zq_merge.specs.Frame.{Frame}
 use Rattle.zq_model.specs.Heaps.{heap_of}

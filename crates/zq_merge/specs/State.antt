@@ -6,7 +6,7 @@ use Rattle.zq_fields.specs.Fields.{byte_field}
 use Rattle.zq_merge.specs.Fields.{frame_at, keys_at}
 use Rattle.zq_merge.specs.Frame.{Frame}
 use Rattle.zq_merge.specs.Keys.{KeyRows, by_key, rows_in}
-use Rattle.zq_merge.specs.Reading.{Read, of_part, ◌>>=◌}
+use Rattle.zq_merge.specs.Reading.{Read, ◌>>=◌}
 use Rattle.zq_merge.specs.Spelling.{frame_bytes, keys_bytes}
 use Rattle.zq_merge.specs.Version.{HasRule, HasVector, version_byte, version_of}
 use Rattle.zq_merge.specs.declared.fault.StateFault.{StateFault}

@@ -6,7 +6,7 @@ use Rattle.std.proofs.lemmas.List.{append_assoc, length-append}
 use Rattle.std.specs.Prelude.{Err, List, None, Ok, Some, [], false, if◌then◌else◌, length, map, pos, slice_get, take, true, ℕ, ◌+◌, ◌++◌, ◌<◌, ◌∷◌, ◌≡◌, ◌≤◌}
 use Rattle.zq_dots.specs.Placed.{Placed}
 use Rattle.zq_model.specs.Books as book
-use Rattle.zq_model.specs.Books.{Book, Step, Took}
+use Rattle.zq_model.specs.Books.{Step, Took}
 use Rattle.zq_journal.specs.Books.{step_of, steps_when}
 use Rattle.zq_model.proofs.Membership.{in_left, in_right, in_union}
 use Rattle.zq_model.proofs.OfHeaps.{in_heap_too, of_heap}

@@ -13,7 +13,7 @@ use Rattle.zq_notes.specs.Played.{ArePlayed, IsPlay, events_in}
 use Rattle.zq_notes.specs.Sites.{AreEventsOf, Event, has_at, made_of}
 use Rattle.zq_notes.specs.Uncut.{AreRunnable}
 use Rattle.zq_semantics.specs.Events as runs
-use Rattle.zq_semantics.specs.Events.{Run, is_possible}
+use Rattle.zq_semantics.specs.Events.{Run}
 use Rattle.zq_semantics.specs.Runs.{AreEvents, after_event, missing_from, run, run_on, start}
 use Rattle.zq_spread.specs.declared.site.Site.{Site}
 

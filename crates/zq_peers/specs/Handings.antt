@@ -1,6 +1,6 @@
 -- Carriage into mailboxes.
 
-use Rattle.std.specs.Prelude.{Bool, List, MatchOption, None, Option, Some, false, slice_get, true, ℕ, ◌≡◌}
+use Rattle.std.specs.Prelude.{Bool, List, MatchOption, None, Option, Some, slice_get, true, ℕ, ◌≡◌}
 use Rattle.zq_peers.specs.declared.mailbox.Handed.{Handed}
 use Rattle.zq_peers.specs.declared.mailbox.Mailbox.{Mailbox}
 use Rattle.zq_peers.specs.Fates.{had_memory}

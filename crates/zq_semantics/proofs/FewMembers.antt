@@ -1,15 +1,15 @@
 -- How many members a key can have in what a set of operations means: each has a live Put, and no two of them one dot.
 
-use Rattle.std.proofs.Common.{Bool, Less, List, [], ap, arith, eqb-true, false, inl, inr, length, refl, subst, sym, true, ℕ, ◌*◌, ◌+◌, ◌<◌, ◌==◌, ◌∙◌, ◌∷◌, ◌≡◌, ◌≤◌}
+use Rattle.std.proofs.Common.{Less, List, [], ap, arith, eqb-true, false, inl, inr, length, refl, subst, sym, true, ℕ, ◌*◌, ◌+◌, ◌<◌, ◌==◌, ◌∙◌, ◌∷◌, ◌≡◌, ◌≤◌}
 use Rattle.std.proofs.lemmas.Bool.{and_parts, false_from_ne_true, or_cases}
 use Rattle.std.proofs.lemmas.Map.Steps.{length-le_from_distinct_below}
 use Rattle.std.specs.Cmp.Lexicographic.{pointwise}
 use Rattle.std.specs.List.{AllByRecursion, IsDistinct, list_any}
-use Rattle.std.specs.Prelude.{map, nat_eq}
+use Rattle.std.specs.Prelude.{nat_eq}
 use Rattle.zq_model.proofs.MeantQueues.{heap_in_range}
 use Rattle.zq_model.proofs.Places.{same_bytes}
 use Rattle.zq_model.proofs.Rising.{not_below_itself}
-use Rattle.zq_model.specs.Meaning.{IsLive, IsRising, IsScore, IsWholeQueue, Scored, scored_cmp, value_of_put}
+use Rattle.zq_model.specs.Meaning.{IsLive, IsRising, IsWholeQueue, Scored, scored_cmp, value_of_put}
 use Rattle.zq_model.specs.Operation.{Operation}
 use Rattle.zq_model.specs.Rule.{Rule}
 use Rattle.zq_model.specs.Sets.{IsIn, IsWorld, LAST, SITES}

@@ -1,5 +1,5 @@
 -- What is sent was put, and the newest is not lost.
-use Rattle.std.proofs.Common.{◌≡◌, ℕ, ◌*◌, ◌<◌, ◌≤◌, Bool, true, false, List, [], ◌∷◌, ◌++◌, length, map, Option, Some, None, refl, sym, ap, subst, ◌∙◌, append_assoc}
+use Rattle.std.proofs.Common.{◌≡◌, ℕ, Bool, true, false, List, [], ◌∷◌, ◌++◌, Some, refl, sym, ap, subst, ◌∙◌, append_assoc}
 use Rattle.std.specs.Prelude.{◌||◌, cond}
 use Rattle.std.proofs.lemmas.List.{append-nil}
 use Rattle.zq_wire.specs.declared.topic.Topic.{Topic}
@@ -7,8 +7,8 @@ use Rattle.zq_wire.specs.Outbox.{AreParcels, Parcels, put_in, waits}
 use Rattle.zq_wire.specs.Runs.{AreBelow, AreSome, Event, KeepsItsPlace, NewestIsLast, NoneIsInvented, WaitFew, first_of, frames_about, last_of, left_by, or_last, put_by, rest_of, taken_by, topics_of}
 use Rattle.zq_wire.specs.Runs.AreSome.{Kept, Left, Nothing}
 use Rattle.zq_wire.specs.Runs.Event.{Put, Taken}
-use Rattle.zq_wire.specs.Topic.{heap_of, same_topic}
-use Rattle.zq_wire.proofs.Parcels.{few, put_keeps, waits_put}
+use Rattle.zq_wire.specs.Topic.{same_topic}
+use Rattle.zq_wire.proofs.Parcels.{few, put_keeps}
 use Rattle.zq_wire.proofs.Topics.{same_is}
 
 -- ---- some of a list

@@ -1,5 +1,5 @@
 -- An outbox by its fields.
-use Rattle.std.specs.Prelude.{ℕ, ◌*◌, ◌≤◌, List, map}
+use Rattle.std.specs.Prelude.{◌*◌, ◌≤◌, map}
 use Rattle.std.specs.VecDeque.{deque_capacity}
 use Rattle.zq_wire.specs.declared.outbox.Outbox.TheInside.{Inside}
 use Rattle.zq_wire.specs.Outbox.{AreParcels, Waiting, parcel_of}

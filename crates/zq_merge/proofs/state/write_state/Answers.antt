@@ -3,7 +3,6 @@ use Rattle.std.proofs.lemmas.List.{length-map}
 use Rattle.zq_merge.proofs.AgainStates.{state_again, writable_rows, written_whole}
 use Rattle.zq_merge.specs.State.{IsState, state_at, state_spelling}
 use Rattle.zq_merge.specs.declared.version.Version.TheVariants.{Three}
-use Rattle.zq_model.specs.Rows.{rows_of}
 use Rattle.zq_shard.specs.Listed.{lent_row}
 use Rattle.zq_merge.proofs.state.write_state.Goals as goal
 

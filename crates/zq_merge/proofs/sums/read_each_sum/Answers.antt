@@ -1,11 +1,11 @@
-use Rattle.std.proofs.Common.{ap, arith, inr, of_z, subst, sym, to_z, ◌*◌, ◌∙◌, ◌≡◌, ◌≤◌, ◌≢◌}
+use Rattle.std.proofs.Common.{ap, arith, inr, of_z, subst, sym, to_z, ◌*◌, ◌∙◌, ◌≡◌}
 use Rattle.std.proofs.lemmas.Result.{err_from_is_err_and}
 use Rattle.std.proofs.lemmas.Int.{to_z-of_z}
 use Rattle.std.specs.Int.{w128}
-use Rattle.std.specs.Prelude.{pos, slice_index}
+use Rattle.std.specs.Prelude.{slice_index}
 use Rattle.zq_entry.proofs.SumLemmas.{sum-fits}
 use Rattle.zq_dots.proofs.Counters.{sites_is}
-use Rattle.zq_entry.specs.Sums.{IsSum, MOST_SUM}
+use Rattle.zq_entry.specs.Sums.{MOST_SUM}
 use Rattle.zq_merge.proofs.SumLists.{first_fails, first_found, first_more, first_none, first_read, first_refused, sums_are}
 use Rattle.zq_merge.specs.Reading.{sum_in}
 use Rattle.zq_model.proofs.Bounds.{within_more}

@@ -1,4 +1,4 @@
-use Rattle.std.proofs.Common.{arith, length, Fits, w8, ◌≡◌}
+use Rattle.std.proofs.Common.{arith, length, ◌≡◌}
 use Rattle.zq_dots.proofs.Counters.{sites_is}
 use Rattle.zq_model.specs.Rows.{additions_from}
 use Rattle.zq_merge.proofs.write.write_entry.Goals as goal

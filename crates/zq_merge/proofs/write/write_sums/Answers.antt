@@ -1,4 +1,4 @@
-use Rattle.std.proofs.Common.{arith, Fits, w8}
+use Rattle.std.proofs.Common.{arith}
 use Rattle.zq_dots.proofs.Counters.{sites_is}
 use Rattle.zq_entry.proofs.SumLemmas.{sums-length}
 use Rattle.zq_merge.proofs.write.write_sums.Goals as goal

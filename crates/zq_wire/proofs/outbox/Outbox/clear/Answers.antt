@@ -1,4 +1,4 @@
-use Rattle.std.proofs.Common.{◌≡◌, ◌*◌, ◌≤◌, arith}
+use Rattle.std.proofs.Common.{arith}
 use Rattle.zq_wire.proofs.outbox.Outbox.clear.Goals as goal
 
 pub invariant_of-self : goal.invariant_of-self

@@ -1,7 +1,6 @@
-use Rattle.std.proofs.Common.{◌≡◌, ap, length, ◌≤◌, ◌*◌, map, arith, subst}
+use Rattle.std.proofs.Common.{ap, length, map, arith}
 use Rattle.std.proofs.lemmas.List.{length-map}
 use Rattle.zq_wire.specs.Outbox.{parcel_of}
-use Rattle.zq_wire.specs.declared.parcel.Parcel.{Parcel}
 use Rattle.zq_wire.proofs.Parcels.{few}
 use Rattle.zq_wire.proofs.outbox.Outbox.len.Goals as goal
 

@@ -1,4 +1,4 @@
-use Rattle.std.proofs.Common.{◌≡◌, ◌*◌, ◌≤◌, map, subst, sym, arith}
+use Rattle.std.proofs.Common.{map, subst, sym, arith}
 use Rattle.zq_wire.specs.Outbox.{AreParcels, parcel_of}
 use Rattle.zq_wire.proofs.outbox.Outbox.new.Goals as goal
 

@@ -1,4 +1,4 @@
-use Rattle.std.proofs.Common.{◌≡◌, ℕ, List, [], ◌∷◌, ◌++◌, ◌*◌, ◌≤◌, Option, Some, None, map, ap, subst, drop, arith, ◌∙◌, sym}
+use Rattle.std.proofs.Common.{ℕ, List, ◌++◌, Option, Some, None, map, subst, arith}
 use Rattle.std.specs.Prelude.{option_to_list}
 use Rattle.zq_wire.specs.declared.parcel.Parcel.{Parcel}
 use Rattle.zq_wire.specs.Outbox.{AreParcels, parcel_of}
