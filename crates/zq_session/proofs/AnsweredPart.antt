@@ -1,13 +1,17 @@
 -- What is answered of a piece, of which the rest is left.
-use Rattle.std.proofs.Common.{◌≡◌, ◌<◌, ◌≤◌, List, MatchResult, ℕ, [], ◌∷◌, ◌++◌, Option, Result, Ok, Err, refl, sym, ap, subst, ◌∙◌, append_assoc, append-nil, arith, length, take, drop, take-append-drop}
+use Rattle.std.proofs.Common.{◌≡◌, ◌<◌, ◌≤◌, ◌+◌, List, MatchResult, OnErr, ℕ, [], ◌∷◌, ◌++◌, Option, Some, Result, Ok, Err, refl, sym, ap, subst, ◌∙◌, append_assoc, append-nil, arith, length, take, drop, take-append-drop}
 use Rattle.std.proofs.lemmas.List.{length-append, take_all}
+use Rattle.std.specs.Prelude.{Vec}
+use Rattle.std.specs.Vec.{vec_capacity, vec_len}
+use Rattle.std.specs.declared.alloc.Global.{Global}
 use Rattle.zq_resp.specs.declared.fault.FeedFault.{FeedFault}
+use Rattle.zq_resp.specs.declared.fault.FeedFault.TheVariants as fault
 use Rattle.zq_resp.specs.declared.reply.Reply.{Reply}
 use Rattle.zq_resp.specs.Reply.{reply_bytes}
-use Rattle.zq_resp.specs.Stream.{Feeds, Requests}
+use Rattle.zq_resp.specs.Stream.{FailsFirst, Feeds, Requests}
 use Rattle.zq_session.proofs.Runs.{answered-none, answered-one, some_reply, stopped-one, stopped-whole}
 use Rattle.zq_session.proofs.Served.{owed-longer, owed-whole, piece-cut, piece-last, piece-on}
-use Rattle.zq_session.specs.Answering.{AnswersSome, IsFew, IsOneMore, a_reply, closes, nothing}
+use Rattle.zq_session.specs.Answering.{AnswersSome, IsFew, IsOneMore, LacksMemory, a_reply, closes, for_a_reply, for_a_request, for_closing, nothing}
 use Rattle.zq_session.specs.Serving.{AnswersAll, IsBreak, ServesPiece}
 use Rattle.zq_session.specs.Session.{IsOwed, Relation, closing}
 use Rattle.zq_session.specs.declared.outcome.SessionFault.{SessionFault}
@@ -46,6 +50,23 @@ module _ {S : Type 0} (answers : Relation S) where
   into-one a b before after request reply (Err stop.Write) h p = absurd cc
   into-one a b before after request reply (Err stop.NoMemory) h p =
       ([], (reply ∷ [], some_reply reply, stopped-one answers a b request reply h), p.1 ∙ sym (append-nil before))
+
+  -- there was no room for its reply
+  pub into-lacks : (a b : S) (out : Vec ℕ Global) (after : List ℕ) (request : List (List ℕ)) (reply : Reply) (result : Result (Unit {0}) SessionFault)
+      → answers a request reply b
+      → MatchResult result (λ done. after ≡ out.items ++ reply_bytes reply) (λ fault. (fault ≡ stop.NoMemory) × (after ≡ out.items))
+      → OnErr result (vec_capacity out < vec_len out + length (reply_bytes reply)) → OnErr result (LacksMemory answers b after)
+  into-lacks a b out after request reply (Ok done) h p full = tt
+  into-lacks a b out after request reply (Err why) h p full = for_a_reply a request reply h record { kept = out; has = sym p.1; full = full }
+
+  -- a fault for which the input is not closed, or for whose words there is no room
+  pub end-lacks : (new : S) (out : Vec ℕ Global) (after has piece : List ℕ) (input : Option (List ℕ)) (why : FeedFault)
+      → input ≡ Some has → FailsFirst input piece why → after ≡ out.items
+      → (IsBreak why → vec_capacity out < vec_len out + length closing) → LacksMemory answers new after
+  end-lacks new out after has piece input fault.Protocol is f same full = for_closing record { kept = out; has = sym same; full = full tt }
+  end-lacks new out after has piece input fault.TooLong is f same full = for_closing record { kept = out; has = sym same; full = full tt }
+  end-lacks new out after has piece input fault.NoMemory is f same full = for_a_request has piece (subst (λ input. FailsFirst input piece fault.NoMemory) is f)
+  end-lacks new out after has piece input fault.Over is f same full = absurd (subst (λ input. FailsFirst input piece fault.Over) is f)
 
   pub some-cut : (old mid new : S) (had piece written bytes : List ℕ) (at taken : ℕ) (requests : Requests) (between fed kept : Option (List ℕ)) (why : SessionFault)
       → ServesPiece answers old mid had (take at piece) between written (Ok More)

@@ -5,7 +5,7 @@ use Rattle.zq_session.proofs.Alongside.{meanwhile-join, meanwhile-none, piece-am
 use Rattle.zq_session.proofs.Runs.{begun-whole}
 use Rattle.zq_session.proofs.Served.{Stands, breaks-off, goes-no-further, owed-broken, owed-front, owed-refused, serves-to-end, stands-first, stands-on}
 use Rattle.zq_session.specs.Among.{Among, AnyRequest, Change, Meanwhile}
-use Rattle.zq_session.specs.Connection.{Closes, ConnectionState, IsAlong, IsCutShort, IsDue, IsEnded, IsNew, IsServed, IsWritten, broken, owed_of, short, so_far}
+use Rattle.zq_session.specs.Connection.{Closes, ConnectionState, HasBroken, IsAlong, IsCutShort, IsDue, IsEnded, IsNew, IsServed, IsWritten, broken, owed_of, short, so_far}
 use Rattle.zq_session.specs.Serving.{ServesPiece}
 use Rattle.zq_session.specs.Session.{IsOwed, Relation, Serves}
 use Rattle.zq_session.specs.declared.outcome.End.{End}
@@ -134,6 +134,10 @@ module _ {S : Type 0} (others : Change S) (answers : Relation S) where
   open-stands begun last taken due c going (broken is s) = absurd (cc (is, going))
   open-stands begun last taken due c going (short is s) = absurd (cc (is, going))
 
+  -- its reader has had no fault
+  pub along-has : (begun now : S) (text written : List ℕ) (c : ConnectionState) → IsAlong others answers begun now text written c → c.is_closed ≡ false → (had : List ℕ) × (c.unfinished ≡ Some had)
+  along-has begun now text written c p going = let served = open-stands begun p.last p.taken p.due c going p.is_due in (served.1, served.2)
+
   module _ (begun now new : S) (text written piece : List ℕ) (old c : ConnectionState) (p : IsAlong others answers begun now text written old) (going : old.is_closed ≡ false) (none : old.waiting ≡ [])
       (within : old.sent ≤ length old.replies) (sent : c.sent ≡ old.sent) where
     owed-more : (bytes : List ℕ) → c.replies ≡ old.replies ++ bytes → p.due ++ bytes ≡ written ++ owed_of c
@@ -150,6 +154,24 @@ module _ {S : Type 0} (others : Change S) (answers : Relation S) where
         let q = piece-among others answers p.last now new stood.0 (take at piece) fed.0 c.unfinished served p.meanwhile fed.1 in
         along-served begun p.last q.0 new (text ++ piece) written (take at piece) (drop at piece) old c served p.taken p.due stood.0 fed.0 stood.2 q.1 q.2
         (whole-text text p.taken p.rest piece at p.text_is (p.unheard going ∙ none)) unheard (owed-more fed.0 fed.2) closed
+
+    -- its end breaks the protocol
+    pub along-broken : (at : ℕ) (served : Served) → served ≡ Broken
+        → ((had : List ℕ) → old.unfinished ≡ Some had → (bytes : List ℕ) × ServesPiece answers now new had (take at piece) c.unfinished bytes (Ok served) × (c.replies ≡ old.replies ++ bytes))
+        → HasBroken others answers begun new (text ++ piece) written c
+    along-broken at More is step = absurd (cc is)
+    along-broken at Broken is step =
+        let stood = stands-of begun p.last p.taken p.due old.unfinished (open-stands begun p.last p.taken p.due old going p.is_due) in
+        let fed = step stood.0 stood.1 in
+        let q = piece-among others answers p.last now new stood.0 (take at piece) fed.0 c.unfinished Broken p.meanwhile fed.1 in record {
+          last = q.0;
+          meanwhile = q.2;
+          taken = p.taken ++ take at piece;
+          rest = drop at piece;
+          text_is = whole-text text p.taken p.rest piece at p.text_is (p.unheard going ∙ none);
+          serves = subst (λ bytes. Serves (Among others answers) begun q.0 (p.taken ++ take at piece) bytes (Ok Protocol)) (owed-more fed.0 fed.2)
+              (breaks-off (Among others answers) begun p.last q.0 p.taken p.due stood.0 (take at piece) fed.0 c.unfinished stood.2 q.1);
+        }
 
     -- there was no memory for it
     pub along-short : length piece ≤ 65536 → c.is_closed ≡ true
@@ -205,13 +227,13 @@ module _ {S : Type 0} (others : Change S) (answers : Relation S) where
       is_due = due-kept begun p.last p.taken p.due old mid input (λ is. closed ∙ is) p.is_due;
     }
 
-    pub along-again : (new : S) (c : ConnectionState) → ((taken : List ℕ) → IsAlong others answers begun now taken written mid → IsAlong others answers begun new (taken ++ old.waiting) written c)
-        → old.is_closed ≡ false → IsAlong others answers begun new text written c
-    along-again new c h going =
-        subst (λ whole. IsAlong others answers begun new whole written c) (sym (p.text_is ∙ ap (λ l. p.taken ++ l) (p.unheard going))) (h p.taken along-before)
+    -- what is so of its text once that is heard is so of all its text
+    pub along-again : (P : List ℕ → Type 0) → ((taken : List ℕ) → IsAlong others answers begun now taken written mid → P (taken ++ old.waiting)) → old.is_closed ≡ false → P text
+    along-again P h going = subst P (sym (p.text_is ∙ ap (λ l. p.taken ++ l) (p.unheard going))) (h p.taken along-before)
 
-    pub requests-again : (new : S) → ((taken : List ℕ) → IsAlong others answers begun now taken written mid → Meanwhile (AnyRequest answers) now new) → Meanwhile (AnyRequest answers) now new
-    requests-again new h = h p.taken along-before
+    -- and what is so whatever its text is
+    pub heard-again : {X : Type 0} → ((taken : List ℕ) → IsAlong others answers begun now taken written mid → X) → X
+    heard-again h = h p.taken along-before
 
   -- what is due is owed
   due-owed : (begun last : S) (taken due : List ℕ) (c : ConnectionState) → IsDue (Among others answers) begun last taken due c → IsOwed (Among others answers) begun last taken due

@@ -18,6 +18,29 @@ pub appends-on : (a b c : Option (List ℕ)) (bytes : List ℕ) (at count : ℕ)
     → Appends a b (take at bytes) → Appends b c (take count (drop at bytes)) → Appends a c (take (at + count) bytes)
 appends-on a b c bytes at count p q = subst (Appends a c) (sym (take-add at count bytes)) (appends-join a b c _ _ p q)
 
+pub keeps-none : (a : Option (List ℕ)) → Keeps a a
+keeps-none None = tt
+keeps-none (Some x) = refl
+
+pub keeps-join : (a b c : Option (List ℕ)) → Keeps a b → Keeps b c → Keeps a c
+keeps-join None b c p q = tt
+keeps-join (Some x) None c p q = absurd p
+keeps-join (Some x) (Some y) None p q = absurd q
+keeps-join (Some x) (Some y) (Some z) p q = q ∙ p
+
+-- What was kept is then read, or grows.
+pub kept-consumes : (a b c : Option (List ℕ)) (bytes : List ℕ) → Keeps a b → Consumes b c bytes → Consumes a c bytes
+kept-consumes None b c bytes p q = tt
+kept-consumes (Some x) None c bytes p q = absurd p
+kept-consumes (Some x) (Some y) None bytes p q = absurd q
+kept-consumes (Some x) (Some y) (Some z) bytes p q = sym p ∙ q
+
+pub kept-appends : (a b c : Option (List ℕ)) (bytes : List ℕ) → Keeps a b → Appends b c bytes → Appends a c bytes
+kept-appends None b c bytes p q = tt
+kept-appends (Some x) None c bytes p q = absurd p
+kept-appends (Some x) (Some y) None bytes p q = absurd q
+kept-appends (Some x) (Some y) (Some z) bytes p q = q ∙ ap (λ l. l ++ bytes) p
+
 pub consumes-kept : (a b : Option (List ℕ)) → Keeps a b → Consumes a b []
 consumes-kept None b p = tt
 consumes-kept (Some x) None p = absurd p

@@ -2,6 +2,7 @@
 use Rattle.std.specs.Prelude.{◌≡◌, ◌≤◌, ◌<◌, ◌⊎◌, ℕ, Bool, false, true, List, [], ◌++◌, drop, length, Option, Some, Result, Ok, Err}
 use Rattle.zq_resp.specs.Stream.{Requests, Splits, handed}
 use Rattle.zq_session.specs.Among.{Among, Change, Meanwhile}
+use Rattle.zq_session.specs.Answering.{HadNoRoom, LacksMemory}
 use Rattle.zq_session.specs.Session.{Relation, IsAnswered, Serves}
 use Rattle.zq_session.specs.declared.outcome.End.{End}
 use Rattle.zq_session.specs.declared.outcome.End.TheVariants.{Protocol}
@@ -59,6 +60,11 @@ pub record IsOver (c : ConnectionState) : Type 0 where
 pub record IsTaken (piece : List ℕ) (c : ConnectionState) : Type 0 where
   pub less : 0 < length piece → length c.waiting < length piece
   pub full : (c.waiting ≡ []) ⊎ (MOST ≤ length c.replies)
+
+-- Memory was refused as the piece was heard: for what is answered, or for what would wait of it.
+abbrev pub IsRefusedFor : {S : Type 0} → Relation S → S → List ℕ → ConnectionState → Type 0
+IsRefusedFor answers new piece c = LacksMemory answers new c.replies
+    ⊎ ((taken : ℕ) × HadNoRoom [] (drop taken piece))
 
 -- So many of the bytes that are owed were written, and all else is as it was. Their memory is kept
 -- until all are written.
@@ -120,6 +126,13 @@ pub record IsSession {S : Type 0} (others : Change S) (answers : Relation S) (be
   pub rest : List ℕ
   pub text_is : text ≡ taken ++ rest
   pub serves : Serves (Among others answers) begun last taken written ended
+
+-- The connection is closed for a fault of the protocol: what was written, and then what is owed, is
+-- all that a session writes that ends so, of the front of the text.
+abbrev pub HasBroken : {S : Type 0} → Change S → Relation S → S → S → List ℕ → List ℕ →
+    ConnectionState → Type 0
+HasBroken others answers begun now text written c =
+    IsSession others answers begun now text (written ++ owed_of c) (Ok Protocol)
 
 -- What was written is the front of what a session owes for the front of the text.
 abbrev pub IsCutShort : {S : Type 0} → Change S → Relation S → S → S → List ℕ → List ℕ → Type 0

@@ -1,11 +1,8 @@
 //! The one core of sessions that block and of connections that are served in turn: answers the
 //! requests of a piece until it is taken, or until there are many bytes of replies.
 
-ghost use Rattle.std.specs.Prelude.{◌≡◌, ◌≤◌, ◌<◌, ◌+◌, ◌++◌, ◌∷◌, [], IfOk, IsErrOf, List, length, ℕ, Some};
-ghost use Rattle.std.specs.Vec.{vec_capacity, vec_len};
-ghost use Rattle.zq_resp.specs.Reply.{reply_bytes};
-ghost use Rattle.zq_resp.specs.declared.reply.Reply.{Reply};
-ghost use Rattle.zq_session.specs.Answering.{AnswersSome, IsFew, IsOneMore};
+ghost use Rattle.std.specs.Prelude.{◌≡◌, ◌≤◌, ◌<◌, ◌++◌, ◌∷◌, [], IfOk, List, OnErr, length, ℕ, Some};
+ghost use Rattle.zq_session.specs.Answering.{AnswersSome, IsFew, IsOneMore, LacksMemory};
 ghost use Rattle.zq_session.specs.Serving.{AnswersAll};
 
 use crate::gathering::put_reply;
@@ -32,7 +29,8 @@ pub struct Answered {
 /// of the piece is taken.
 ///
 /// - `NoMemory`: there are the replies to the first of the requests. At most one reply that was
-///   made is missing, and the requests after that one are not answered.
+///   made is missing, and the requests after that one are not answered. There was no room for that
+///   reply or for the words that close the session, or no memory for a request.
 pub fn answer_some<A: Answers>(
     alloc: Global,
     answerer: &mut A,
@@ -51,6 +49,8 @@ pub fn answer_some<A: Answers>(
         0 < length piece.now → length out.old.items < most → 0 < answered.taken) }
     ensures goes_on { IfOk result (λ answered.
         answered.taken < length piece.now → most ≤ length out.new.items) }
+    ensures full { (had : List ℕ) → input.old ≡ Some had →
+        OnErr result (LacksMemory A.answers answerer.new out.new.items) }
 {
     // For the proof: what is kept of an earlier piece is less than a request.
     let _inside = input.inside();
@@ -91,9 +91,7 @@ fn answer_into<A: Answers>(
         × AnswersAll A.answers answerer.old answerer.new (request.now ∷ []) bytes result
         × (out.new.items ≡ out.old.items ++ bytes) }
     ensures one { IsOneMore out.old.items out.new.items }
-    ensures full { IsErrOf result SessionFault.NoMemory → (reply : Reply)
-        × A.answers answerer.old request.now reply answerer.new
-        × (vec_capacity out.old < vec_len out.old + length (reply_bytes reply)) }
+    ensures full { OnErr result (LacksMemory A.answers answerer.new out.new.items) }
 {
     let reply = answerer.answer(alloc, request);
     put_reply(out, &reply)

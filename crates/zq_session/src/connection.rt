@@ -3,7 +3,7 @@
 ghost use Rattle.std.specs.Prelude.{◌≡◌, ◌≤◌, ◌↔◌, ◌++◌, IsTrue, List, OnErr, OnOk, length, true, ℕ};
 ghost use Rattle.zq_session.specs.Among.{AnyRequest, Meanwhile};
 ghost use Rattle.zq_session.specs.Answering.{IsFew};
-ghost use Rattle.zq_session.specs.Connection.{CanGoOn, Closes, IsAlong, IsNew, IsOver, IsTaken, IsWritten, MOST, WantsToRead, owed_of};
+ghost use Rattle.zq_session.specs.Connection.{CanGoOn, Closes, HasBroken, IsAlong, IsNew, IsOver, IsRefusedFor, IsTaken, IsWritten, MOST, WantsToRead, owed_of};
 
 use crate::answering::answer_some;
 use crate::serving::{Answers, Served};
@@ -122,10 +122,11 @@ impl Connection {
     /// Hears a piece of what the connection brings, of at most 65,536 bytes: answers the requests
     /// that end in it, and owes the replies. Where these come to 65,536 bytes or more, the rest of
     /// the piece waits. After bytes that begin no request, or a request past the limits, the error
-    /// for that is owed, and the connection is closed.
+    /// for that is owed, and the connection is closed. With `Ok` it is closed for nothing else.
     ///
-    /// - `Err`: there was no memory. The replies to the first of the requests are owed, but for at
-    ///   most one that was made, and the connection is closed. The rest of the piece is lost.
+    /// - `Err`: there was no memory, for a reply, a request or what would wait. The replies to the
+    ///   first of the requests are owed, but for at most one that was made, and the connection is
+    ///   closed. The rest of the piece is lost.
     pub fn hear<A: Answers>(
         &mut self,
         alloc: Global,
@@ -142,7 +143,14 @@ impl Connection {
             Meanwhile (AnyRequest A.answers) answerer.old answerer.new }
         ensures few { IsFew MOST self.new.replies }
         ensures taken { OnOk result (IsTaken piece.now self.new) }
+        ensures broken { (begun : A) (text written : List ℕ) →
+            IsAlong A.others A.answers begun answerer.old text written self.old →
+            OnOk result (self.new.is_closed ≡ true →
+            HasBroken A.others A.answers begun answerer.new (text ++ piece.now) written self.new) }
         ensures lost { OnErr result (self.new.is_closed ≡ true) }
+        ensures short { (begun : A) (text written : List ℕ) →
+            IsAlong A.others A.answers begun answerer.old text written self.old →
+            OnErr result (IsRefusedFor A.answers answerer.new piece.now self.new) }
     {
         let answered = answer_some(
             alloc,
@@ -180,7 +188,14 @@ impl Connection {
             Meanwhile (AnyRequest A.answers) answerer.old answerer.new }
         ensures few { IsFew MOST self.new.replies }
         ensures taken { OnOk result (IsTaken self.old.waiting self.new) }
+        ensures broken { (begun : A) (text written : List ℕ) →
+            IsAlong A.others A.answers begun answerer.old text written self.old →
+            OnOk result (self.new.is_closed ≡ true →
+            HasBroken A.others A.answers begun answerer.new text written self.new) }
         ensures lost { OnErr result (self.new.is_closed ≡ true) }
+        ensures short { (begun : A) (text written : List ℕ) →
+            IsAlong A.others A.answers begun answerer.old text written self.old →
+            OnErr result (IsRefusedFor A.answers answerer.new self.old.waiting self.new) }
     {
         let piece = mem::replace(&mut self.waiting, Vec::new(alloc));
         self.hear(alloc, answerer, &piece)

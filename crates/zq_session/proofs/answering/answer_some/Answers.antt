@@ -3,7 +3,7 @@ use Rattle.std.proofs.Math.Seq.{take-add}
 use Rattle.std.proofs.lemmas.List.{length-drop, take_rest}
 use Rattle.std.proofs.lemmas.Result.{err_from_is_err_and}
 use Rattle.zq_resp.specs.Stream.{Feeds, listed}
-use Rattle.zq_session.proofs.AnsweredPart.{few-first, one-none, put-longer, put-on, some-breaks, some-cut, some-stops}
+use Rattle.zq_session.proofs.AnsweredPart.{end-lacks, few-first, one-none, put-longer, put-on, some-breaks, some-cut, some-stops}
 use Rattle.zq_session.proofs.Runs.{answered-none}
 use Rattle.zq_session.proofs.Served.{piece-begins, piece-more, piece-then}
 use Rattle.zq_session.specs.Answering.{IsOneMore}
@@ -104,3 +104,10 @@ returns-in_err-served-in-Err-clause-grows g c = rw c.in_err-served-in-Err.ensure
 pub returns-in-Err-clause-grows : goal.returns-in-Err-clause-grows
 returns-in-Err-clause-grows g c =
     omega (arith, c.loop-at.invariant.grows, put-longer c.loop-at.out.items c.end.new.out.items closing c.in_ok-served-in-Err.ensures.ended.2)
+
+pub returns-in_err-served-in-Err-clause-full : goal.returns-in_err-served-in-Err-clause-full
+returns-in_err-served-in-Err-clause-full g c = λ had is.
+    let failed = err_from_is_err_and c.from_residual-in_err-served-in-Err.result c.from_residual-in_err-served-in-Err.ensures.1 in
+    let why : c.from_residual-in_err-served-in-Err.result ≡ Err stop.NoMemory = cc (failed.1, failed.2, c.in_err-served-in-Err.ensures.ended.0) in
+    let served = (c.loop-at.invariant.served had is).1 in
+    rw why (end-lacks g.A.Answers.answers _ c.loop-at.out _ served.1 _ c.loop-at.input c.in-Err.fault served.2 c.in-Err.ensures.first c.in_err-served-in-Err.ensures.ended.1 c.in_err-served-in-Err.ensures.full)
