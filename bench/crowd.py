@@ -18,10 +18,10 @@ import served
 import streams
 
 SITES = 2
-# Connections of a site that are served at once: more than there are clients below.
-WORKERS = 32
-# How many clients there are at once of each kind.
-CROWD = {"mutated": 4, "vanishing": 2, "half": 4, "deaf": 4}
+# Threads that serve a site: far fewer than there are clients below.
+WORKERS = 4
+# How many clients there are at once of each kind: 200 with the one that behaves well.
+CROWD = {"mutated": 80, "vanishing": 9, "half": 100, "deaf": 10}
 # Seconds within which the one that behaves well is answered.
 PATIENCE = 20
 

@@ -10,9 +10,10 @@ Usage: bench/fuzz.py [--seed N] [--requests N] [--sessions N]
        bench/fuzz.py --texts N [--seed N] [--program PATH]
        bench/fuzz.py --arguments N [--seed N] [--program PATH]
 It prints how much was tried. Where a stream is answered otherwise than by the model it is kept in fuzz-SEED-PART.bin, and
-the status is 1. With --serve the short streams go to `zqueue serve`, beside clients of all manners (crowd.py). With --texts
-so many drawn texts are read as settings by `zq_hostile texts`, of which the program is; with --arguments so many drawn command
-lines are given to the program. Both are judged by a reading of their own (texts.py), and what is read otherwise is printed.
+the status is 1. With --serve the short streams go to `zqueue serve`, from 200 clients of all manners at once (crowd.py). With
+--texts so many drawn texts are read as settings by `zq_hostile texts`, of which the program is; with --arguments so many drawn
+command lines are given to the program. Both are judged by a reading of their own (texts.py), and what is read otherwise is
+printed.
 """
 import argparse
 import multiprocessing

@@ -29,8 +29,8 @@ SHAPES = {"apart": (50, 1), "sixteen": (50, 16), "one": (1, 0)}
 # The kind of stream, and the least ratio that is wanted of each shape.
 KINDS = {"ZADD": ("updates", {"apart": 1.0, "sixteen": 2.0, "one": 2.0}),
          "ZSCORE": ("looks", {"apart": 1.0, "sixteen": 1.5, "one": 2.0})}
-# Connections of a site that are served at once.
-WORKERS = 64
+# Threads that serve the site.
+WORKERS = 2
 
 
 class Load:

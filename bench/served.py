@@ -86,7 +86,7 @@ class Served:
         wanted = [f"site {number} port {port}" for number, port in enumerate(self.ports)]
         end = time.monotonic() + OPENING
         while time.monotonic() < end and self.server.poll() is None:
-            if self.lines() == wanted:
+            if self.lines()[:len(wanted)] == wanted:
                 return True
             time.sleep(0.01)
         self.end()

@@ -5,9 +5,11 @@ import contextlib
 import re
 import tomllib
 
-KEYS = ["ports", "heaps", "workers", "connections", "seed", "rule"]
-LEAST_AND_MOST = {"heaps": (2, 16), "workers": (1, 64), "connections": (0, 1000000), "seed": (0, 2**63 - 1)}
-IF_MISSING = {"heaps": 4, "workers": 4, "connections": 0, "seed": 1, "rule": "HIGH"}
+KEYS = ["ports", "heaps", "workers", "connections", "clients", "timeout", "write_timeout", "output", "seed", "rule"]
+LEAST_AND_MOST = {"heaps": (2, 16), "workers": (1, 64), "connections": (0, 1000000), "clients": (1, 1000000), "timeout": (0, 1000000),
+                  "write_timeout": (0, 1000000), "output": (2**20, 2**40), "seed": (0, 2**63 - 1)}
+IF_MISSING = {"heaps": 4, "workers": 4, "connections": 0, "clients": 10000, "timeout": 0, "write_timeout": 60, "output": 2**28, "seed": 1,
+              "rule": "HIGH"}
 VALUES = ["0", "1", "2", "4", "16", "17", "64", "65", "-1", "+7", "1000000", "1000001", "9223372036854775807", "9223372036854775808",
           "-9223372036854775808", "0x10", "0b11", "0o17", "1_0", "1__0", "007", "4.0", "1e1", "nan", "inf", "true", "false", '"HIGH"', '"LOW"',
           '"low"', '""', "'HIGH'", '"\\u0041"', '"""HIGH"""', "[]", "{}", "1979-05-27", "07:32:00", "1979-05-27T07:32:00Z", "{a = 1}", "[1, [2]]"]
