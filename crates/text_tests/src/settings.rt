@@ -4,3 +4,16 @@ mod given;
 mod refused;
 mod site_given;
 mod site_refused;
+
+use zq_settings::ClientLimits;
+
+/// `clients`, `timeout`, `write_timeout` and `output`.
+type Limits = (u64, u64, u64, u64);
+
+fn has_limits(given: &ClientLimits, limits: Limits) -> bool {
+    let (clients, timeout, write_timeout, output) = limits;
+    given.clients.value() == clients
+        && given.timeout.value() == timeout
+        && given.write_timeout.value() == write_timeout
+        && given.output.value() == output
+}

@@ -40,10 +40,15 @@ fn tell_settings<R: Print>(rt: &R, given: &Settings) -> io::Result<()> {
         Rule::High => "HIGH",
         Rule::Low => "LOW",
     };
+    let limits = &given.limits;
     print!(rt;
-        "settings {} {} {connections} {} {rule}",
+        "settings {} {} {connections} {} {} {} {} {} {rule}",
         given.heaps.value(),
         given.workers.value(),
+        limits.clients.value(),
+        limits.timeout.value(),
+        limits.write_timeout.value(),
+        limits.output.value(),
         given.seed.value()
     )?;
     for port in given.ports.as_slice() {

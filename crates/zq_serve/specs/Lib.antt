@@ -1,7 +1,6 @@
-pub mod ConnectionsLeft
-pub mod Faults
-pub mod Talks
+pub mod Warnings
 pub mod Inboxes
 pub mod SiteThreads
 pub mod Mailboxes
 pub mod Announced
+pub mod Limits

@@ -1,6 +1,9 @@
 //! Why serving stopped.
 
+ghost use Rattle.std.specs.Prelude.{◌≡◌, ◌≢◌};
+
 use std::alloc::AllocError;
+use std::io::ErrorKind;
 
 /// Why the sites were not served, or not announced.
 #[derive(Clone, Copy, Debug, PartialEq, Eq)]
@@ -20,5 +23,16 @@ impl From<AllocError> for ServeFault {
 
     fn from(_error: AllocError) -> ServeFault {
         ServeFault::NoMemory
+    }
+}
+
+/// What a fault is of an error of this kind that comes before anybody is served.
+pub fn fault_of(kind: ErrorKind) -> ServeFault
+    ensures memory { kind ≡ ErrorKind.OutOfMemory → result ≡ ServeFault.NoMemory }
+    ensures device { kind ≢ ErrorKind.OutOfMemory → result ≡ ServeFault.Device }
+{
+    match kind {
+        ErrorKind::OutOfMemory => ServeFault::NoMemory,
+        _ => ServeFault::Device,
     }
 }

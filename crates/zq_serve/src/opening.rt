@@ -7,20 +7,23 @@ ghost use Rattle.zq_peers.specs.Sites.{others_below};
 ghost use Rattle.zq_serve.specs.SiteThreads.{HaveThreads, HasThreads, link_to, links_of, planned, served, served_by};
 ghost use Rattle.zq_serve.specs.Mailboxes.{mosts_of};
 ghost use Rattle.zq_spread.specs.Passes.{IsPassOf};
+ghost use Rattle.zq_serve.specs.Limits.{port_limits};
 
-use crate::connections_left::ConnectionsLeft;
-use crate::fault::ServeFault;
+use crate::client_acceptor::ClientAcceptor;
+use crate::fault::{ServeFault, fault_of};
+use crate::limits::limits_of;
 use crate::linker::Linker;
 use crate::site_server::SiteServer;
 use crate::worker::Worker;
 use std::alloc::{AllocError, Global};
 use std::net::{IpAddr, Ipv4Addr, Net, SocketAddr, TcpListener, TcpStream};
 use std::random::RandomSource;
-use std::sync::{Arc, Mutex};
+use std::sync::Arc;
 use zq_dots::{Rule, SiteNo};
+use zq_loop::{Acceptor, Limits, Poller, Port as ClientPort};
 use zq_peers::{Mailbox, others};
 use zq_posheap::Seeded;
-use zq_settings::{ConnectionCount, HeapCount, Port, Settings, WorkerCount};
+use zq_settings::{HeapCount, Port, Settings, WorkerCount};
 use zq_spread::{Pass, Site, SiteFault};
 
 /// A hasher of a seed that strangers do not know.
@@ -62,17 +65,26 @@ pub struct SiteOptions {
     pub heaps: HeapCount,
     /// Which of a member's values is its score.
     pub rule: Rule,
-    /// How many connections are served at once.
+    /// How many threads serve its connections.
     pub workers: WorkerCount,
-    /// How many connections its port accepts; with `None` there is no end of them.
-    pub connections: Option<ConnectionCount>,
+    /// The limits of its port.
+    pub limits: Limits,
 }
 
-/// What works for sites: workers, and a linker for each site that is not alone.
+/// What serves the clients of sites.
+#[derive(Drop)]
+pub struct ClientThreads {
+    /// The workers of each site.
+    pub workers: Vec<Worker>,
+    /// What accepts the connections of each site.
+    pub acceptors: Vec<ClientAcceptor>,
+}
+
+/// What works for sites: what serves their clients, and a linker for each site that is not alone.
 #[derive(Drop)]
 pub struct SiteThreads {
-    /// A worker for each connection that is served at once.
-    pub workers: Vec<Worker>,
+    /// What serves clients.
+    pub clients: ClientThreads,
     /// The linkers.
     pub linkers: Vec<Linker>,
 }
@@ -80,14 +92,27 @@ pub struct SiteThreads {
 impl SiteThreads {
     /// Nobody. It takes no memory.
     pub fn new(alloc: Global) -> SiteThreads
-        ensures workers { result.workers.items ≡ [] }
+        ensures workers { result.clients.workers.items ≡ [] }
+        ensures acceptors { result.clients.acceptors.items ≡ [] }
         ensures linkers { result.linkers.items ≡ [] }
     {
-        SiteThreads {
+        let clients = ClientThreads {
             workers: Vec::new(alloc),
+            acceptors: Vec::new(alloc),
+        };
+        SiteThreads {
+            clients,
             linkers: Vec::new(alloc),
         }
     }
+}
+
+/// A site's server, with what its threads need.
+struct Opened {
+    server: Arc<SiteServer>,
+    passes: Vec<Pass>,
+    acceptor: Acceptor,
+    pollers: Vec<Poller>,
 }
 
 /// Makes a site and its server, which listens on this address, with passes for its workers and one
@@ -98,17 +123,20 @@ fn open_server<R: Net<Listener = TcpListener, Stream = TcpStream>>(
     plan: &SiteOptions,
     address: SocketAddr,
     hasher: Seeded,
-) -> Result<(Arc<SiteServer>, Vec<Pass>), ServeFault>
-    ensures passes { IfOk result (λ made. All (IsPassOf (arc_value made.0).site) made.1.items) }
-    ensures served_site { IfOk result (λ made. served (arc_value made.0) ≡ planned plan.now) }
-    ensures number { IfOk result (λ made. length made.1.items ≡ plan.now.workers + 1) }
+) -> Result<Opened, ServeFault>
+    ensures passes { IfOk result
+        (λ opened. All (IsPassOf (arc_value opened.server).site) opened.passes.items) }
+    ensures served_site { IfOk result
+        (λ opened. served (arc_value opened.server) ≡ planned plan.now) }
+    ensures number { IfOk result (λ opened. length opened.passes.items ≡ plan.now.workers + 1) }
+    ensures pollers { IfOk result (λ opened. length opened.pollers.items ≡ plan.now.workers) }
 {
-    let listener = listen(net, address)?;
+    let workers = plan.workers.value() as usize;
+    let (port, acceptor, pollers) = open_port(net, alloc, plan, address)?;
     let number = plan.number;
     let heaps = plan.heaps.value() as u8;
-    let passes = plan.workers.value() as usize + 1;
     let rule = plan.rule;
-    let made = Site::new_ruled(alloc, number, heaps, passes, rule, hasher);
+    let made = Site::new_ruled(alloc, number, heaps, workers + 1, rule, hasher);
     let (site, passes) = match made {
         Ok(made) => made,
         Err(SiteFault::NoMemory) => return Err(ServeFault::NoMemory),
@@ -119,33 +147,68 @@ fn open_server<R: Net<Listener = TcpListener, Stream = TcpStream>>(
         heaps,
         rule,
         site,
-        listener,
-        connections_left: Mutex::new(ConnectionsLeft::new(plan.connections)),
+        port,
     };
     let server = Arc::new(alloc, server).map_err(AllocError::from)?;
-    Ok((server, passes))
+    Ok(Opened {
+        server,
+        passes,
+        acceptor,
+        pollers,
+    })
 }
 
-/// Appends a linker with the last of the passes where the site has others beside it, and a worker
-/// for each of the other passes.
+/// Listens on an address for a site's clients.
+fn open_port<R: Net<Listener = TcpListener, Stream = TcpStream>>(
+    net: &R,
+    alloc: Global,
+    plan: &SiteOptions,
+    address: SocketAddr,
+) -> Result<(ClientPort, Acceptor, Vec<Poller>), ServeFault>
+    ensures { IfOk result (λ opened. length opened.2.items ≡ plan.now.workers) }
+{
+    let workers = plan.workers.value() as usize;
+    match ClientPort::open(net, alloc, address, workers, plan.limits) {
+        Ok(opened) => Ok(opened),
+        Err(error) => Err(fault_of(error.kind())),
+    }
+}
+
+/// Appends an acceptor, a linker with the last of the passes where the site has others beside it, and a
+/// worker for each of the other passes.
 fn add_threads(
-    server: &Arc<SiteServer>,
-    passes: Vec<Pass>,
+    opened: Opened,
     others: Vec<SiteNo>,
     threads: &mut SiteThreads,
 ) -> Result<(), ServeFault>
-    requires passes { All (IsPassOf (arc_value server.now).site) passes.items }
-    requires some { 0 < length passes.items }
+    requires passes { All (IsPassOf (arc_value opened.server).site) opened.passes.items }
+    requires pollers { length opened.passes.items ≡ length opened.pollers.items + 1 }
     ensures { OnOk result
-        (HasThreads (served (arc_value server.now))
-        (length passes.items - 1) others.items threads.old threads.new) }
+        (HasThreads (served (arc_value opened.server))
+        (length opened.pollers.items) others.items threads.old threads.new) }
 {
+    let Opened {
+        server,
+        passes,
+        acceptor,
+        pollers,
+    } = opened;
+    let server = &server;
     let mut passes = passes;
     let Some(pass) = passes.pop() else {
         unreachable!()
     };
     add_linker(server, pass, others, &mut threads.linkers)?;
-    add_workers(server, passes, &mut threads.workers)?;
+    add_workers(server, passes, pollers, &mut threads.clients.workers)?;
+    let client_acceptor = ClientAcceptor {
+        server: Arc::try_clone(server)?,
+        acceptor,
+    };
+    threads
+        .clients
+        .acceptors
+        .push(client_acceptor)
+        .map_err(AllocError::from)?;
     Ok(())
 }
 
@@ -172,20 +235,27 @@ fn add_linker(
     Ok(())
 }
 
-/// Appends a worker for each of the passes.
+/// Appends a worker for each of the passes, each at a poller of its own.
 fn add_workers(
     server: &Arc<SiteServer>,
     passes: Vec<Pass>,
+    pollers: Vec<Poller>,
     workers: &mut Vec<Worker>,
 ) -> Result<(), AllocError>
-    requires { All (IsPassOf (arc_value server.now).site) passes.items }
+    requires pollers { length pollers.items ≡ length passes.items }
+    requires passes { All (IsPassOf (arc_value server.now).site) passes.items }
     ensures { OnOk result (served_by workers.new.items ≡ served_by workers.old.items
         ++ replicate (length passes.items) (served (arc_value server.now))) }
 {
+    let mut pollers = pollers;
     for pass in passes {
+        let Some(poller) = pollers.pop() else {
+            unreachable!()
+        };
         let worker = Worker {
             server: Arc::try_clone(server)?,
             pass,
+            poller,
         };
         workers.push(worker)?;
     }
@@ -203,11 +273,13 @@ fn site_at(place: u8) -> SiteNo
     }
 }
 
-/// Listens on each site's port, and gives what works for all sites.
+/// Listens on each site's port, which may have so many clients at once, and gives what works for all
+/// sites.
 pub fn open_all<R: Net<Listener = TcpListener, Stream = TcpStream>>(
     net: &R,
     alloc: Global,
     settings: &Settings,
+    most: u64,
     hasher: Seeded,
 ) -> Result<SiteThreads, ServeFault>
     ensures { IfOk result (HaveThreads settings.now) }
@@ -221,7 +293,7 @@ pub fn open_all<R: Net<Listener = TcpListener, Stream = TcpStream>>(
         open_one(
             net,
             alloc,
-            &plan_of(settings, place),
+            &plan_of(settings, place, most),
             *port,
             sites,
             hasher,
@@ -233,21 +305,21 @@ pub fn open_all<R: Net<Listener = TcpListener, Stream = TcpStream>>(
     Ok(threads)
 }
 
-/// How the site of a place among the ports is served.
-fn plan_of(settings: &Settings, place: u8) -> SiteOptions
+/// How the site of a place among the ports is served, whose port may have so many clients at once.
+fn plan_of(settings: &Settings, place: u8, most: u64) -> SiteOptions
     requires { place < 64 }
     ensures number { result.number ≡ place }
     ensures heaps { result.heaps ≡ settings.now.heaps }
     ensures rule { result.rule ≡ settings.now.rule }
     ensures workers { result.workers ≡ settings.now.workers }
-    ensures connections { result.connections ≡ settings.now.connections }
+    ensures limits { result.limits ≡ port_limits settings.now.connections settings.now.limits most }
 {
     SiteOptions {
         number: site_at(place),
         heaps: settings.heaps,
         rule: settings.rule,
         workers: settings.workers,
-        connections: settings.connections,
+        limits: limits_of(settings.connections, &settings.limits, most),
     }
 }
 
@@ -290,8 +362,8 @@ pub fn open_site<R: Net<Listener = TcpListener, Stream = TcpStream>>(
     ensures { OnOk result
         (HasThreads (planned plan.now) plan.now.workers others.items threads.old threads.new) }
 {
-    let (server, passes) = open_server(net, alloc, plan, address, hasher)?;
-    add_threads(&server, passes, others, threads)
+    let opened = open_server(net, alloc, plan, address, hasher)?;
+    add_threads(opened, others, threads)
 }
 
 /// How many messages wait in a site's mailbox at most: four rounds of what so many other sites

@@ -1,25 +1,28 @@
-//! Running the workers of sites.
+//! Running what serves the clients of sites.
 
 use crate::fault::ServeFault;
 use crate::inboxes::Inboxes;
-use crate::worker::Worker;
+use crate::opening::ClientThreads;
 use log::Log;
 use std::alloc::Global;
 use std::sync::{Mutex, Wait};
 use std::thread;
 use std::thread::Threads;
+use std::time::Clock;
 
-/// Runs each worker in a thread of its own, and waits for all. No worker begins before all threads
-/// have started: where one does not start, none serves.
+/// Runs all that serves clients, each in a thread of its own, and waits until all connections have
+/// come and are served. Nobody begins before all threads have started: where one does not start,
+/// nobody is served.
 ///
 /// `Device` where a thread did not start.
-pub fn run_workers<L: Log + Threads + Wait + Sync>(
+pub fn run_clients<L: Log + Clock + Threads + Wait + Sync>(
     log: &L,
     alloc: Global,
-    workers: Vec<Worker>,
+    clients: ClientThreads,
     inboxes: Inboxes<'_>,
     seed: u64,
 ) -> Result<(), ServeFault> {
+    let ClientThreads { workers, acceptors } = clients;
     let gate = Mutex::new(false);
     let gate = &gate;
     thread::scope(
@@ -32,6 +35,11 @@ pub fn run_workers<L: Log + Threads + Wait + Sync>(
                     .spawn(move || worker.run(log, alloc, gate, inboxes, seed))
                     .is_err()
                 {
+                    return Err(ServeFault::Device);
+                }
+            }
+            for client_acceptor in acceptors {
+                if scope.spawn(move || client_acceptor.run(log, gate)).is_err() {
                     return Err(ServeFault::Device);
                 }
             }

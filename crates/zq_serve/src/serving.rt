@@ -4,11 +4,13 @@ ghost use Rattle.std.specs.Arc.{arc_value};
 ghost use Rattle.std.specs.Prelude.{◌≡◌};
 
 use crate::announcing::announce;
+use crate::descriptors::most_clients;
 use crate::fault::ServeFault;
 use crate::inboxes::Inboxes;
+use crate::limits::warn_few;
 use crate::linker::Linker;
 use crate::opening::{SiteThreads, draw_hasher, open_all, open_mailboxes};
-use crate::running::run_workers;
+use crate::running::run_clients;
 use crate::site_server::SiteServer;
 use log::Log;
 use std::alloc::Global;
@@ -18,15 +20,21 @@ use std::random::RandomSource;
 use std::sync::Wait;
 use std::thread;
 use std::thread::Threads;
+use std::time::Clock;
 use zq_dots::SiteNo;
 use zq_peers::{Mailbox, Silent, Straight};
 use zq_posheap::Seeded;
 use zq_settings::Settings;
 
-/// Serves the sites of the settings in this process, each on its port on loopback: `workers`
-/// connections of a site at once, the others as these end. When all ports are listened on it writes
-/// `site N port P` for each site to `out`, and only then accepts. It ends when each port has
-/// accepted and served as many connections as `connections` says.
+/// Serves the sites of the settings in this process, each on its port on loopback: the connections
+/// of a site by `workers` threads, up to so many connections at once as the limits and the
+/// descriptors of the process allow. When all ports are listened on it writes `site N port P` for
+/// each site to `out`, and only then accepts. It ends when each port has accepted and served as many
+/// connections as `connections` says.
+///
+/// A connection past the greatest number gets an error, and is closed. One that is silent, or takes
+/// no replies, for longer than the limits say is closed, and so is the one that is owed most where
+/// too many bytes of replies wait.
 ///
 /// Where there are several sites they are linked: after each call of a connection its site's link
 /// thread tells the other sites what it has, and those that lack something are sent it. Calls that
@@ -34,8 +42,9 @@ use zq_settings::Settings;
 /// are told to stop, and are waited for.
 ///
 /// A connection that breaks the protocol, or whose device fails, ends alone, and is warned of in
-/// the log as `site N protocol fault` or `site N device fault`. One for which there is no memory
-/// ends alone too, with no warning.
+/// the log as `site N protocol fault` or `site N device fault`. One that took no replies is warned
+/// of as `site N unread replies`, one that was owed most as `site N output limit`. One for which
+/// there is no memory ends alone too, with no warning.
 ///
 /// # Errors
 ///
@@ -47,13 +56,24 @@ pub fn serve<L, W>(
     out: &mut W,
 ) -> Result<(), ServeFault>
 where
-    L: Log + Net<Listener = TcpListener, Stream = TcpStream> + RandomSource + Threads + Wait + Sync,
+    L: Log
+        + Net<Listener = TcpListener, Stream = TcpStream>
+        + RandomSource
+        + Clock
+        + Threads
+        + Wait
+        + Sync,
     W: Write,
 {
     let hasher = draw_hasher(log)?;
-    let threads = open_all(log, alloc, settings, hasher)?;
+    let ports = settings.ports.as_slice();
+    let most = most_clients(ports.len() as u64, settings.workers, 0);
+    let threads = open_all(log, alloc, settings, most, hasher)?;
     let mailboxes = open_mailboxes(alloc, settings)?;
-    announce(settings.ports.as_slice(), out)?;
+    announce(ports, out)?;
+    for site in 0..ports.len() {
+        warn_few(log, site as u64, settings.limits.clients, most);
+    }
     run_all(
         log,
         alloc,
@@ -66,7 +86,7 @@ where
 
 /// Runs each linker and each worker in a thread of its own. When all workers are done it sends Stop
 /// to each mailbox, and waits for the linkers.
-fn run_all<L: Log + Threads + Wait + Sync>(
+fn run_all<L: Log + Clock + Threads + Wait + Sync>(
     log: &L,
     alloc: Global,
     threads: SiteThreads,
@@ -74,7 +94,7 @@ fn run_all<L: Log + Threads + Wait + Sync>(
     hasher: Seeded,
     seed: u64,
 ) -> Result<(), ServeFault> {
-    let SiteThreads { workers, linkers } = threads;
+    let SiteThreads { clients, linkers } = threads;
     thread::scope(
         thread::scope_env(),
         log,
@@ -89,7 +109,7 @@ fn run_all<L: Log + Threads + Wait + Sync>(
                 }
             }
             if ended.is_ok() {
-                ended = run_workers(log, alloc, workers, Inboxes::Each(mailboxes), seed);
+                ended = run_clients(log, alloc, clients, Inboxes::Each(mailboxes), seed);
             }
             for mailbox in mailboxes {
                 mailbox.stop(log);

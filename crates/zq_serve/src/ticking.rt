@@ -19,6 +19,8 @@ impl<A: Answers, T: Notifier> Answers for Ticking<A, T> {
     ghost answers = { λ old words reply new.
         A.answers old.answerer words reply new.answerer × T.tells old.notifier reply new.notifier };
 
+    ghost others = { λ old new. A.others old.answerer new.answerer };
+
     fn answer(&mut self, alloc: Global, request: &Request) -> Reply {
         let reply = self.answerer.answer(alloc, request);
         self.notifier.tell(Snapshot::of(&reply));

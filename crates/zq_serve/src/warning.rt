@@ -1,42 +1,47 @@
-//! What is said of a connection that ended badly.
+//! What is said of a port where something goes wrong.
 
-ghost use Rattle.std.specs.Prelude.{◌≡◌};
-ghost use Rattle.zq_serve.specs.Faults.{fault_of as fault_in};
-
+use log::{Log, warn};
 use std::fmt;
 use zq_dots::SiteNo;
-use zq_session::{End, SessionFault};
+use zq_loop::{PortFault, Watch};
 
-/// What ended a connection that is worth a warning.
-#[derive(Clone, Copy, Debug, PartialEq, Eq)]
-pub enum Fault {
-    /// Its bytes were no request, or one past the limits.
-    Protocol,
-    /// It could not be accepted, read or written.
-    Device,
+/// Warns of what goes wrong at a site's port.
+#[derive(Drop)]
+pub struct Warner<'a, L: Log> {
+    log: &'a L,
+    site: SiteNo,
 }
 
-/// What a session's end is worth: nothing where the input ended, or where there was no memory.
-pub fn fault_of(ended: &Result<End, SessionFault>) -> Option<Fault>
-    ensures { result ≡ fault_in ended.now }
-{
-    match ended {
-        Ok(End::Protocol) => Some(Fault::Protocol),
-        Err(SessionFault::Read | SessionFault::Write) => Some(Fault::Device),
-        Ok(End::Clean | End::Inside) | Err(SessionFault::NoMemory) => None,
+impl<'a, L: Log> Warner<'a, L> {
+    /// At this site's port, in this log.
+    pub fn new(log: &'a L, site: SiteNo) -> Warner<'a, L> {
+        Warner { log, site }
     }
+}
+
+impl<L: Log> Watch for Warner<'_, L> {
+    fn tell(&self, fault: PortFault) {
+        let warning = Warning {
+            site: self.site,
+            fault,
+        };
+        warn!(self.log; "{}", warning);
+    }
+
+    // Nothing is kept on disk.
+    fn settle(&self) {}
 }
 
 /// The words of a warning.
 #[derive(Clone, Copy)]
-pub struct Warning {
-    pub site: SiteNo,
-    pub fault: Fault,
+struct Warning {
+    site: SiteNo,
+    fault: PortFault,
 }
 
 impl fmt::Display for Warning {
     ghost use Rattle.std.specs.Prelude.{Some, codes, decimal, ◌++◌};
-    ghost use Rattle.zq_serve.specs.Faults.{words_of};
+    ghost use Rattle.zq_serve.specs.Warnings.{words_of};
 
     ghost output = { λ warning.
         Some (codes "site " ++ decimal warning.site ++ words_of warning.fault) };
@@ -44,8 +49,10 @@ impl fmt::Display for Warning {
     fn fmt<W: fmt::Write>(&self, f: &mut fmt::Formatter<W>) -> fmt::Result {
         let site = self.site.value();
         match self.fault {
-            Fault::Protocol => write!(f, "site {site} protocol fault"),
-            Fault::Device => write!(f, "site {site} device fault"),
+            PortFault::Protocol => write!(f, "site {site} protocol fault"),
+            PortFault::Device => write!(f, "site {site} device fault"),
+            PortFault::Unread => write!(f, "site {site} unread replies"),
+            PortFault::Output => write!(f, "site {site} output limit"),
         }
     }
 }

@@ -133,5 +133,6 @@ each_refusal_is_of_a_broken_rule table why =
     by_steps (known_keys form.Sites table) _ why P (λ h. let (name, same, has) = unknown_fault form.Sites table why h in rw same has) (λ known _.
     by_steps (ports_of (value_at key.Ports table)) _ why P (ports_broken table why _ refl) (λ ports _.
     by_steps (common_of table) _ why P
-    (common_fault table why P (fault_breaks key.Heaps table why) (fault_breaks key.Workers table why) (fault_breaks key.Connections table why) (fault_breaks key.Seed table why) (fault_breaks key.Rule table why))
+    (common_fault table why P (fault_breaks key.Heaps table why) (fault_breaks key.Workers table why) (fault_breaks key.Connections table why) (fault_breaks key.Clients table why) (fault_breaks key.Timeout table why)
+    (fault_breaks key.WriteTimeout table why) (fault_breaks key.Output table why) (fault_breaks key.Seed table why) (fault_breaks key.Rule table why))
     (λ common _ wrong. cc)))

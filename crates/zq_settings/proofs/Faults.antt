@@ -9,7 +9,7 @@ use Rattle.toml.specs.View.{items_of}
 use Rattle.zq_settings.specs.Breaks.{HasUnknown, IsOfOtherKind, IsOutOfRange, IsOutside}
 use Rattle.zq_settings.specs.Keys.{is_known}
 use Rattle.zq_settings.specs.Numbers.{within}
-use Rattle.zq_settings.specs.Settings.{◌>>=◌, whole_of, number_of, required_of, limit_of, connections_of, rule_of, rule_named, common_of, count_of, known_keys, unless_unknown}
+use Rattle.zq_settings.specs.Settings.{◌>>=◌, whole_of, number_of, required_of, limit_of, connections_of, rule_of, rule_named, client_limits_of, common_of, count_of, known_keys, unless_unknown}
 use Rattle.zq_settings.specs.Tables.{names_in, value_at, first_unknown}
 use Rattle.zq_settings.specs.declared.form.Form.{Form}
 use Rattle.zq_settings.specs.declared.key.Key.{Key}
@@ -84,15 +84,27 @@ rule_fault table why (Some d) seen h =
           inr (same, (d, seen, (word, text_since d word (some_since _ _ word is), none)))
     ]
 
+-- what limits the clients of a port
+client_limits_fault : (table : Members) (why : Why) (P : Type 0) → (HasFault key.Clients table why → P) → (HasFault key.Timeout table why → P) → (HasFault key.WriteTimeout table why → P)
+    → (HasFault key.Output table why → P) → client_limits_of table ≡ Err why → P
+client_limits_fault table why P of_clients of_timeout of_write_timeout of_output =
+    by_steps (number_of key.Clients 1 1000000 10000 (value_at key.Clients table)) _ why P (λ h. of_clients (number_fault table key.Clients 1 1000000 10000 (λ d none. none) (λ d out. out) why _ refl h)) (λ clients _.
+    by_steps (number_of key.Timeout 0 1000000 0 (value_at key.Timeout table)) _ why P (λ h. of_timeout (number_fault table key.Timeout 0 1000000 0 (λ d none. none) (λ d out. out) why _ refl h)) (λ timeout _.
+    by_steps (number_of key.WriteTimeout 0 1000000 60 (value_at key.WriteTimeout table)) _ why P (λ h. of_write_timeout (number_fault table key.WriteTimeout 0 1000000 60 (λ d none. none) (λ d out. out) why _ refl h)) (λ write_timeout _.
+    by_steps (number_of key.Output 1048576 1099511627776 268435456 (value_at key.Output table)) _ why P
+    (λ h. of_output (number_fault table key.Output 1048576 1099511627776 268435456 (λ d none. none) (λ d out. out) why _ refl h)) (λ output _ wrong. cc))))
+
 -- what all settings have
 pub common_fault : (table : Members) (why : Why) (P : Type 0) → (HasFault key.Heaps table why → P) → (HasFault key.Workers table why → P) → (HasFault key.Connections table why → P)
+    → (HasFault key.Clients table why → P) → (HasFault key.Timeout table why → P) → (HasFault key.WriteTimeout table why → P) → (HasFault key.Output table why → P)
     → (HasFault key.Seed table why → P) → (HasFault key.Rule table why → P) → common_of table ≡ Err why → P
-common_fault table why P of_heaps of_workers of_connections of_seed of_rule =
+common_fault table why P of_heaps of_workers of_connections of_clients of_timeout of_write_timeout of_output of_seed of_rule =
     by_steps (number_of key.Heaps 2 16 4 (value_at key.Heaps table)) _ why P (λ h. of_heaps (number_fault table key.Heaps 2 16 4 (λ d none. none) (λ d out. out) why _ refl h)) (λ heaps _.
     by_steps (number_of key.Workers 1 64 4 (value_at key.Workers table)) _ why P (λ h. of_workers (number_fault table key.Workers 1 64 4 (λ d none. none) (λ d out. out) why _ refl h)) (λ workers _.
     by_steps (connections_of (value_at key.Connections table)) _ why P (λ h. of_connections (limit_fault table why h)) (λ connections _.
+    by_steps (client_limits_of table) _ why P (client_limits_fault table why P of_clients of_timeout of_write_timeout of_output) (λ limits _.
     by_steps (number_of key.Seed 0 9223372036854775807 1 (value_at key.Seed table)) _ why P (λ h. of_seed (number_fault table key.Seed 0 9223372036854775807 1 (λ d none. none) (λ d out. out) why _ refl h)) (λ seed _.
-    by_steps (rule_of (value_at key.Rule table)) _ why P (λ h. of_rule (rule_fault table why _ refl h)) (λ rule _ wrong. cc)))))
+    by_steps (rule_of (value_at key.Rule table)) _ why P (λ h. of_rule (rule_fault table why _ refl h)) (λ rule _ wrong. cc))))))
 
 -- an unknown key
 unknown_at : (form : Form) (names : List (List ℕ)) (name : List ℕ) → find (λ n. not (is_known form n)) names ≡ Some name → (before : List (List ℕ)) × (others : List (List ℕ)) × (names ≡ before ++ name ∷ others) × (is_known form name ≡ false)

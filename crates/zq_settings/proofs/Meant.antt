@@ -8,12 +8,13 @@ use Rattle.std.proofs.lemmas.List.Elements.{All-nil, All-cons, All-head, All-tai
 use Rattle.std.specs.List.{All, find}
 use Rattle.toml.specs.Data.{Members}
 use Rattle.zq_settings.specs.Keys.{is_known}
-use Rattle.zq_settings.specs.Rules.{IsLimit, IsNumber, IsRule, IsSettings, SettingsAreOfTheTable}
-use Rattle.zq_settings.specs.Settings.{number_of, connections_of, rule_of, common_of, ports_of, known_keys, unless_unknown, settings_of}
+use Rattle.zq_settings.specs.Rules.{AreClientLimits, IsLimit, IsNumber, IsRule, IsSettings, SettingsAreOfTheTable}
+use Rattle.zq_settings.specs.Settings.{number_of, connections_of, rule_of, client_limits_of, common_of, ports_of, known_keys, unless_unknown, settings_of}
 use Rattle.zq_settings.specs.Tables.{names_in, value_at, first_unknown}
 use Rattle.zq_settings.specs.declared.form.Form.{Form}
 use Rattle.zq_settings.specs.declared.form.Form.TheVariants as form
 use Rattle.zq_settings.specs.declared.key.Key.TheVariants as key
+use Rattle.zq_settings.specs.declared.values.ClientLimits.{ClientLimits}
 use Rattle.zq_settings.specs.declared.values.Common.{Common}
 use Rattle.zq_settings.specs.declared.values.Settings.{Settings}
 
@@ -40,11 +41,36 @@ known_since form table known h = none_unknown form (names_in table) (no_name for
 pub known_from : (form : Form) (table : Members) → All (λ name. is_known form name ≡ true) (names_in table) → known_keys form table ≡ Ok tt
 known_from form table all = rw (all_known form (names_in table) all)
 
+-- what limits the clients of a port
+client_limits_since : (table : Members) (limits : ClientLimits) → client_limits_of table ≡ Ok limits → AreClientLimits table limits
+client_limits_since table limits h =
+    let (clients, clients_read, h2) = both_ok (number_of _ 1 1000000 10000 (value_at key.Clients table)) _ limits h in
+    let (timeout, timeout_read, h3) = both_ok (number_of _ 0 1000000 0 (value_at key.Timeout table)) _ limits h2 in
+    let (write_timeout, write_timeout_read, h4) = both_ok (number_of _ 0 1000000 60 (value_at key.WriteTimeout table)) _ limits h3 in
+    let (output, output_read, h5) = both_ok (number_of _ 1048576 1099511627776 268435456 (value_at key.Output table)) _ limits h4 in
+    let whole : record { clients = clients; timeout = timeout; write_timeout = write_timeout; output = output } ≡ limits = cc in
+    rw (← whole) (record {
+      clients = number_since _ 1 1000000 10000 clients _ clients_read;
+      timeout = number_since _ 0 1000000 0 timeout _ timeout_read;
+      write_timeout = number_since _ 0 1000000 60 write_timeout _ write_timeout_read;
+      output = number_since _ 1048576 1099511627776 268435456 output _ output_read;
+    })
+
+client_limits_from : (table : Members) (limits : ClientLimits) → AreClientLimits table limits → client_limits_of table ≡ Ok limits
+client_limits_from table limits are =
+    rw (
+      number_from key.Clients 1 1000000 10000 limits.clients _ are.clients,
+      number_from key.Timeout 0 1000000 0 limits.timeout _ are.timeout,
+      number_from key.WriteTimeout 0 1000000 60 limits.write_timeout _ are.write_timeout,
+      number_from key.Output 1048576 1099511627776 268435456 limits.output _ are.output,
+    )
+
 -- what all settings have
 pub record IsCommon (table : Members) (common : Common) : Type 0 where
   pub heaps : IsNumber 2 16 4 (value_at key.Heaps table) common.heaps
   pub workers : IsNumber 1 64 4 (value_at key.Workers table) common.workers
   pub connections : IsLimit (value_at key.Connections table) common.connections
+  pub limits : AreClientLimits table common.limits
   pub seed : IsNumber 0 9223372036854775807 1 (value_at key.Seed table) common.seed
   pub rule : IsRule (value_at key.Rule table) common.rule
 
@@ -53,13 +79,15 @@ common_since table common h =
     let (heaps, heaps_read, h2) = both_ok (number_of _ 2 16 4 (value_at key.Heaps table)) _ common h in
     let (workers, workers_read, h3) = both_ok (number_of _ 1 64 4 (value_at key.Workers table)) _ common h2 in
     let (limit, limit_read, h4) = both_ok (connections_of (value_at key.Connections table)) _ common h3 in
-    let (seed, seed_read, h5) = both_ok (number_of _ 0 9223372036854775807 1 (value_at key.Seed table)) _ common h4 in
-    let (rule, rule_read, h6) = both_ok (rule_of (value_at key.Rule table)) _ common h5 in
-    let whole : record { heaps = heaps; workers = workers; connections = limit; seed = seed; rule = rule } ≡ common = cc in
+    let (limits, limits_read, h5) = both_ok (client_limits_of table) _ common h4 in
+    let (seed, seed_read, h6) = both_ok (number_of _ 0 9223372036854775807 1 (value_at key.Seed table)) _ common h5 in
+    let (rule, rule_read, h7) = both_ok (rule_of (value_at key.Rule table)) _ common h6 in
+    let whole : record { heaps = heaps; workers = workers; connections = limit; limits = limits; seed = seed; rule = rule } ≡ common = cc in
     rw (← whole) (record {
       heaps = number_since _ 2 16 4 heaps _ heaps_read;
       workers = number_since _ 1 64 4 workers _ workers_read;
       connections = limit_since limit _ limit_read;
+      limits = client_limits_since table limits limits_read;
       seed = number_since _ 0 9223372036854775807 1 seed _ seed_read;
       rule = rule_since rule _ rule_read;
     })
@@ -70,6 +98,7 @@ common_from table common is =
       number_from key.Heaps 2 16 4 common.heaps _ is.heaps,
       number_from key.Workers 1 64 4 common.workers _ is.workers,
       limit_from common.connections _ is.connections,
+      client_limits_from table common.limits is.limits,
       number_from key.Seed 0 9223372036854775807 1 common.seed _ is.seed,
       rule_from common.rule _ is.rule,
     )
@@ -79,7 +108,7 @@ settings_since table settings h =
     let (known, is_known_read, h1) = both_ok (known_keys form.Sites table) _ settings h in
     let (ports, ports_read, h2) = both_ok (ports_of (value_at key.Ports table)) _ settings h1 in
     let (common, common_read, h3) = both_ok (common_of table) _ settings h2 in
-    let whole : record { ports = ports; heaps = common.heaps; workers = common.workers; connections = common.connections; seed = common.seed; rule = common.rule } ≡ settings = cc in
+    let whole : record { ports = ports; heaps = common.heaps; workers = common.workers; connections = common.connections; limits = common.limits; seed = common.seed; rule = common.rule } ≡ settings = cc in
     let is = common_since table common common_read in
     rw (← whole) (record {
       known = known_since form.Sites table known is_known_read;
@@ -87,14 +116,15 @@ settings_since table settings h =
       heaps = is.heaps;
       workers = is.workers;
       connections = is.connections;
+      limits = is.limits;
       seed = is.seed;
       rule = is.rule;
     })
 
 pub settings_from : (table : Members) (settings : Settings) → IsSettings table settings → settings_of table ≡ Ok settings
 settings_from table settings is =
-    let common : Common = record { heaps = settings.heaps; workers = settings.workers; connections = settings.connections; seed = settings.seed; rule = settings.rule } in
-    let is_common : IsCommon table common = record { heaps = is.heaps; workers = is.workers; connections = is.connections; seed = is.seed; rule = is.rule } in
+    let common : Common = record { heaps = settings.heaps; workers = settings.workers; connections = settings.connections; limits = settings.limits; seed = settings.seed; rule = settings.rule } in
+    let is_common : IsCommon table common = record { heaps = is.heaps; workers = is.workers; connections = is.connections; limits = is.limits; seed = is.seed; rule = is.rule } in
     rw (known_from form.Sites table is.known, ports_from settings.ports _ is.ports, common_from table common is_common)
 
 pub settings_are_of_the_table : SettingsAreOfTheTable

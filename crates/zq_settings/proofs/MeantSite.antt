@@ -8,7 +8,7 @@ use Rattle.std.proofs.Common.{◌≡◌, Ok, refl}
 use Rattle.std.specs.Option.{is_some}
 use Rattle.toml.specs.Data.{Members}
 use Rattle.zq_settings.specs.Settings.{common_of, known_keys, required_of, site_of}
-use Rattle.zq_settings.specs.Site.{address_at, bind_of, peers_of, secret_of, site_settings_of}
+use Rattle.zq_settings.specs.Site.{address_at, bind_of, if_given, peers_of, secret_of, site_settings_of}
 use Rattle.zq_settings.specs.SiteRules.{IsSiteSettings, SiteSettingsAreOfTheTable}
 use Rattle.zq_settings.specs.Tables.{value_at}
 use Rattle.zq_settings.specs.declared.form.Form.TheVariants as form
@@ -26,7 +26,7 @@ site_settings_since table settings h =
     let (listen, listen_read, h6) = both_ok (address_at (is_some secret) key.Listen (value_at key.Listen table)) _ settings h5 in
     let (peers, peers_read, h7) = both_ok (peers_of site (is_some secret) (value_at key.Peers table)) _ settings h6 in
     let (common, common_read, h8) = both_ok (common_of table) _ settings h7 in
-    let whole : record { site = site; port = port; bind = bind; listen = listen; peers = peers; heaps = common.heaps; rule = common.rule; workers = common.workers; connections = common.connections; seed = common.seed; secret = secret } ≡ settings = ok_same _ settings _ _ refl refl h8 in
+    let whole : record { site = site; port = port; bind = bind; listen = listen; peers = peers; heaps = common.heaps; rule = common.rule; workers = if_given common.workers (value_at key.Workers table); connections = common.connections; limits = common.limits; seed = common.seed; secret = secret } ≡ settings = ok_same _ settings _ _ refl refl h8 in
     let is = common_since table common common_read in
     rw (← whole) (record {
       known = known_since form.Site table known known_read;
@@ -37,16 +37,18 @@ site_settings_since table settings h =
       listen = address_at_since secret key.Listen _ listen listen_read;
       peers = peers_since site secret peers _ peers_read;
       heaps = is.heaps;
-      workers = is.workers;
+      workers = (common.workers, is.workers, refl);
       connections = is.connections;
+      limits = is.limits;
       seed = is.seed;
       rule = is.rule;
     })
 
 site_settings_from : (table : Members) (settings : SiteSettings) → IsSiteSettings table settings → site_settings_of table ≡ Ok settings
 site_settings_from table settings is =
-    let common : Common = record { heaps = settings.heaps; workers = settings.workers; connections = settings.connections; seed = settings.seed; rule = settings.rule } in
-    let is_common : IsCommon table common = record { heaps = is.heaps; workers = is.workers; connections = is.connections; seed = is.seed; rule = is.rule } in
+    let (workers, are_workers, given) = is.workers in
+    let common : Common = record { heaps = settings.heaps; workers = workers; connections = settings.connections; limits = settings.limits; seed = settings.seed; rule = settings.rule } in
+    let is_common : IsCommon table common = record { heaps = is.heaps; workers = are_workers; connections = is.connections; limits = is.limits; seed = is.seed; rule = is.rule } in
     rw (
       known_from form.Site table is.known,
       required_from key.Site 0 63 settings.site _ is.site,
@@ -56,6 +58,7 @@ site_settings_from table settings is =
       address_at_from settings.secret key.Listen _ settings.listen is.listen,
       peers_from settings.site settings.secret settings.peers _ is.peers,
       common_from table common is_common,
+      given,
     )
 
 pub site_settings_are_of_the_table : SiteSettingsAreOfTheTable

@@ -247,5 +247,6 @@ each_refusal_of_a_site_is_of_a_broken_rule table why =
     by_steps (peers_of site (is_some secret) (value_at key.Peers table)) _ why P (peers_break site secret table (required_since key.Site 0 63 site _ site_read).0 (no_secret secret _ secret_read) why _ refl) (λ peers _.
     by_steps (common_of table) _ why P
     (common_fault table why P (fault_breaks table table key.Heaps (λ Q q. q) why) (fault_breaks table table key.Workers (λ Q q. q) why) (fault_breaks table table key.Connections (λ Q q. q) why)
-    (fault_breaks table table key.Seed (λ Q q. q) why) (fault_breaks table table key.Rule (λ Q q. q) why))
+    (fault_breaks table table key.Clients (λ Q q. q) why) (fault_breaks table table key.Timeout (λ Q q. q) why) (fault_breaks table table key.WriteTimeout (λ Q q. q) why)
+    (fault_breaks table table key.Output (λ Q q. q) why) (fault_breaks table table key.Seed (λ Q q. q) why) (fault_breaks table table key.Rule (λ Q q. q) why))
     (λ common _ wrong. cc))))))))

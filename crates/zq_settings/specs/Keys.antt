@@ -13,6 +13,10 @@ name_of key.Ports = codes "ports"
 name_of key.Heaps = codes "heaps"
 name_of key.Workers = codes "workers"
 name_of key.Connections = codes "connections"
+name_of key.Clients = codes "clients"
+name_of key.Timeout = codes "timeout"
+name_of key.WriteTimeout = codes "write_timeout"
+name_of key.Output = codes "output"
 name_of key.Seed = codes "seed"
 name_of key.Rule = codes "rule"
 name_of key.Site = codes "site"
@@ -26,11 +30,13 @@ name_of key.PeerAddress = codes "address"
 
 -- the keys that a table of each kind may have
 abbrev pub keys_of : Form → List Key
-keys_of form.Sites = key.Ports ∷ key.Heaps ∷ key.Workers ∷ key.Connections ∷ key.Seed ∷ key.Rule
-    ∷ []
+keys_of form.Sites =
+    key.Ports ∷ key.Heaps ∷ key.Workers ∷ key.Connections ∷ key.Clients ∷ key.Timeout
+    ∷ key.WriteTimeout ∷ key.Output ∷ key.Seed ∷ key.Rule ∷ []
 keys_of form.Site =
     key.Site ∷ key.Port ∷ key.Bind ∷ key.Secret ∷ key.Listen ∷ key.Peers ∷ key.Heaps ∷ key.Workers
-    ∷ key.Connections ∷ key.Seed ∷ key.Rule ∷ []
+    ∷ key.Connections ∷ key.Clients ∷ key.Timeout ∷ key.WriteTimeout ∷ key.Output ∷ key.Seed
+    ∷ key.Rule ∷ []
 keys_of form.Peer = key.PeerSite ∷ key.PeerAddress ∷ []
 
 -- one of the keys of such a table has this name

@@ -10,6 +10,7 @@ use Rattle.zq_settings.specs.Settings.{limit_of, settings_of}
 use Rattle.zq_settings.specs.Tables.{names_in, value_at}
 use Rattle.zq_settings.specs.declared.form.Form.TheVariants as form
 use Rattle.zq_settings.specs.declared.key.Key.TheVariants as key
+use Rattle.zq_settings.specs.declared.values.ClientLimits.{ClientLimits}
 use Rattle.zq_settings.specs.declared.values.Settings.{Settings}
 
 -- there is no value, and the number is the default, or the value is the number, which lies between
@@ -20,6 +21,13 @@ IsNumber least most default value n = ((value ≡ None) × (n ≡ default)) ⊎ 
 -- a number of connections, of which 0 is no limit
 abbrev pub IsLimit : Option Data → Option ℕ → Type 0
 IsLimit value limit = (n : ℕ) × IsNumber 0 1000000 0 value n × (limit ≡ limit_of n)
+
+-- what limits the clients of a port, key by key
+pub record AreClientLimits (table : Members) (limits : ClientLimits) : Type 0 where
+  pub clients : IsNumber 1 1000000 10000 (value_at key.Clients table) limits.clients
+  pub timeout : IsNumber 0 1000000 0 (value_at key.Timeout table) limits.timeout
+  pub write_timeout : IsNumber 0 1000000 60 (value_at key.WriteTimeout table) limits.write_timeout
+  pub output : IsNumber 1048576 1099511627776 268435456 (value_at key.Output table) limits.output
 
 -- how a rule is written
 abbrev pub word_of : Rule → List ℕ
@@ -46,6 +54,7 @@ pub record IsSettings (table : Members) (settings : Settings) : Type 0 where
   pub heaps : IsNumber 2 16 4 (value_at key.Heaps table) settings.heaps
   pub workers : IsNumber 1 64 4 (value_at key.Workers table) settings.workers
   pub connections : IsLimit (value_at key.Connections table) settings.connections
+  pub limits : AreClientLimits table settings.limits
   pub seed : IsNumber 0 9223372036854775807 1 (value_at key.Seed table) settings.seed
   pub rule : IsRule (value_at key.Rule table) settings.rule
 

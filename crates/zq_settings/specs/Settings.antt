@@ -12,6 +12,7 @@ use Rattle.zq_settings.specs.declared.form.Form.{Form}
 use Rattle.zq_settings.specs.declared.form.Form.TheVariants as form
 use Rattle.zq_settings.specs.declared.key.Key.{Key}
 use Rattle.zq_settings.specs.declared.key.Key.TheVariants as key
+use Rattle.zq_settings.specs.declared.values.ClientLimits.{ClientLimits}
 use Rattle.zq_settings.specs.declared.values.Common.{Common}
 use Rattle.zq_settings.specs.declared.values.Settings.{Settings}
 use Rattle.zq_settings.specs.declared.why.Why.{Why}
@@ -62,15 +63,25 @@ rule_of None = Ok High
 rule_of (Some value) = ok_or (as_str value) (Kind key.Rule) >>=
     (λ word. ok_or (rule_named word) (Range key.Rule))
 
+-- what limits the clients of a port
+abbrev pub client_limits_of : Members → Result ClientLimits Why
+client_limits_of table =
+    number_of key.Clients 1 1000000 10000 (value_at key.Clients table) >>= (λ clients.
+    number_of key.Timeout 0 1000000 0 (value_at key.Timeout table) >>= (λ timeout.
+    number_of key.WriteTimeout 0 1000000 60 (value_at key.WriteTimeout table) >>= (λ write_timeout.
+    number_of key.Output 1048576 1099511627776 268435456 (value_at key.Output table) >>= (λ output.
+    Ok (record { clients = clients; timeout = timeout; write_timeout = write_timeout; output = output })))))
+
 -- what all settings have
 abbrev pub common_of : Members → Result Common Why
 common_of table =
     number_of key.Heaps 2 16 4 (value_at key.Heaps table) >>= (λ heaps.
     number_of key.Workers 1 64 4 (value_at key.Workers table) >>= (λ workers.
     connections_of (value_at key.Connections table) >>= (λ connections.
+    client_limits_of table >>= (λ limits.
     number_of key.Seed 0 9223372036854775807 1 (value_at key.Seed table) >>= (λ seed.
     rule_of (value_at key.Rule table) >>= (λ rule.
-    Ok (record { heaps = heaps; workers = workers; connections = connections; seed = seed; rule = rule }))))))
+    Ok (record { heaps = heaps; workers = workers; connections = connections; limits = limits; seed = seed; rule = rule })))))))
 
 -- the number of entries of an array
 abbrev pub count_of : Items → ℕ
@@ -122,4 +133,4 @@ settings_of table =
     known_keys form.Sites table >>= (λ known.
     ports_of (value_at key.Ports table) >>= (λ ports.
     common_of table >>= (λ common.
-    Ok (record { ports = ports; heaps = common.heaps; workers = common.workers; connections = common.connections; seed = common.seed; rule = common.rule }))))
+    Ok (record { ports = ports; heaps = common.heaps; workers = common.workers; connections = common.connections; limits = common.limits; seed = common.seed; rule = common.rule }))))

@@ -1,5 +1,5 @@
 -- The settings of one site that a table has, or the first rule that it breaks.
-use Rattle.std.specs.Prelude.{ℕ, ◌==◌, nat_lt, ◌||◌, Bool, List, [], length, Option, Some, None, Result, Ok, Err, if◌then◌else◌}
+use Rattle.std.specs.Prelude.{ℕ, ◌==◌, nat_lt, ◌||◌, Bool, List, [], length, Option, Some, None, Result, Ok, Err, if◌then◌else◌, option_map}
 use Rattle.std.specs.Option.{is_some, ok_or}
 use Rattle.std.specs.declared.net.ip_addr.IpAddr.{IpAddr}
 use Rattle.std.specs.declared.net.socket_addr.SocketAddr.{SocketAddr}
@@ -80,6 +80,10 @@ abbrev pub peers_of : ℕ → Bool → Option Data → Result (List Peer) Why
 peers_of own secured None = Ok []
 peers_of own secured (Some value) = ok_or (as_array value) (Kind key.Peers) >>= peers_in own secured
 
+-- a number, where there is a value
+abbrev pub if_given : ℕ → Option Data → Option ℕ
+if_given n value = option_map (λ _. n) value
+
 -- the values of the keys in turn, in a table with no other key
 abbrev pub site_values_of : Members → Result SiteSettings Why
 site_values_of table =
@@ -98,8 +102,9 @@ site_values_of table =
       peers = peers;
       heaps = common.heaps;
       rule = common.rule;
-      workers = common.workers;
+      workers = if_given common.workers (value_at key.Workers table);
       connections = common.connections;
+      limits = common.limits;
       seed = common.seed;
       secret = secret;
     }))))))))

@@ -10,8 +10,8 @@ use Rattle.toml.specs.View.{items_of}
 use Rattle.zq_settings.specs.Addresses.{localhost}
 use Rattle.zq_settings.specs.Keys.{is_known}
 use Rattle.zq_settings.specs.Peers.{ArePeers}
-use Rattle.zq_settings.specs.Rules.{IsLimit, IsNumber, IsRule}
-use Rattle.zq_settings.specs.Site.{site_settings_of}
+use Rattle.zq_settings.specs.Rules.{AreClientLimits, IsLimit, IsNumber, IsRule}
+use Rattle.zq_settings.specs.Site.{if_given, site_settings_of}
 use Rattle.zq_settings.specs.Tables.{names_in, value_at}
 use Rattle.zq_settings.specs.declared.form.Form.TheVariants as form
 use Rattle.zq_settings.specs.declared.key.Key.TheVariants as key
@@ -66,6 +66,10 @@ IsArrayOf own secret value peers =
     ⊎ ((entries : List Data) × (value ≡ Some (array (items_of entries)))
     × AreEach (IsPeer own secret) entries peers × ArePeers peers)
 
+-- there is neither a value nor a number, or the value is the number of workers
+abbrev pub AreWorkers : Option Data → Option ℕ → Type 0
+AreWorkers value workers = (n : ℕ) × IsNumber 1 64 4 value n × (workers ≡ if_given n value)
+
 -- each key of the table is known, and each value is as its key wants it
 pub record IsSiteSettings (table : Members) (settings : SiteSettings) : Type 0 where
   pub known : All (λ name. IsTrue (is_known form.Site name)) (names_in table)
@@ -76,8 +80,9 @@ pub record IsSiteSettings (table : Members) (settings : SiteSettings) : Type 0 w
   pub listen : IsAddress settings.secret (value_at key.Listen table) settings.listen
   pub peers : IsArrayOf settings.site settings.secret (value_at key.Peers table) settings.peers
   pub heaps : IsNumber 2 16 4 (value_at key.Heaps table) settings.heaps
-  pub workers : IsNumber 1 64 4 (value_at key.Workers table) settings.workers
+  pub workers : AreWorkers (value_at key.Workers table) settings.workers
   pub connections : IsLimit (value_at key.Connections table) settings.connections
+  pub limits : AreClientLimits table settings.limits
   pub seed : IsNumber 0 9223372036854775807 1 (value_at key.Seed table) settings.seed
   pub rule : IsRule (value_at key.Rule table) settings.rule
 

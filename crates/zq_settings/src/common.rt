@@ -2,13 +2,13 @@
 
 ghost use Rattle.std.specs.Prelude.{◌≡◌};
 ghost use Rattle.toml.specs.View.{table_view};
-ghost use Rattle.zq_settings.specs.Settings.{common_of, rule_of};
+ghost use Rattle.zq_settings.specs.Settings.{client_limits_of, common_of, rule_of};
 ghost use Rattle.zq_settings.specs.Tables.{value_at as value_in};
 
 use crate::key::Key;
 use crate::lookup::value_at;
 use crate::number::{read_connections, read_number};
-use crate::values::Common;
+use crate::values::{ClientLimits, Common};
 use crate::why::Why;
 use crate::within::Within;
 use toml::Table;
@@ -22,8 +22,21 @@ pub fn read_common(table: &Table) -> Result<Common, Why>
         heaps: read_number(table, Key::Heaps, Within::of(4))?,
         workers: read_number(table, Key::Workers, Within::of(4))?,
         connections: read_connections(table)?,
+        limits: read_client_limits(table)?,
         seed: read_number(table, Key::Seed, Within::of(1))?,
         rule: read_rule(table)?,
+    })
+}
+
+/// What limits the clients of a port: the values of these keys in their order.
+fn read_client_limits(table: &Table) -> Result<ClientLimits, Why>
+    ensures { result ≡ client_limits_of (table_view table.now) }
+{
+    Ok(ClientLimits {
+        clients: read_number(table, Key::Clients, Within::of(10_000))?,
+        timeout: read_number(table, Key::Timeout, Within::of(0))?,
+        write_timeout: read_number(table, Key::WriteTimeout, Within::of(60))?,
+        output: read_number(table, Key::Output, Within::of(268_435_456))?,
     })
 }
 

@@ -33,10 +33,10 @@ impl Form {
     {
         match self {
             Form::Sites => {
-                "settings, which are ports, heaps, workers, connections, seed and rule"
+                "settings, which are ports, heaps, workers, connections, clients, timeout, write_timeout, output, seed and rule"
             }
             Form::Site => {
-                "a site's settings, which are site, port, bind, secret, listen, peers, heaps, workers, connections, seed and rule"
+                "a site's settings, which are site, port, bind, secret, listen, peers, heaps, workers, connections, clients, timeout, write_timeout, output, seed and rule"
             }
             Form::Peer => "a peer, which are site and address",
         }
@@ -49,7 +49,16 @@ fn is_key_of_sites(name: &str) -> bool
 {
     matches!(
         name,
-        "ports" | "heaps" | "workers" | "connections" | "seed" | "rule"
+        "ports"
+            | "heaps"
+            | "workers"
+            | "connections"
+            | "clients"
+            | "timeout"
+            | "write_timeout"
+            | "output"
+            | "seed"
+            | "rule"
     )
 }
 
@@ -68,6 +77,10 @@ fn is_key_of_site(name: &str) -> bool
             | "heaps"
             | "workers"
             | "connections"
+            | "clients"
+            | "timeout"
+            | "write_timeout"
+            | "output"
             | "seed"
             | "rule"
     )

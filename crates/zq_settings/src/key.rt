@@ -11,10 +11,18 @@ pub enum Key {
     Ports,
     /// The number of heaps of each site.
     Heaps,
-    /// How many connections of a site are served at once.
+    /// How many threads serve the connections of a site.
     Workers,
     /// How many connections each port accepts.
     Connections,
+    /// How many connections a port has at once.
+    Clients,
+    /// How long a connection may be silent.
+    Timeout,
+    /// How long a connection may take no reply.
+    WriteTimeout,
+    /// How many bytes of replies may wait at a port.
+    Output,
     /// What draws are made with.
     Seed,
     /// Which of a member's values is its score.
@@ -47,6 +55,10 @@ impl Key {
             Key::Heaps => "heaps",
             Key::Workers => "workers",
             Key::Connections => "connections",
+            Key::Clients => "clients",
+            Key::Timeout => "timeout",
+            Key::WriteTimeout => "write_timeout",
+            Key::Output => "output",
             Key::Seed => "seed",
             Key::Rule => "rule",
             Key::Site | Key::PeerSite => "site",
@@ -77,7 +89,11 @@ impl Key {
             Key::Ports => "an array of 1 to 64 different port numbers from 1 to 65535",
             Key::Heaps => "a whole number from 2 to 16",
             Key::Workers => "a whole number from 1 to 64",
-            Key::Connections => "a whole number from 0 to 1000000",
+            Key::Connections | Key::Timeout | Key::WriteTimeout => {
+                "a whole number from 0 to 1000000"
+            }
+            Key::Clients => "a whole number from 1 to 1000000",
+            Key::Output => "a whole number from 1048576 to 1099511627776",
             Key::Seed => "a whole number from 0 to 9223372036854775807",
             Key::Rule => "\"HIGH\" or \"LOW\"",
             Key::Site | Key::PeerSite => "a whole number from 0 to 63",

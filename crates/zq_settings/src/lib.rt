@@ -33,6 +33,9 @@ pub use peers::{MOST_PEERS, Peers};
 pub use ports::{MOST_PORTS, Port, Ports};
 pub use read::{settings, site_settings};
 pub use secret::{LEAST_SECRET, Secret};
-pub use values::{ConnectionCount, HeapCount, Seed, Settings, SiteSettings, WorkerCount};
+pub use values::{
+    ClientCount, ClientLimits, ConnectionCount, HeapCount, OutputSize, Seconds, Seed, Settings,
+    SiteSettings, WorkerCount,
+};
 pub use why::Why;
 pub use within::Within;

@@ -20,6 +20,10 @@ use toml::de;
 /// | `heaps` | 2 to 16 | 4 |
 /// | `workers` | 1 to 64 | 4 |
 /// | `connections` | 0 to 1000000, where 0 is without end | 0 |
+/// | `clients` | 1 to 1000000 | 10000 |
+/// | `timeout` | 0 to 1000000, where 0 is never | 0 |
+/// | `write_timeout` | 0 to 1000000, where 0 is never | 60 |
+/// | `output` | 1048576 to 1099511627776 | 268435456 |
 /// | `seed` | 0 to 9223372036854775807 | 1 |
 /// | `rule` | `"HIGH"` or `"LOW"` | `"HIGH"` |
 ///
@@ -50,7 +54,8 @@ pub fn settings(alloc: Global, text: &str) -> Result<Settings, SettingsFault>
 /// | `secret` | what it shares with its peers, a text of at least 16 bytes | there is none |
 /// | `listen` | where it listens for its peers: an IP address with a port that is not 0, as `"127.0.0.1:7101"` | refused |
 /// | `peers` | an array of at most 63 tables, each with the keys `site` and `address` and no other: the number of another site, and where it listens | there are none |
-/// | `heaps`, `workers`, `connections`, `seed`, `rule` | as of [`settings`] | as of [`settings`] |
+/// | `workers` | 1 to 64 | as many as there are processors, 4 at most |
+/// | `heaps`, `connections`, `clients`, `timeout`, `write_timeout`, `output`, `seed`, `rule` | as of [`settings`] | as of [`settings`] |
 ///
 /// No two peers have the same number. Where there is no `secret`, `listen` and each peer's
 /// `address` are loopback addresses.

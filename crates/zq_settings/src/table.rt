@@ -4,7 +4,8 @@ ghost use Rattle.std.specs.Prelude.{◌≡◌, IsErrOf};
 ghost use Rattle.toml.specs.View.{table_view};
 ghost use Rattle.zq_settings.specs.Memory.{AsksForValues, AsksOfSite, AsksOfSites};
 ghost use Rattle.zq_settings.specs.Settings.{settings_of};
-ghost use Rattle.zq_settings.specs.Site.{site_settings_of, site_values_of};
+ghost use Rattle.zq_settings.specs.Site.{if_given, site_settings_of, site_values_of};
+ghost use Rattle.zq_settings.specs.Tables.{value_at as value_in};
 ghost use Rattle.zq_settings.specs.Texts.{Reads};
 
 use crate::address::{read_address, read_bind};
@@ -13,11 +14,12 @@ use crate::entries::read_ports;
 use crate::fault::SettingsFault;
 use crate::form::Form;
 use crate::key::Key;
+use crate::lookup::value_at;
 use crate::number::{read_required, read_site};
 use crate::peering::read_peers;
 use crate::secret::read_secret;
 use crate::unknown::refuse_unknown;
-use crate::values::{Settings, SiteSettings};
+use crate::values::{Settings, SiteSettings, WorkerCount};
 use std::alloc::Global;
 use toml::Table;
 
@@ -34,6 +36,7 @@ pub fn read_table(alloc: Global, table: &Table) -> Result<Settings, SettingsFaul
         heaps: common.heaps,
         workers: common.workers,
         connections: common.connections,
+        limits: common.limits,
         seed: common.seed,
         rule: common.rule,
     })
@@ -69,9 +72,20 @@ fn read_site_values(alloc: Global, table: &Table) -> Result<SiteSettings, Settin
         peers,
         heaps: common.heaps,
         rule: common.rule,
-        workers: common.workers,
+        workers: given_workers(table, common.workers),
         connections: common.connections,
+        limits: common.limits,
         seed: common.seed,
         secret,
     })
+}
+
+/// So many workers, where the table says how many.
+fn given_workers(table: &Table, workers: WorkerCount) -> Option<WorkerCount>
+    ensures { result ≡ if_given workers (value_in Key.Workers (table_view table.now)) }
+{
+    match value_at(table, Key::Workers) {
+        Some(_) => Some(workers),
+        None => None,
+    }
 }

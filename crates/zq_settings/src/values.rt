@@ -10,14 +10,36 @@ use zq_dots::{Rule, SiteNo};
 /// A number of heaps, 2 to 16.
 pub type HeapCount = Within<2, 16>;
 
-/// A number of connections that are served at once, 1 to 64.
+/// A number of threads that serve connections, 1 to 64.
 pub type WorkerCount = Within<1, 64>;
 
 /// A number of connections, 1 to 1,000,000.
 pub type ConnectionCount = Within<1, 1_000_000>;
 
+/// A number of connections that a port has at once, 1 to 1,000,000.
+pub type ClientCount = Within<1, 1_000_000>;
+
+/// A number of seconds, 0 to 1,000,000.
+pub type Seconds = Within<0, 1_000_000>;
+
+/// A number of bytes of replies that wait at a port, 1,048,576 to 1,099,511,627,776.
+pub type OutputSize = Within<1_048_576, 1_099_511_627_776>;
+
 /// What draws are made with: a number that an `i64` holds, not below 0.
 pub type Seed = Within<0, 9_223_372_036_854_775_807>;
+
+/// What limits the clients of a port.
+#[derive(Clone, Copy, Debug)]
+pub struct ClientLimits {
+    /// The most connections at once.
+    pub clients: ClientCount,
+    /// After how many seconds of silence a connection is closed. 0 is never.
+    pub timeout: Seconds,
+    /// After how many seconds a connection is closed that is owed bytes and takes none. 0 is never.
+    pub write_timeout: Seconds,
+    /// The most bytes of replies that may wait, over all connections of the port.
+    pub output: OutputSize,
+}
 
 /// The settings of a server of sites.
 #[derive(Debug, Drop)]
@@ -26,10 +48,12 @@ pub struct Settings {
     pub ports: Ports,
     /// The number of heaps of each site.
     pub heaps: HeapCount,
-    /// How many connections of a site are served at once.
+    /// How many threads serve the connections of a site.
     pub workers: WorkerCount,
     /// How many connections each port accepts before the server ends. With `None` it does not end.
     pub connections: Option<ConnectionCount>,
+    /// What limits the clients of each port.
+    pub limits: ClientLimits,
     /// What each worker's draws are made with.
     pub seed: Seed,
     /// Which of a member's values is its score.
@@ -54,10 +78,13 @@ pub struct SiteSettings {
     pub heaps: HeapCount,
     /// Which of a member's values is its score.
     pub rule: Rule,
-    /// How many connections are served at once.
-    pub workers: WorkerCount,
+    /// How many threads serve its connections. With `None` as many as there are processors, 4 at
+    /// most.
+    pub workers: Option<WorkerCount>,
     /// How many connections its port accepts before the site ends. With `None` it does not end.
     pub connections: Option<ConnectionCount>,
+    /// What limits its clients.
+    pub limits: ClientLimits,
     /// What each worker's draws are made with.
     pub seed: Seed,
     /// What it shares with its peers, to know them by. With `None` whoever comes is believed.
@@ -70,6 +97,7 @@ pub(crate) struct Common {
     pub(crate) heaps: HeapCount,
     pub(crate) workers: WorkerCount,
     pub(crate) connections: Option<ConnectionCount>,
+    pub(crate) limits: ClientLimits,
     pub(crate) seed: Seed,
     pub(crate) rule: Rule,
 }

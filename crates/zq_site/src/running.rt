@@ -20,7 +20,7 @@ use std::thread;
 use std::thread::Threads;
 use std::time::Clock;
 use zq_posheap::Seeded;
-use zq_serve::{Inboxes, Linker, ServeFault, SiteThreads, Worker, run_workers};
+use zq_serve::{ClientThreads, Inboxes, Linker, ServeFault, SiteThreads, run_clients};
 
 /// The hasher that a site's members and states use, and what its workers draw with.
 #[derive(Clone, Copy)]
@@ -43,7 +43,7 @@ where
     N: Net<Listener = TcpListener, Stream = TcpStream> + Sync,
     L: Log + RandomSource + Clock + Threads + Wait + Sync,
 {
-    let SiteThreads { workers, linkers } = threads;
+    let SiteThreads { clients, linkers } = threads;
     thread::scope(thread::scope_env(), log, move |scope| {
         let mut ended = Ok(());
         for linker in linkers {
@@ -53,7 +53,7 @@ where
             }
         }
         if ended.is_ok() {
-            ended = run_writers(net, log, shared, listener, workers, seeds.draws);
+            ended = run_writers(net, log, shared, listener, clients, seeds.draws);
         }
         shared.mailbox.stop(log);
         ended
@@ -87,7 +87,7 @@ fn run_writers<N, L>(
     log: &L,
     shared: Shared<'_>,
     listener: &PeerListener,
-    workers: Vec<Worker>,
+    clients: ClientThreads,
     seed: u64,
 ) -> Result<(), ServeFault>
 where
@@ -105,7 +105,7 @@ where
             }
         }
         if ended.is_ok() {
-            ended = run_dialers(net, log, shared, listener, workers, seed);
+            ended = run_dialers(net, log, shared, listener, clients, seed);
         }
         shared.halt_all(log);
         ended
@@ -119,7 +119,7 @@ fn run_dialers<N, L>(
     log: &L,
     shared: Shared<'_>,
     listener: &PeerListener,
-    workers: Vec<Worker>,
+    clients: ClientThreads,
     seed: u64,
 ) -> Result<(), ServeFault>
 where
@@ -141,7 +141,7 @@ where
             ended = Err(ServeFault::Device);
         }
         if ended.is_ok() {
-            ended = run_acceptors(net, log, shared, listener, workers, seed);
+            ended = run_acceptors(net, log, shared, listener, clients, seed);
         }
         shared.halt_all(log);
         ended
@@ -158,13 +158,13 @@ fn tell_peers<L: Wait + Clock>(rt: &L, shared: Shared<'_>) {
     }
 }
 
-/// Runs what accepts peers, and the workers, until these are done. Then the site ends.
+/// Runs what accepts peers, and what serves clients, until that is done. Then the site ends.
 fn run_acceptors<N, L>(
     net: &N,
     log: &L,
     shared: Shared<'_>,
     listener: &PeerListener,
-    workers: Vec<Worker>,
+    clients: ClientThreads,
     seed: u64,
 ) -> Result<(), ServeFault>
 where
@@ -185,7 +185,7 @@ where
         }
         if ended.is_ok() {
             let inboxes = Inboxes::One(shared.mailbox);
-            ended = run_workers(log, shared.alloc, workers, inboxes, seed);
+            ended = run_clients(log, shared.alloc, clients, inboxes, seed);
         }
         shared.halt_all(log);
         listener.wake(net, log, shared.settings.listen);

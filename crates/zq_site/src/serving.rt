@@ -1,7 +1,8 @@
 //! Serving a site.
 
 ghost use Rattle.std.specs.Net.Socket.{socket_ip, socket_port};
-ghost use Rattle.std.specs.Prelude.{◌≡◌};
+ghost use Rattle.std.specs.Prelude.{◌≡◌, IfSome, None, ◌≤◌};
+ghost use Rattle.zq_serve.specs.Limits.{port_limits};
 
 use crate::announcing::announce;
 use crate::halt::Halt;
@@ -15,17 +16,21 @@ use std::io::Write;
 use std::net::{Net, SocketAddr, TcpListener, TcpStream};
 use std::random::RandomSource;
 use std::sync::Wait;
-use std::thread::Threads;
+use std::thread::{Threads, available_parallelism};
 use std::time::Clock;
 use zq_peers::Mailbox;
 use zq_posheap::Seeded;
 use zq_serve::{
-    ServeFault, SiteOptions, SiteThreads, draw_hasher, listen, most_waiting, open_site,
+    ServeFault, SiteOptions, SiteThreads, draw_hasher, limits_of, listen, most_clients,
+    most_waiting, open_site, warn_few,
 };
-use zq_settings::SiteSettings;
+use zq_settings::{SiteSettings, WorkerCount};
 
-/// Serves the site of the settings in this process: `workers` connections of its port at once, the
-/// others as these end. When it listens on its port and for its peers it writes `site N port P
+// More workers than these are given nothing to do by one port.
+const MOST_WORKERS: usize = 4;
+
+/// Serves the site of the settings in this process: the connections of its port by `workers`
+/// threads, as `zq_serve::serve` does. When it listens on its port and for its peers it writes `site N port P
 /// peers A` to `out`, and only then accepts. It ends when the port has accepted and served as many
 /// connections as `connections` says.
 ///
@@ -56,11 +61,19 @@ where
 {
     let hasher = draw_hasher(log)?;
     let listener = PeerListener::new(listen(net, settings.listen)?);
-    let threads = open_threads(net, alloc, settings, hasher)?;
+    let workers = workers_of(log, settings.workers);
+    let most = most_clients(1, workers, links_of(settings));
+    let threads = open_threads(net, alloc, settings, workers, most, hasher)?;
     let peer_links = open_peer_links(alloc, settings)?;
     let dialers = dialers_of(alloc, settings)?;
     let mailbox = open_mailbox(alloc, settings)?;
     announce(settings, out)?;
+    warn_few(
+        log,
+        u64::from(settings.site.value()),
+        settings.limits.clients,
+        most,
+    );
     let halt = Halt::new();
     let shared = Shared {
         alloc,
@@ -82,9 +95,11 @@ fn open_threads<R: Net<Listener = TcpListener, Stream = TcpStream>>(
     net: &R,
     alloc: Global,
     settings: &SiteSettings,
+    workers: WorkerCount,
+    most: u64,
     hasher: Seeded,
 ) -> Result<SiteThreads, ServeFault> {
-    let plan = plan_of(settings);
+    let plan = plan_of(settings, workers, most);
     let address = clients_address(settings);
     let mut threads = SiteThreads::new(alloc);
     let peers = peers_of(alloc, settings)?;
@@ -92,20 +107,45 @@ fn open_threads<R: Net<Listener = TcpListener, Stream = TcpStream>>(
     Ok(threads)
 }
 
-/// How the site is served.
-fn plan_of(settings: &SiteSettings) -> SiteOptions
+/// How many connections the site's links take at most: one or an older one for each peer, another
+/// that is dialled or that comes, and the address where peers come.
+fn links_of(settings: &SiteSettings) -> u64 {
+    let peers = settings.peers.as_slice().len() as u64;
+    peers.saturating_mul(4).saturating_add(2)
+}
+
+/// So many workers as are given, and where none are as many as there are processors, 4 at most.
+fn workers_of<R: Threads>(rt: &R, given: Option<WorkerCount>) -> WorkerCount
+    ensures given { IfSome given (λ workers. result ≡ workers) }
+    ensures few { given ≡ None → result ≤ 4 }
+{
+    if let Some(workers) = given {
+        return workers;
+    }
+    let processors = match available_parallelism(rt) {
+        Ok(count) => count.get().min(MOST_WORKERS) as i64,
+        Err(_) => MOST_WORKERS as i64,
+    };
+    match WorkerCount::new(processors) {
+        Some(workers) => workers,
+        None => unreachable!(),
+    }
+}
+
+/// How the site is served, whose port may have so many clients at once.
+fn plan_of(settings: &SiteSettings, workers: WorkerCount, most: u64) -> SiteOptions
     ensures number { result.number ≡ settings.now.site }
     ensures heaps { result.heaps ≡ settings.now.heaps }
     ensures rule { result.rule ≡ settings.now.rule }
-    ensures workers { result.workers ≡ settings.now.workers }
-    ensures connections { result.connections ≡ settings.now.connections }
+    ensures workers { result.workers ≡ workers }
+    ensures limits { result.limits ≡ port_limits settings.now.connections settings.now.limits most }
 {
     SiteOptions {
         number: settings.site,
         heaps: settings.heaps,
         rule: settings.rule,
-        workers: settings.workers,
-        connections: settings.connections,
+        workers,
+        limits: limits_of(settings.connections, &settings.limits, most),
     }
 }
 

@@ -25,6 +25,7 @@ where
     R: Files
         + Net<Listener = TcpListener, Stream = TcpStream>
         + RandomSource
+        + Clock
         + Threads
         + Wait
         + Print

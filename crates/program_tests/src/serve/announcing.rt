@@ -11,6 +11,7 @@ use std::random::RandomSource;
 use std::sync::Wait;
 use std::test::Fail;
 use std::thread::Threads;
+use std::time::Clock;
 use zq_serve::{ServeFault, serve};
 use zq_settings::settings;
 
@@ -47,7 +48,12 @@ fn served_to<R>(
     writes: bool,
 ) -> Result<(Result<(), ServeFault>, bool), Fail>
 where
-    R: Net<Listener = TcpListener, Stream = TcpStream> + RandomSource + Threads + Wait + Sync,
+    R: Net<Listener = TcpListener, Stream = TcpStream>
+        + RandomSource
+        + Clock
+        + Threads
+        + Wait
+        + Sync,
 {
     let text = format!(in alloc; "ports = [{port}]\nconnections = 1\n")?;
     let settings = settings(alloc, text.as_str())?;

@@ -1,5 +1,6 @@
 //! The values of texts, at the bounds of each key and where keys are missing.
 
+use super::{Limits, has_limits};
 use std::test::Fail;
 use zq_dots::Rule;
 use zq_settings::{Port, Settings, settings};
@@ -10,9 +11,13 @@ struct Row {
     heaps: u64,
     workers: u64,
     connections: Option<u64>,
+    limits: Limits,
     seed: u64,
     rule: Rule,
 }
+
+/// What they are where the keys are missing.
+const LIMITS: Limits = (10_000, 0, 60, 268_435_456);
 
 const ROWS: [Row; 6] = [
     // Only the ports, at their bounds.
@@ -22,36 +27,40 @@ const ROWS: [Row; 6] = [
         heaps: 4,
         workers: 4,
         connections: None,
+        limits: LIMITS,
         seed: 1,
         rule: Rule::High,
     },
     // The least of each key.
     Row {
-        text: "ports = [7001]\nheaps = 2\nworkers = 1\nconnections = 0\nseed = 0\nrule = \"HIGH\"\n",
+        text: "ports = [7001]\nheaps = 2\nworkers = 1\nconnections = 0\nclients = 1\ntimeout = 0\nwrite_timeout = 0\noutput = 1048576\nseed = 0\nrule = \"HIGH\"\n",
         ports: &[7001],
         heaps: 2,
         workers: 1,
         connections: None,
+        limits: (1, 0, 0, 1_048_576),
         seed: 0,
         rule: Rule::High,
     },
     // The greatest of each key, in another order.
     Row {
-        text: "rule = \"LOW\"\nseed = 9223372036854775807\nconnections = 1000000\nworkers = 64\nheaps = 16\nports = [7001]\n",
+        text: "rule = \"LOW\"\nseed = 9223372036854775807\noutput = 1099511627776\nwrite_timeout = 1000000\ntimeout = 1000000\nclients = 1000000\nconnections = 1000000\nworkers = 64\nheaps = 16\nports = [7001]\n",
         ports: &[7001],
         heaps: 16,
         workers: 64,
         connections: Some(1_000_000),
+        limits: (1_000_000, 1_000_000, 1_000_000, 1_099_511_627_776),
         seed: 9_223_372_036_854_775_807,
         rule: Rule::Low,
     },
     // One connection, and the other ways in which TOML writes numbers, names and texts.
     Row {
-        text: "# two sites\n\"ports\" = [\n  7_002, # site 0\n  0x1b59,\n]\nconnections = 1\nrule = 'LOW'\n",
+        text: "# two sites\n\"ports\" = [\n  7_002, # site 0\n  0x1b59,\n]\noutput = 0x20_0000\nwrite_timeout = 5\ntimeout = 300\nclients = 2\nconnections = 1\nrule = 'LOW'\n",
         ports: &[7002, 7001],
         heaps: 4,
         workers: 4,
         connections: Some(1),
+        limits: (2, 300, 5, 2_097_152),
         seed: 1,
         rule: Rule::Low,
     },
@@ -68,6 +77,7 @@ const ROWS: [Row; 6] = [
         heaps: 4,
         workers: 4,
         connections: None,
+        limits: LIMITS,
         seed: 1,
         rule: Rule::High,
     },
@@ -78,6 +88,7 @@ const ROWS: [Row; 6] = [
         heaps: 3,
         workers: 4,
         connections: None,
+        limits: LIMITS,
         seed: 1,
         rule: Rule::High,
     },
@@ -96,6 +107,7 @@ fn is_row(settings: &Settings, row: &Row) -> bool {
         && settings.heaps.value() == row.heaps
         && settings.workers.value() == row.workers
         && settings.connections.map(|count| count.value()) == row.connections
+        && has_limits(&settings.limits, row.limits)
         && settings.seed.value() == row.seed
         && settings.rule == row.rule
 }

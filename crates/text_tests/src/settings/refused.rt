@@ -4,7 +4,7 @@ use std::alloc::Global;
 use std::test::Fail;
 use zq_settings::{SettingsFault, settings};
 
-const REFUSALS: [(&str, &str); 53] = [
+const REFUSALS: [(&str, &str); 70] = [
     // No TOML.
     (
         "ports",
@@ -25,23 +25,23 @@ const REFUSALS: [(&str, &str); 53] = [
     // Other keys.
     (
         "ports = [7001]\nport = 1",
-        "\"port\" is not a key of settings, which are ports, heaps, workers, connections, seed and rule",
+        "\"port\" is not a key of settings, which are ports, heaps, workers, connections, clients, timeout, write_timeout, output, seed and rule",
     ),
     (
         "Ports = [7001]",
-        "\"Ports\" is not a key of settings, which are ports, heaps, workers, connections, seed and rule",
+        "\"Ports\" is not a key of settings, which are ports, heaps, workers, connections, clients, timeout, write_timeout, output, seed and rule",
     ),
     (
         "zeal = 1\nports = [7001]\nalpha = 1",
-        "\"alpha\" is not a key of settings, which are ports, heaps, workers, connections, seed and rule",
+        "\"alpha\" is not a key of settings, which are ports, heaps, workers, connections, clients, timeout, write_timeout, output, seed and rule",
     ),
     (
         "\"two\\nlines\" = 1",
-        "\"two\\nlines\" is not a key of settings, which are ports, heaps, workers, connections, seed and rule",
+        "\"two\\nlines\" is not a key of settings, which are ports, heaps, workers, connections, clients, timeout, write_timeout, output, seed and rule",
     ),
     (
         "[serve]\nports = [7001]",
-        "\"serve\" is not a key of settings, which are ports, heaps, workers, connections, seed and rule",
+        "\"serve\" is not a key of settings, which are ports, heaps, workers, connections, clients, timeout, write_timeout, output, seed and rule",
     ),
     // Ports.
     (
@@ -162,6 +162,54 @@ const REFUSALS: [(&str, &str); 53] = [
         "connections has a value of another kind: it takes a whole number from 0 to 1000000",
     ),
     (
+        "ports = [7001]\nclients = 0",
+        "clients has a value out of range: it takes a whole number from 1 to 1000000",
+    ),
+    (
+        "ports = [7001]\nclients = 1000001",
+        "clients has a value out of range: it takes a whole number from 1 to 1000000",
+    ),
+    (
+        "ports = [7001]\nclients = \"1\"",
+        "clients has a value of another kind: it takes a whole number from 1 to 1000000",
+    ),
+    (
+        "ports = [7001]\ntimeout = -1",
+        "timeout has a value out of range: it takes a whole number from 0 to 1000000",
+    ),
+    (
+        "ports = [7001]\ntimeout = 1000001",
+        "timeout has a value out of range: it takes a whole number from 0 to 1000000",
+    ),
+    (
+        "ports = [7001]\ntimeout = 0.5",
+        "timeout has a value of another kind: it takes a whole number from 0 to 1000000",
+    ),
+    (
+        "ports = [7001]\nwrite_timeout = -1",
+        "write_timeout has a value out of range: it takes a whole number from 0 to 1000000",
+    ),
+    (
+        "ports = [7001]\nwrite_timeout = 1000001",
+        "write_timeout has a value out of range: it takes a whole number from 0 to 1000000",
+    ),
+    (
+        "ports = [7001]\nwrite_timeout = true",
+        "write_timeout has a value of another kind: it takes a whole number from 0 to 1000000",
+    ),
+    (
+        "ports = [7001]\noutput = 1048575",
+        "output has a value out of range: it takes a whole number from 1048576 to 1099511627776",
+    ),
+    (
+        "ports = [7001]\noutput = 1099511627777",
+        "output has a value out of range: it takes a whole number from 1048576 to 1099511627776",
+    ),
+    (
+        "ports = [7001]\noutput = \"1mb\"",
+        "output has a value of another kind: it takes a whole number from 1048576 to 1099511627776",
+    ),
+    (
         "ports = [7001]\nseed = -1",
         "seed has a value out of range: it takes a whole number from 0 to 9223372036854775807",
     ),
@@ -188,7 +236,7 @@ const REFUSALS: [(&str, &str); 53] = [
     // Where a text breaks more than one rule, the first of them.
     (
         "heaps = 1\nport = 1",
-        "\"port\" is not a key of settings, which are ports, heaps, workers, connections, seed and rule",
+        "\"port\" is not a key of settings, which are ports, heaps, workers, connections, clients, timeout, write_timeout, output, seed and rule",
     ),
     (
         "heaps = 1",
@@ -217,6 +265,26 @@ const REFUSALS: [(&str, &str); 53] = [
     (
         "ports = [7001]\nseed = -1\nconnections = -1",
         "connections has a value out of range: it takes a whole number from 0 to 1000000",
+    ),
+    (
+        "ports = [7001]\nclients = 0\nconnections = -1",
+        "connections has a value out of range: it takes a whole number from 0 to 1000000",
+    ),
+    (
+        "ports = [7001]\ntimeout = -1\nclients = 0",
+        "clients has a value out of range: it takes a whole number from 1 to 1000000",
+    ),
+    (
+        "ports = [7001]\nwrite_timeout = -1\ntimeout = -1",
+        "timeout has a value out of range: it takes a whole number from 0 to 1000000",
+    ),
+    (
+        "ports = [7001]\noutput = 0\nwrite_timeout = -1",
+        "write_timeout has a value out of range: it takes a whole number from 0 to 1000000",
+    ),
+    (
+        "ports = [7001]\nseed = -1\noutput = 0",
+        "output has a value out of range: it takes a whole number from 1048576 to 1099511627776",
     ),
     (
         "ports = [7001]\nrule = 1\nseed = -1",

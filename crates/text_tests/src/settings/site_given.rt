@@ -1,5 +1,6 @@
 //! The values of texts of one site, at the bounds of each key and where keys are missing.
 
+use super::has_limits;
 use std::net::{IpAddr, Ipv6Addr, SocketAddr};
 use std::test::Fail;
 use zq_dots::Rule;
@@ -123,13 +124,14 @@ fn each_text_has_its_site(rt: HostRuntime) -> Result<(), Fail> {
 #[test]
 fn a_site_may_have_the_keys_of_several(rt: HostRuntime) -> Result<(), Fail> {
     let text =
-        "site = 7\nport = 7001\nlisten = \"[::1]:7101\"\nbind = \"::\"\nworkers = 64\nconnections = 1\nseed = 0\nrule = \"LOW\"";
+        "site = 7\nport = 7001\nlisten = \"[::1]:7101\"\nbind = \"::\"\nworkers = 64\nconnections = 1\nclients = 7\ntimeout = 8\nwrite_timeout = 9\noutput = 2000000\nseed = 0\nrule = \"LOW\"";
     let given = site_settings(rt.alloc(), text)?;
     assert_eq!(rt; given.listen.port(), 7101);
     assert!(rt; given.listen.ip() == IpAddr::V6(Ipv6Addr::LOCALHOST));
     assert!(rt; given.bind == IpAddr::V6(Ipv6Addr::UNSPECIFIED));
-    assert_eq!(rt; given.workers.value(), 64);
+    assert!(rt; matches!(given.workers, Some(workers) if workers.value() == 64));
     assert_eq!(rt; given.connections.map(|count| count.value()), Some(1));
+    assert!(rt; has_limits(&given.limits, (7, 8, 9, 2_000_000)));
     assert_eq!(rt; given.seed.value(), 0);
     assert_eq!(rt; given.rule, Rule::Low);
     Ok(())

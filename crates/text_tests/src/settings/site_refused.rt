@@ -5,7 +5,7 @@ use std::test::Fail;
 use zq_settings::{SettingsFault, site_settings};
 
 const UNKNOWN: &str =
-    "is not a key of a site's settings, which are site, port, bind, secret, listen, peers, heaps, workers, connections, seed and rule";
+    "is not a key of a site's settings, which are site, port, bind, secret, listen, peers, heaps, workers, connections, clients, timeout, write_timeout, output, seed and rule";
 
 const LISTEN: &str = "it takes an IP address with a port from 1 to 65535, as \"127.0.0.1:7101\"";
 
@@ -21,7 +21,7 @@ const HEARD: &str = "site = 3\nport = 7001\nlisten = \"127.0.0.1:7101\"\n";
 /// The text in two parts, and the words in two parts.
 type Row = (&'static str, &'static str, &'static str, &'static str);
 
-const REFUSALS: [Row; 50] = [
+const REFUSALS: [Row; 54] = [
     // Other keys.
     ("", "heap = 4", "\"heap\" ", UNKNOWN),
     ("", "ports = [7001]", "\"ports\" ", UNKNOWN),
@@ -261,6 +261,30 @@ const REFUSALS: [Row; 50] = [
         "connections = -1",
         "connections has a value out of range: ",
         "it takes a whole number from 0 to 1000000",
+    ),
+    (
+        HEARD,
+        "clients = 0",
+        "clients has a value out of range: ",
+        "it takes a whole number from 1 to 1000000",
+    ),
+    (
+        HEARD,
+        "timeout = \"60\"",
+        "timeout has a value of another kind: ",
+        "it takes a whole number from 0 to 1000000",
+    ),
+    (
+        HEARD,
+        "write_timeout = 1000001",
+        "write_timeout has a value out of range: ",
+        "it takes a whole number from 0 to 1000000",
+    ),
+    (
+        HEARD,
+        "output = 1048575",
+        "output has a value out of range: ",
+        "it takes a whole number from 1048576 to 1099511627776",
     ),
     (
         HEARD,

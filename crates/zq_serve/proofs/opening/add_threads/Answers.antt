@@ -7,6 +7,6 @@ use Rattle.zq_spread.specs.Passes.{IsPassOf}
 
 pub add_linker-requires : goal.add_linker-requires
 add_linker-requires c =
-    let site = (arc_value c.args.server.now).site in
-    let all = All-pop (IsPassOf site) c.args.passes.items c.pop.new.self.items c.pop.result c.pop.ensures.items c.requires.passes in
+    let site = (arc_value c.args.opened.server).site in
+    let all = All-pop (IsPassOf site) c.args.opened.passes.items c.pop.new.self.items c.pop.result c.pop.ensures.items c.requires.passes in
     subst (λ r. IfSome r (IsPassOf site)) c.in-Some.is all.1

@@ -1,4 +1,5 @@
-use Rattle.std.proofs.Common.{All, rules, subst, ◌∷◌, ◌≡◌}
+use Rattle.std.proofs.Common.{All, ap, arith, length, rules, subst, suc, ◌∙◌, ◌∷◌, ◌≡◌}
+use Rattle.std.proofs.lemmas.List.{length-take-le}
 use Rattle.std.proofs.lemmas.List.Elements.{All-head, All-tail}
 use Rattle.std.specs.Arc.{arc_value}
 use Rattle.std.specs.Vec.Iter.{into_iter_items}
@@ -22,5 +23,8 @@ loop-pass-preserved c =
     let had = c.loop-pass.workers.items in
     let steps : into_iter_items c.loop-pass.pass-iterator ≡ c.in-Some.pass ∷ rest = c.in-Some.ensures.steps.0 in
     let all = subst (All (IsPassOf server.site)) steps c.loop-pass.invariant.0 in
-    let coming = subst (λ passes. AreComing server old whole had passes) steps c.loop-pass.invariant.2 in
-    (All-tail (IsPassOf server.site) c.in-Some.pass rest all, search rules, one_more server old had c.push.new.self.items whole c.in-Some.pass rest _ c.in_ok-try_clone.ensures c.in_ok-push.ensures.items coming)
+    let coming = subst (λ passes. AreComing server old whole had passes) steps c.loop-pass.invariant.3 in
+    let pollers : length c.loop-pass.pollers.items ≡ suc (length rest) = c.loop-pass.invariant.2 ∙ ap length steps in
+    let held : length c.pop.new.self.items ≡ length rest =
+    ap length c.pop.ensures.rest ∙ length-take-le _ c.loop-pass.pollers.items (omega (arith, c.loop-pass.pollers.ok.0, pollers)) ∙ omega (arith, c.loop-pass.pollers.ok.0, pollers) in
+    (All-tail (IsPassOf server.site) c.in-Some.pass rest all, search rules, held, one_more server old had c.push.new.self.items whole c.in-Some.pass rest _ c.in_ok-try_clone.ensures c.in_ok-push.ensures.items coming)

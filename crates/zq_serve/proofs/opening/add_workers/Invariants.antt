@@ -9,4 +9,5 @@ abbrev pub invariant-loop-pass : goal.invariant-loop-pass
 invariant-loop-pass l =
     All (IsPassOf (arc_value l.server).site) (into_iter_items l.pass-iterator)
     × (into_iter_len l.pass-iterator ≡ length (into_iter_items l.pass-iterator))
+    × (length l.pollers.items ≡ length (into_iter_items l.pass-iterator))
     × AreComing (arc_value l.server) l.initial.workers.items (into_iter_items l.initial.pass-iterator) l.workers.items (into_iter_items l.pass-iterator)

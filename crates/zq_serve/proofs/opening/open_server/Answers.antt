@@ -10,5 +10,5 @@ invariant_of-server g c =
     record {
       number_is = sym is.number_is;
       heaps_are = sym (is.heaps ∙ found.1.number);
-      rule_is = sym (made_rule c.value-heaps.result (c.value.result + 1) c.args.plan.now.number c.args.plan.now.rule found.0 site c.in-Ok.made.1.items (omega (arith, c.value-heaps.ensures.within)) found.1 is);
+      rule_is = sym (made_rule c.value-heaps.result (c.value-workers.result + 1) c.args.plan.now.number c.args.plan.now.rule found.0 site c.in-Ok.made.1.items (omega (arith, c.value-heaps.ensures.within)) found.1 is);
     }

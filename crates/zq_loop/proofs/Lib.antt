@@ -1,0 +1,3 @@
+pub mod AtSocket
+pub mod Crossing
+pub mod TurnByTurn

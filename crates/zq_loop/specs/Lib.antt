@@ -1,0 +1,3 @@
+pub mod Socket
+pub mod Client
+pub mod Turns

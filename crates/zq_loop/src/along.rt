@@ -1,0 +1,23 @@
+//! What is true of a connection at its socket while others are served between its turns.
+
+ghost use Rattle.zq_loop.specs.Client.{IsSent, IsServedAt};
+ghost use Rattle.zq_session.specs.Among.{Meanwhile};
+ghost use Rattle.zq_session.specs.Connection.{ConnectionState, IsNew};
+
+use crate::socket::Socket;
+use zq_session::Answers;
+
+/// A connection is served at its socket from its beginning on, while others are served, and when
+/// what it is owed is written. That its turns serve it, `Client` says.
+pub fn keeping_at_sockets<S: Socket, A: Answers>()
+    ensures begins { (first : S) (now : A) (c : ConnectionState) → IsNew c →
+        IsServedAt S.does A.others A.answers first now now first c }
+    ensures others { (first socket : S) (begun now later : A) (c : ConnectionState) →
+        IsServedAt S.does A.others A.answers first begun now socket c →
+        Meanwhile A.others now later →
+        IsServedAt S.does A.others A.answers first begun later socket c }
+    ensures writes { (first before after : S) (begun now : A) (old new : ConnectionState) →
+        IsServedAt S.does A.others A.answers first begun now before old →
+        IsSent S.does before old after new →
+        IsServedAt S.does A.others A.answers first begun now after new }
+{}

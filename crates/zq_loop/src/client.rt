@@ -1,0 +1,198 @@
+//! A connection at its socket.
+
+ghost use Rattle.std.specs.Prelude.{◌<◌, ◌≤◌, length};
+ghost use Rattle.zq_loop.specs.Client.{IsSent, IsServedAt};
+ghost use Rattle.zq_session.specs.Among.{AnyRequest, Meanwhile};
+ghost use Rattle.zq_session.specs.Connection.{WantsToRead};
+
+use crate::socket::{Moved, Socket};
+use crate::watch::PortFault;
+use std::alloc::Global;
+use zq_session::{Answers, Connection};
+
+/// A connection at its socket, and what is known of that.
+#[derive(Drop)]
+pub struct Client<S: Drop> {
+    pub(crate) socket: S,
+    pub(crate) connection: Connection,
+    is_readable: bool,
+    is_writable: bool,
+    // The other side said that it writes no more: reading goes on until it is told so.
+    is_last: bool,
+    // No more is read.
+    is_finishing: bool,
+    has_broken: bool,
+    has_failed: bool,
+    /// Whether it has a turn to come.
+    pub(crate) is_queued: bool,
+    /// When it last brought something, in seconds.
+    pub(crate) heard_at: u64,
+    /// When it last took something, or was last owed nothing, in seconds.
+    pub(crate) taken_at: u64,
+    /// How many bytes it was counted to be owed.
+    pub(crate) counted: usize,
+}
+
+impl<S: Socket + Drop> Client<S> {
+    /// A new connection, at a time in seconds.
+    pub fn new(alloc: Global, socket: S, now: u64) -> Client<S> {
+        Client {
+            socket,
+            connection: Connection::new(alloc),
+            is_readable: true,
+            is_writable: true,
+            is_last: false,
+            is_finishing: false,
+            has_broken: false,
+            has_failed: false,
+            is_queued: false,
+            heard_at: now,
+            taken_at: now,
+            counted: 0,
+        }
+    }
+
+    /// What the system told of its socket.
+    pub fn note(&mut self, is_readable: bool, is_writable: bool, is_last: bool) {
+        self.is_readable |= is_readable;
+        self.is_writable |= is_writable;
+        self.is_last |= is_last;
+    }
+
+    /// No more is read of it. What was read is answered, and what is owed is written.
+    pub fn finish(&mut self) {
+        self.is_finishing = true;
+    }
+
+    /// Its turn to be served: what came and waits, or one read.
+    pub fn serve<A: Answers>(
+        &mut self,
+        alloc: Global,
+        answerer: &mut A,
+        buffer: &mut [u8],
+        now: u64,
+    )
+        requires some { 0 < length buffer.old }
+        requires one_read { length buffer.old ≤ 65536 }
+        ensures served { (first : S) (begun : A) →
+            IsServedAt S.does A.others A.answers first begun answerer.old self.old.socket
+            self.old.connection →
+            IsServedAt S.does A.others A.answers first begun answerer.new self.new.socket
+            self.new.connection }
+        ensures requests { (first : S) (begun : A) →
+            IsServedAt S.does A.others A.answers first begun answerer.old self.old.socket
+            self.old.connection → Meanwhile (AnyRequest A.answers) answerer.old answerer.new }
+    {
+        self.taken_at = self.last_taken(now);
+        if self.connection.can_go_on() {
+            let heard = self.connection.go_on(alloc, answerer);
+            self.has_broken = heard.is_ok() & self.connection.is_closed();
+        } else if self.connection.wants_to_read() {
+            if self.is_finishing {
+                self.connection.close();
+            } else if self.is_readable {
+                self.read(alloc, answerer, buffer, now);
+            }
+        }
+    }
+
+    /// When it last took something, or was last owed nothing.
+    fn last_taken(&self, now: u64) -> u64 {
+        if self.connection.owed().is_empty() {
+            now
+        } else {
+            self.taken_at
+        }
+    }
+
+    /// One read, and the replies to what it gave.
+    fn read<A: Answers>(&mut self, alloc: Global, answerer: &mut A, buffer: &mut [u8], now: u64)
+        requires some { 0 < length buffer.old }
+        requires one_read { length buffer.old ≤ 65536 }
+        requires wants { WantsToRead self.old.connection }
+        ensures served { (first : S) (begun : A) →
+            IsServedAt S.does A.others A.answers first begun answerer.old self.old.socket
+            self.old.connection →
+            IsServedAt S.does A.others A.answers first begun answerer.new self.new.socket
+            self.new.connection }
+        ensures requests { (first : S) (begun : A) →
+            IsServedAt S.does A.others A.answers first begun answerer.old self.old.socket
+            self.old.connection → Meanwhile (AnyRequest A.answers) answerer.old answerer.new }
+    {
+        match self.socket.receive(buffer) {
+            Moved::Some(0) => self.connection.close(),
+            Moved::Some(count) => {
+                self.heard_at = now;
+                self.is_readable = (count == buffer.len()) | self.is_last;
+                let heard = self.connection.hear(alloc, answerer, &buffer[..count]);
+                self.has_broken = heard.is_ok() & self.connection.is_closed();
+            }
+            Moved::NotNow => self.is_readable = false,
+            Moved::Again => {}
+            Moved::Failed => self.has_failed = true,
+        }
+    }
+
+    /// Its turn to be written: one write of what it is owed, as far as the socket takes it.
+    pub fn write(&mut self, alloc: Global, now: u64)
+        ensures { IsSent S.does self.old.socket self.old.connection self.new.socket
+            self.new.connection }
+    {
+        if self.connection.owed().is_empty() || !self.is_writable || self.has_failed {
+            return;
+        }
+        match self.socket.send(self.connection.owed()) {
+            Moved::Some(0) | Moved::Failed => self.has_failed = true,
+            Moved::Some(count) => {
+                self.taken_at = now;
+                self.connection.wrote(alloc, count);
+            }
+            Moved::NotNow => self.is_writable = false,
+            Moved::Again => {}
+        }
+    }
+
+    /// How many bytes it is owed.
+    pub fn owed(&self) -> usize {
+        self.connection.owed().len()
+    }
+
+    /// Whether it is to be closed: its socket failed, or nothing more comes of it.
+    pub fn is_over(&self) -> bool {
+        self.has_failed || self.connection.is_over()
+    }
+
+    /// What went wrong with it.
+    pub fn fault(&self) -> Option<PortFault> {
+        if self.has_failed {
+            Some(PortFault::Device)
+        } else if self.has_broken {
+            Some(PortFault::Protocol)
+        } else {
+            None
+        }
+    }
+
+    /// Whether it has been owed bytes, and took none, for so many seconds. None has where it is 0.
+    pub fn is_stuck(&self, limit: u64, now: u64) -> bool {
+        !self.connection.owed().is_empty() && is_past(self.taken_at, limit, now)
+    }
+
+    /// Whether it has been owed nothing, and brought nothing, for so many seconds. None has where
+    /// it is 0.
+    pub fn is_silent(&self, limit: u64, now: u64) -> bool {
+        self.connection.owed().is_empty() && is_past(self.heard_at.max(self.taken_at), limit, now)
+    }
+
+    /// Whether it has something to do that waits for nobody.
+    pub fn is_ready(&self) -> bool {
+        self.connection.can_go_on()
+            || (self.is_readable || self.is_finishing) && self.connection.wants_to_read()
+            || self.is_writable && !self.connection.owed().is_empty()
+    }
+}
+
+/// Whether a limit of so many seconds has passed since then. None has where it is 0.
+fn is_past(since: u64, limit: u64, now: u64) -> bool {
+    limit > 0 && now.saturating_sub(since) >= limit
+}

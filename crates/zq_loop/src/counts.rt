@@ -1,0 +1,74 @@
+//! What the threads of a port count together.
+
+use std::sync::atomic::{AtomicBool, AtomicU64, Ordering};
+
+/// How many connections there are, how many bytes of replies wait, and whether the end has come.
+#[derive(Drop)]
+pub struct Counts {
+    open: AtomicU64,
+    owed: AtomicU64,
+    has_all: AtomicBool,
+    is_stopped: AtomicBool,
+}
+
+impl Counts {
+    /// No connections.
+    pub fn new() -> Counts {
+        Counts {
+            open: AtomicU64::new(0),
+            owed: AtomicU64::new(0),
+            has_all: AtomicBool::new(false),
+            is_stopped: AtomicBool::new(false),
+        }
+    }
+
+    /// Takes one of so many places, and says whether there was one.
+    pub fn enter(&self, most: u64) -> bool {
+        if self.open.fetch_add(1, Ordering::SeqCst) < most {
+            return true;
+        }
+        self.leave();
+        false
+    }
+
+    /// Gives a place back.
+    pub fn leave(&self) {
+        self.open.fetch_sub(1, Ordering::SeqCst);
+    }
+
+    /// A connection is owed so many bytes, where it was owed so many.
+    pub fn count(&self, before: usize, after: usize) {
+        if before < after {
+            self.owed
+                .fetch_add((after - before) as u64, Ordering::SeqCst);
+        } else if after < before {
+            self.owed
+                .fetch_sub((before - after) as u64, Ordering::SeqCst);
+        }
+    }
+
+    /// How many bytes all connections are owed.
+    pub fn owed(&self) -> u64 {
+        self.owed.load(Ordering::SeqCst)
+    }
+
+    /// All connections have come.
+    pub fn close(&self) {
+        self.has_all.store(true, Ordering::SeqCst);
+    }
+
+    /// Whether all connections have come.
+    pub fn has_all(&self) -> bool {
+        self.has_all.load(Ordering::SeqCst)
+    }
+
+    /// No request is read any more.
+    pub fn stop(&self) {
+        self.is_stopped.store(true, Ordering::SeqCst);
+    }
+
+    /// Whether no request is read any more.
+    pub fn is_stopped(&self) -> bool {
+        self.is_stopped.load(Ordering::SeqCst)
+    }
+}

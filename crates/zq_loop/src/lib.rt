@@ -1,0 +1,30 @@
+//! A loop that serves the connections of a port by a few threads: one that accepts them, and
+//! workers, each of which serves thousands by turns. A worker reads once of each connection that
+//! has brought something, answers what came, and when it has done so for all, writes once to each.
+//! So a connection that is silent, slow or stuck holds up no other. What each connection is
+//! answered, `zq_session` says.
+#![tactic(auto)]
+
+mod accepting;
+mod along;
+mod client;
+mod counts;
+mod inbox;
+mod limits;
+mod poller;
+mod port;
+mod socket;
+#[cfg(test)]
+mod tests;
+mod turns;
+mod watch;
+mod worker;
+
+pub use accepting::Acceptor;
+pub use along::keeping_at_sockets;
+pub use client::Client;
+pub use limits::Limits;
+pub use poller::Poller;
+pub use port::Port;
+pub use socket::{Moved, Socket};
+pub use watch::{PortFault, Watch};

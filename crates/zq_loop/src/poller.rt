@@ -1,0 +1,59 @@
+//! What a worker waits with.
+
+ghost use Rattle.zq_loop.specs.Turns.{AreOthers};
+
+use crate::inbox::Inbox;
+use crate::port::Port;
+use crate::watch::Watch;
+use crate::worker::Worker;
+use mio::{Events, Poll};
+use std::alloc::Global;
+use std::io;
+use std::net::Net;
+use std::rt::Clock;
+use std::sync::Wait;
+use zq_session::Answers;
+
+// As many events are taken at once.
+const EVENTS: usize = 1_024;
+
+/// What a worker of a port waits with.
+#[derive(Drop)]
+pub struct Poller {
+    pub(crate) poll: Poll,
+    pub(crate) events: Events,
+    // Its place among the port's inboxes.
+    pub(crate) place: usize,
+}
+
+impl Poller {
+    /// A poller for this place, and the inbox that belongs there.
+    pub(crate) fn new<R: Net>(rt: &R, alloc: Global, place: usize) -> io::Result<(Poller, Inbox)> {
+        let (poll, inbox) = Inbox::new(rt, alloc)?;
+        let events = Events::with_capacity(alloc, EVENTS)?;
+        let poller = Poller {
+            poll,
+            events,
+            place,
+        };
+        Ok((poller, inbox))
+    }
+
+    /// Serves the connections of its port that are handed to it, until all have come and are
+    /// served, or it is told to stop. The port has to be the one that it was opened with. What
+    /// answers has to let all that requests do be what others may do to a connection.
+    pub fn run<R: Wait + Clock, A: Answers, W: Watch>(
+        self,
+        rt: &R,
+        alloc: Global,
+        port: &Port,
+        answerer: &mut A,
+        watch: &W,
+    )
+        requires others { AreOthers A.others A.answers }
+    {
+        if let Some(inbox) = port.inboxes.get(self.place) {
+            Worker::new(alloc, self, inbox, port, watch).run(rt, answerer);
+        }
+    }
+}

@@ -1,0 +1,117 @@
+//! A worker's turn: its connections are served, and then they are written.
+
+ghost use Rattle.std.specs.Prelude.{◌<◌, ◌≡◌, ◌≤◌, length, ℕ};
+ghost use Rattle.zq_loop.specs.Turns.{AreOthers, AreServedAt};
+
+use crate::client::Client;
+use crate::socket::Socket;
+use crate::watch::Watch;
+use std::alloc::Global;
+use zq_session::Answers;
+
+/// A turn of the connections at these places: each is served, then whoever watches settles, and
+/// then each is written. So all of them are served as before, those at other places too.
+pub fn turn<S: Socket + Drop, A: Answers, W: Watch>(
+    clients: &mut [Option<Client<S>>],
+    places: &[usize],
+    alloc: Global,
+    answerer: &mut A,
+    buffer: &mut [u8],
+    now: u64,
+    watch: &W,
+)
+    requires others { AreOthers A.others A.answers }
+    requires some { 0 < length buffer.old }
+    requires one_read { length buffer.old ≤ 65536 }
+    ensures { (begun : ℕ → S × A) →
+        AreServedAt S.does A.others A.answers begun answerer.old clients.old →
+        AreServedAt S.does A.others A.answers begun answerer.new clients.new }
+{
+    serve_all(clients, places, alloc, answerer, buffer, now);
+    watch.settle();
+    write_all(clients, places, alloc, now, answerer);
+}
+
+/// Serves the connections at these places, one after the other.
+fn serve_all<S: Socket + Drop, A: Answers>(
+    clients: &mut [Option<Client<S>>],
+    places: &[usize],
+    alloc: Global,
+    answerer: &mut A,
+    buffer: &mut [u8],
+    now: u64,
+)
+    requires others { AreOthers A.others A.answers }
+    requires some { 0 < length buffer.old }
+    requires one_read { length buffer.old ≤ 65536 }
+    ensures { (begun : ℕ → S × A) →
+        AreServedAt S.does A.others A.answers begun answerer.old clients.old →
+        AreServedAt S.does A.others A.answers begun answerer.new clients.new }
+{
+    for place in places {
+        serve_at(clients, *place, alloc, answerer, buffer, now);
+    }
+}
+
+/// Serves the connection at a place, if there is one.
+fn serve_at<S: Socket + Drop, A: Answers>(
+    clients: &mut [Option<Client<S>>],
+    place: usize,
+    alloc: Global,
+    answerer: &mut A,
+    buffer: &mut [u8],
+    now: u64,
+)
+    requires others { AreOthers A.others A.answers }
+    requires some { 0 < length buffer.old }
+    requires one_read { length buffer.old ≤ 65536 }
+    ensures served { (begun : ℕ → S × A) →
+        AreServedAt S.does A.others A.answers begun answerer.old clients.old →
+        AreServedAt S.does A.others A.answers begun answerer.new clients.new }
+    ensures buffer { length buffer.new ≡ length buffer.old }
+{
+    if place >= clients.len() {
+        return;
+    }
+    if let Some(client) = &mut clients[place] {
+        client.serve(alloc, answerer, buffer, now);
+    }
+}
+
+/// Writes to the connections at these places, one after the other. What answers is there for the
+/// proof alone.
+fn write_all<S: Socket + Drop, A: Answers>(
+    clients: &mut [Option<Client<S>>],
+    places: &[usize],
+    alloc: Global,
+    now: u64,
+    answerer: &A,
+)
+    ensures { (begun : ℕ → S × A) →
+        AreServedAt S.does A.others A.answers begun answerer.now clients.old →
+        AreServedAt S.does A.others A.answers begun answerer.now clients.new }
+{
+    for place in places {
+        write_at(clients, *place, alloc, now, answerer);
+    }
+}
+
+/// Writes to the connection at a place, if there is one.
+fn write_at<S: Socket + Drop, A: Answers>(
+    clients: &mut [Option<Client<S>>],
+    place: usize,
+    alloc: Global,
+    now: u64,
+    _answerer: &A,
+)
+    ensures { (begun : ℕ → S × A) →
+        AreServedAt S.does A.others A.answers begun _answerer.now clients.old →
+        AreServedAt S.does A.others A.answers begun _answerer.now clients.new }
+{
+    if place >= clients.len() {
+        return;
+    }
+    if let Some(client) = &mut clients[place] {
+        client.write(alloc, now);
+    }
+}

@@ -1,0 +1,33 @@
+//! The limits of a port.
+
+ghost use Rattle.std.specs.Prelude.{◌≡◌};
+ghost use Rattle.zq_serve.specs.Limits.{port_limits};
+
+use log::{Log, warn};
+use zq_loop::Limits;
+use zq_settings::{ClientCount, ClientLimits, ConnectionCount};
+
+/// The limits of a port: so many connections in all, no end of them with `None`, and of those at
+/// once no more than there are descriptors for.
+pub fn limits_of(connections: Option<ConnectionCount>, limits: &ClientLimits, most: u64) -> Limits
+    ensures { result ≡ port_limits connections limits.now most }
+{
+    let connections = match connections {
+        Some(count) => count.value(),
+        None => 0,
+    };
+    Limits {
+        clients: limits.clients.value().min(most),
+        connections,
+        timeout: limits.timeout.value(),
+        write_timeout: limits.write_timeout.value(),
+        output: limits.output.value(),
+    }
+}
+
+/// Warns where a site can have fewer clients at once than its settings say.
+pub fn warn_few<L: Log>(log: &L, site: u64, clients: ClientCount, most: u64) {
+    if most < clients.value() {
+        warn!(log; "site {site} has descriptors for {most} clients");
+    }
+}
