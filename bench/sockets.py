@@ -62,9 +62,8 @@ class Server:
         return list(map(int, os.listdir(f"/proc/{self.process.pid}/fd")))
 
     def busy(self):
-        """The seconds for which its threads have run, and those for which its busiest one has run or waited for a processor."""
-        threads = [path.read_text().split() for path in pathlib.Path(f"/proc/{self.process.pid}/task").glob("*/schedstat")]
-        return sum(int(ran) for ran, *_ in threads) * 1e-9, max(int(ran) + int(waited) for ran, waited, _ in threads) * 1e-9
+        """The seconds for which its threads have run."""
+        return sum(int(path.read_text().split()[0]) for path in pathlib.Path(f"/proc/{self.process.pid}/task").glob("*/schedstat")) * 1e-9
 
     def link(self, *sent, room=None):
         """A connection, on which this was sent. With room it takes few bytes that are not read."""
