@@ -30,13 +30,15 @@ fn is_served(client: &mut TcpStream) -> Result<bool, Fail> {
 /// Whether five clients are answered while all are connected.
 fn are_served<R: Net<Listener = TcpListener, Stream = TcpStream> + Clock>(
     rt: &R,
-    alloc: Global,
     port: u16,
 ) -> Result<bool, Fail> {
-    let mut clients = Vec::new(alloc);
-    for _ in 0..5 {
-        clients.push(connect(rt, port)?)?;
-    }
+    let mut clients = [
+        connect(rt, port)?,
+        connect(rt, port)?,
+        connect(rt, port)?,
+        connect(rt, port)?,
+        connect(rt, port)?,
+    ];
     let mut are_served = true;
     let each = clients.iter_mut();
     for client in each {
@@ -55,7 +57,7 @@ fn more_clients_are_served_at_once_than_there_are_workers(rt: HostRuntime) -> Re
     let (ended, served) = thread::join(
         &rt,
         || serve(&log, alloc, &settings, &mut written),
-        || are_served(&rt, alloc, port),
+        || are_served(&rt, port),
     );
     assert!(rt; served?);
     assert_eq!(rt; ended, Ok(()));
