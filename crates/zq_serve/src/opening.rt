@@ -174,8 +174,8 @@ fn open_port<R: Net<Listener = TcpListener, Stream = TcpStream>>(
     }
 }
 
-/// Appends an acceptor, a linker with the last of the passes where the site has others beside it, and a
-/// worker for each of the other passes.
+/// Appends an acceptor, a linker with the last of the passes where the site has others beside it,
+/// and a worker for each of the other passes.
 fn add_threads(
     opened: Opened,
     others: Vec<SiteNo>,
@@ -273,8 +273,8 @@ fn site_at(place: u8) -> SiteNo
     }
 }
 
-/// Listens on each site's port, which may have so many clients at once, and gives what works for all
-/// sites.
+/// Listens on each site's port, which may have so many clients at once, and gives what works for
+/// all sites.
 pub fn open_all<R: Net<Listener = TcpListener, Stream = TcpStream>>(
     net: &R,
     alloc: Global,

@@ -29,8 +29,8 @@ use zq_settings::Settings;
 /// Serves the sites of the settings in this process, each on its port on loopback: the connections
 /// of a site by `workers` threads, up to so many connections at once as the limits and the
 /// descriptors of the process allow. When all ports are listened on it writes `site N port P` for
-/// each site to `out`, and only then accepts. It ends when each port has accepted and served as many
-/// connections as `connections` says.
+/// each site to `out`, and only then accepts. It ends when each port has accepted and served as
+/// many connections as `connections` says.
 ///
 /// A connection past the greatest number gets an error, and is closed. One that is silent, or takes
 /// no replies, for longer than the limits say is closed, and so is the one that is owed most where

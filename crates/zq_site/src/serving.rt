@@ -26,13 +26,13 @@ use zq_serve::{
 };
 use zq_settings::{SiteSettings, WorkerCount};
 
-// More workers than these are given nothing to do by one port.
+// At most so many workers are taken where the settings do not say how many.
 const MOST_WORKERS: usize = 4;
 
 /// Serves the site of the settings in this process: the connections of its port by `workers`
-/// threads, as `zq_serve::serve` does. When it listens on its port and for its peers it writes `site N port P
-/// peers A` to `out`, and only then accepts. It ends when the port has accepted and served as many
-/// connections as `connections` says.
+/// threads, as `zq_serve::serve` does. When it listens on its port and for its peers it writes
+/// `site N port P peers A` to `out`, and only then accepts. It ends when the port has accepted and
+/// served as many connections as `connections` says.
 ///
 /// It dials its peers of a smaller number, and those of a greater number dial it; after a break a
 /// peer is dialled again, after a pause that doubles from 100 milliseconds to 5 seconds, and is the
