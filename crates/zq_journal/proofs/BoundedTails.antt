@@ -77,7 +77,7 @@ bounded_wider K h a v counters more is = record {
 }
 
 -- a new operation raises its site's counter and no other
-grown : (o : Operation) (v : List ℕ) → length v ≡ SITES → o.site < SITES → 1 ≤ o.n → taken_of v o ≡ New → (t : ℕ) → slice_index v t ≤ slice_index (slice_set v o.site o.n) t
+pub grown : (o : Operation) (v : List ℕ) → length v ≡ SITES → o.site < SITES → 1 ≤ o.n → taken_of v o ≡ New → (t : ℕ) → slice_index v t ≤ slice_index (slice_set v o.site o.n) t
 grown o v wide site counted new t =
     let above : slice_index v o.site < o.n = has_not v o.site o.n (taken_new v o new).0 (omega arith) in
     elim (cases_eq t o.site) [

@@ -1,48 +1,53 @@
--- What of a book's records a peer of the vector v lacks, record by record: the records from the place i on come over the vector seen.
+-- What a peer of the vector v lacks of a book's records, record by record: those from the place i on, which come over the vector seen.
 
-use Rattle.std.proofs.Common.{Bool, List, [], ap, arith, drop, get_or, length, map, slice_set, sym, take, ℕ, ◌+◌, ◌++◌, ◌<◌, ◌∙◌, ◌∷◌, ◌≡◌}
-use Rattle.std.proofs.lemmas.List.{map-append, take_more}
-use Rattle.std.proofs.lemmas.List.Elements.{filter-append}
+use Rattle.std.proofs.Common.{Bool, List, [], ap, arith, drop, drop-cons, false, get_or, length, refl, slice_set, subst, suc, sym, true, ℕ, ◌+◌, ◌++◌, ◌<◌, ◌∙◌, ◌∷◌, ◌≡◌}
+use Rattle.std.proofs.lemmas.List.Elements.{All-head, All-tail}
 use Rattle.std.specs.List.{All}
-use Rattle.std.specs.Prelude.{cond, filter, not}
+use Rattle.std.specs.Prelude.{cond, not}
 use Rattle.zq_dots.specs.Placed.{Placed}
-use Rattle.zq_journal.proofs.Wholes.{length_over, rest_over}
 use Rattle.zq_journal.specs.Records.{IsRecord, IsRecordable, Record, full_of, missing_of, placed_in, records_over, vector_past}
 use Rattle.zq_journal.specs.declared.records.Record as code
 use Rattle.zq_model.specs.Operation.{has}
 
-module _ (h K : ℕ) (v base seen : List ℕ) (tail : List code.Record) (i : ℕ) (r : code.Record) (below : i < length tail) (is : r ≡ get_or tail i r)
-    (rest : records_over h K seen (drop i tail) ≡ drop i (records_over h K base tail)) where
-  abbrev all : List Record
-  all = records_over h K base tail
+-- an element that is kept or not, before the others
+before_others : (lacked : Bool) (p : Placed) (others : List Placed) → cond lacked (p ∷ others) others ≡ cond lacked (p ∷ []) [] ++ others
+before_others true p others = refl
+before_others false p others = refl
 
+module _ (h K : ℕ) (v seen : List ℕ) (tail : List code.Record) (i : ℕ) (r : code.Record) (below : i < length tail) (is : r ≡ get_or tail i r) where
   abbrev here : Record
   here = full_of h K seen r
 
   abbrev placed : Placed
   placed = placed_in here.what
 
-  both : (here ≡ get_or all i here) × (records_over h K (vector_past seen here.what) (drop (i + 1) tail) ≡ drop (i + 1) all)
-  both = rest_over h K seen tail all i r (length_over h K base tail) below is rest
+  -- the others come over the vector after it
+  abbrev others : List Record
+  others = records_over h K (vector_past seen here.what) (drop (i + 1) tail)
 
-  inside : i < length all
-  inside = omega (arith, below, length_over h K base tail)
+  first_is : records_over h K seen (drop i tail) ≡ here ∷ others
+  first_is =
+      let more : suc i ≡ i + 1 = omega arith in
+      ap (records_over h K seen) (drop-cons tail i r below ∙ ap (λ k. get_or tail i r ∷ drop k tail) more ∙ ap (λ x. x ∷ drop (i + 1) tail) (sym is))
 
-  pub own_at : All (IsRecord h K) all → IsRecordable h K placed
-  own_at each = let full : IsRecord h K here = rw both.0 (each i here inside) in full.op
+  each_here : All (IsRecord h K) (records_over h K seen (drop i tail)) → All (IsRecord h K) (here ∷ others)
+  each_here each = subst (All (IsRecord h K)) first_is each
 
-  -- the vector after the record is the one that the others come over
-  pub rest_at : (site n : ℕ) (after : List ℕ) → site ≡ placed.operation.site → n ≡ placed.operation.n → after ≡ slice_set seen site n →
-      records_over h K after (drop (i + 1) tail) ≡ drop (i + 1) all
-  rest_at site n after site_is n_is set =
-      ap (λ w. records_over h K w (drop (i + 1) tail)) (set ∙ ap (λ s. slice_set seen s n) site_is ∙ ap (slice_set seen placed.operation.site) n_is) ∙ both.1
+  pub own_at : All (IsRecord h K) (records_over h K seen (drop i tail)) → IsRecordable h K placed
+  own_at each = let own : IsRecord h K here = All-head (IsRecord h K) here others (each_here each) in own.op
 
-  -- one record more is lacked or not
-  pub missing_at : (lacked : Bool) → lacked ≡ not (has v placed.operation.site placed.operation.n) →
-      missing_of v (take (i + 1) all) ≡ missing_of v (take i all) ++ cond lacked (placed ∷ []) []
-  missing_at lacked e =
-      let next : take (i + 1) all ≡ take i all ++ here ∷ [] = take_more all i here inside ∙ ap (λ x. take i all ++ x ∷ []) (sym both.0) in
-      ap (missing_of v) next
-      ∙ ap (filter (λ (p : Placed). not (has v p.operation.site p.operation.n))) (map-append (λ (q : Record). placed_in q.what) (take i all) (here ∷ []))
-      ∙ filter-append (λ (p : Placed). not (has v p.operation.site p.operation.n)) (map (λ (q : Record). placed_in q.what) (take i all)) (placed ∷ [])
-      ∙ ap (λ b. missing_of v (take i all) ++ cond b (placed ∷ []) []) (sym e)
+  module _ (site n : ℕ) (after : List ℕ) (site_is : site ≡ placed.operation.site) (n_is : n ≡ placed.operation.n) (set : after ≡ slice_set seen site n) where
+    others_are : others ≡ records_over h K after (drop (i + 1) tail)
+    others_are = ap (λ w. records_over h K w (drop (i + 1) tail)) (sym (set ∙ ap (λ s. slice_set seen s n) site_is ∙ ap (slice_set seen placed.operation.site) n_is))
+
+    pub each_after : All (IsRecord h K) (records_over h K seen (drop i tail)) → All (IsRecord h K) (records_over h K after (drop (i + 1) tail))
+    each_after each = subst (All (IsRecord h K)) others_are (All-tail (IsRecord h K) here others (each_here each))
+
+    -- it is lacked or not, and then come the others
+    pub missing_after : (lacked : Bool) → lacked ≡ not (has v placed.operation.site placed.operation.n) →
+        missing_of v (records_over h K seen (drop i tail)) ≡ cond lacked (placed ∷ []) [] ++ missing_of v (records_over h K after (drop (i + 1) tail))
+    missing_after lacked e =
+        ap (missing_of v) first_is
+        ∙ ap (λ b. cond b (placed ∷ missing_of v others) (missing_of v others)) (sym e)
+        ∙ before_others lacked placed (missing_of v others)
+        ∙ ap (λ rs. cond lacked (placed ∷ []) [] ++ missing_of v rs) others_are

@@ -54,7 +54,7 @@ set_twice (x ∷ l) zero a b = refl
 set_twice (x ∷ l) (suc i) a b = ap (λ xs. x ∷ xs) (set_twice l i a b)
 
 -- the vector after what was new, with its site's counter one lower, is the vector before it
-one_lower : (h K : ℕ) (v : List ℕ) (c : Change) → IsRecordable h K (placed_in c) → taken_of v (placed_in c).operation ≡ New →
+pub one_lower : (h K : ℕ) (v : List ℕ) (c : Change) → IsRecordable h K (placed_in c) → taken_of v (placed_in c).operation ≡ New →
     slice_set (vector_past v c) (placed_in c).operation.site ((placed_in c).operation.n - 1) ≡ v
 one_lower h K v c is new =
     let o : Operation = (placed_in c).operation in

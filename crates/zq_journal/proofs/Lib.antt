@@ -5,6 +5,7 @@ pub mod CutOff
 pub mod Replays
 pub mod Wholes
 pub mod Lasts
+pub mod Counting
 pub mod Replaying
 pub mod Lacking
 pub mod Undone

@@ -1,9 +1,9 @@
 -- The records with their whole operations, one by one.
 
-use Rattle.std.proofs.Common.{List, [], ap, arith, drop, drop-cons, get_or, length, refl, slice_set, suc, sym, take, zero, ℕ, ◌+◌, ◌++◌, ◌<◌, ◌∙◌, ◌∷◌, ◌≡◌}
+use Rattle.std.proofs.Common.{List, [], ap, arith, drop, drop-cons, get_or, length, refl, slice_set, suc, sym, take, zero, ℕ, ◌+◌, ◌++◌, ◌-◌, ◌<◌, ◌∙◌, ◌∷◌, ◌≡◌}
 use Rattle.zq_model.specs.Books.{operation_of, replayed}
 use Rattle.zq_journal.proofs.Missing.{operation_is}
-use Rattle.zq_journal.specs.Records.{Record, change_of, full_of, records_over, vector_over, vector_past, whole, written_in}
+use Rattle.zq_journal.specs.Records.{Record, change_of, full_of, placed_in, records_over, vector_over, vector_past, vector_under, whole, written_in}
 use Rattle.zq_journal.specs.declared.records.Record as code
 use Rattle.zq_model.specs.Image.{Image, image_after}
 use Rattle.zq_model.specs.Operation.{Operation}
@@ -35,6 +35,24 @@ pub dropped_over : (n h K : ℕ) (v : List ℕ) (records : List code.Record) →
 dropped_over zero h K v records = refl
 dropped_over (suc n) h K v [] = refl
 dropped_over (suc n) h K v (r ∷ records) = dropped_over n h K (vector_past v (whole h K v r.what)) records
+
+-- the vector after the first records, and then after those behind them
+pub vector_parts : (n h K : ℕ) (v : List ℕ) (records : List code.Record) → vector_over h K (vector_over h K v (take n records)) (drop n records) ≡ vector_over h K v records
+vector_parts zero h K v records = refl
+vector_parts (suc n) h K v [] = refl
+vector_parts (suc n) h K v (r ∷ records) = vector_parts n h K (vector_past v (whole h K v r.what)) records
+
+-- counted down over the records from the place i on: over those behind it, and then over the one there
+pub under_at : (h K : ℕ) (v seen after : List ℕ) (records : List code.Record) (i site n : ℕ) (r : code.Record) → i < length records → r ≡ get_or records i r → seen ≡ vector_under h K v (drop (i + 1) records) →
+    site ≡ (placed_in (whole h K v r.what)).operation.site → n ≡ (placed_in (whole h K v r.what)).operation.n → after ≡ slice_set seen site (n - 1) → after ≡ vector_under h K v (drop i records)
+under_at h K v seen after records i site n r below is seen_is site_is n_is set =
+    let more : suc i ≡ i + 1 = omega arith in
+    let first : drop i records ≡ r ∷ drop (i + 1) records = drop-cons records i r below ∙ ap (λ k. get_or records i r ∷ drop k records) more ∙ ap (λ x. x ∷ drop (i + 1) records) (sym is) in
+    set
+    ∙ ap (λ s. slice_set seen s (n - 1)) site_is
+    ∙ ap (λ m. slice_set seen (placed_in (whole h K v r.what)).operation.site (m - 1)) n_is
+    ∙ ap (λ w. slice_set w (placed_in (whole h K v r.what)).operation.site ((placed_in (whole h K v r.what)).operation.n - 1)) seen_is
+    ∙ ap (vector_under h K v) (sym first)
 
 -- the vector after the records is that of the image after them
 pub vector_after : (h K : ℕ) (v : List ℕ) (records : List code.Record) (a : Image) → a.vector ≡ v →

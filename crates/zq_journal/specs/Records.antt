@@ -1,6 +1,6 @@
 -- The records of the code, as those of a book.
 
-use Rattle.std.specs.Prelude.{IfSome, List, Option, [], false, filter, if◌then◌else◌, length, map, nat_le, not, slice_set, suc, ℕ, ◌+◌, ◌∷◌, ◌≡◌}
+use Rattle.std.specs.Prelude.{IfSome, List, Option, [], false, filter, if◌then◌else◌, length, map, nat_le, not, slice_set, suc, ℕ, ◌+◌, ◌-◌, ◌∷◌, ◌≡◌}
 use Rattle.zq_dots.specs.Act.{act_of}
 use Rattle.zq_dots.specs.Placed.{IsRanged, Placed}
 use Rattle.zq_model.specs.Books as book
@@ -74,6 +74,16 @@ records_over h K v (r ∷ records) =
 abbrev pub vector_over : ℕ → ℕ → List ℕ → List kept_record.Record → List ℕ
 vector_over h K v [] = v
 vector_over h K v (r ∷ records) = vector_over h K (vector_past v (whole h K v r.what)) records
+
+-- the vector before an operation, from that after it: its site's counter is one lower
+abbrev pub vector_below : List ℕ → Change → List ℕ
+vector_below v change =
+    slice_set v (placed_in change).operation.site ((placed_in change).operation.n - 1)
+
+-- the vector before the records, where v is that after them: it is counted down, the newest first
+abbrev pub vector_under : ℕ → ℕ → List ℕ → List kept_record.Record → List ℕ
+vector_under h K v [] = v
+vector_under h K v (r ∷ records) = vector_below (vector_under h K v records) (whole h K v r.what)
 
 -- the records of a heap
 abbrev pub records_in : HeapImage → List ℕ → List kept_record.Record → List Record

@@ -13,6 +13,7 @@ mod putting;
 mod recording;
 mod records;
 mod since;
+mod start;
 mod trimming;
 
 pub use book::{Book, LAST_COUNT};

@@ -1,6 +1,6 @@
 //! What a book tells a peer.
 ghost use Rattle.std.specs.List.{All};
-ghost use Rattle.std.specs.Prelude.{◌≡◌, IfOk, List, map, not};
+ghost use Rattle.std.specs.Prelude.{◌≡◌, IfOk, List, drop, map, not};
 ghost use Rattle.zq_model.specs.Books.{operations_of};
 ghost use Rattle.zq_journal.specs.Answers.{IfOps, is_too_old};
 ghost use Rattle.zq_journal.specs.Books.{IsPeer, base_of};
@@ -13,6 +13,7 @@ ghost use Rattle.zq_shard.specs.Shard.{IsOfHeap};
 
 use crate::book::Book;
 use crate::records::Record;
+use crate::start::Start;
 use std::alloc::{AllocError, Global};
 use std::collections::VecDeque;
 use zq_dots::{Op, Vector};
@@ -53,30 +54,31 @@ impl Book {
         if !vector.covers(&self.vector) {
             return Ok(Since::TooOld);
         }
+        let start = Start::of(&self.tail, self.shard.vector(), vector);
         let (heap, heaps) = (self.shard.heap(), self.shard.heaps());
-        let ops = missing(alloc, heap, heaps, &self.vector, &self.tail, vector)?;
+        let ops = missing(alloc, heap, heaps, &start, &self.tail, vector)?;
         Ok(Since::Ops(ops))
     }
 }
 
-/// The operations of a heap's records that the vector lacks. The records begin at the base's
-/// vector.
+/// The operations of a heap's records that the vector lacks, of those from the start on.
 fn missing(
     alloc: Global,
     heap: u8,
     heaps: u8,
-    base: &Vector,
+    start: &Start,
     tail: &VecDeque<Record>,
     vector: &Vector,
 ) -> Result<Vec<Op>, AllocError>
-    requires { All (IsRecord heap heaps) (records_over heap heaps base.now tail.now.items) }
+    requires { All (IsRecord heap heaps)
+        (records_over heap heaps start.now.seen (drop start.now.place tail.now.items)) }
     ensures { IfOk result
         (λ ops. ops.items ≡ missing_of vector.now
-        (records_over heap heaps base.now tail.now.items)) }
+        (records_over heap heaps start.now.seen (drop start.now.place tail.now.items))) }
 {
     let mut ops = Vec::new(alloc);
-    let mut seen = *base;
-    for place in 0..tail.len() {
+    let mut seen = start.seen;
+    for place in start.place..tail.len() {
         let record = &tail[place];
         if record.what.is_new_to(vector) {
             ops.push(record.what.op(alloc, heap, heaps, &seen)?)?;

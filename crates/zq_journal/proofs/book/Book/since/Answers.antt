@@ -4,27 +4,38 @@ use Rattle.std.proofs.lemmas.List.Elements.{All-filter, All-map, All-same, All-w
 use Rattle.std.specs.Prelude.{not}
 use Rattle.zq_dots.specs.Placed.{Placed}
 use Rattle.zq_model.specs.Books.{Book, IsBook, operations_of}
+use Rattle.zq_journal.proofs.Counting.{missing_from, rest_each}
 use Rattle.zq_journal.proofs.Missing.{missing_is, operations-placed}
 use Rattle.zq_journal.specs.BookView.{book_of, records_of}
 use Rattle.zq_journal.specs.Books.{base_of}
-use Rattle.zq_journal.specs.Records.{IsRecord, missing_of, placed_at, placed_in, records_over}
+use Rattle.zq_journal.specs.Limits.{limits_of}
+use Rattle.zq_journal.specs.Records.{IsRecord, missing_of, placed_at, placed_in}
 use Rattle.zq_model.specs.Operation.{has}
 use Rattle.zq_model.specs.Sets.{covers, vector_of}
 use Rattle.zq_model.specs.Tail.{lacking}
-use Rattle.zq_shard.specs.Shard.{IsOfHeap}
+use Rattle.zq_shard.specs.Shard.{HeapImage, IsOfHeap}
 use Rattle.zq_journal.proofs.book.Book.since.Goals as goal
 
--- what was asked of are the book's records
-same_records : (c : goal.In_ok-ops) → missing_of c.args.vector.now (records_over c.heap-heap.result c.heaps-heaps.result c.self.inside.vector c.self.inside.tail.items) ≡ missing_of c.args.vector.now (records_of c.self.inside)
-same_records c =
-    ap (λ h. missing_of c.args.vector.now (records_over h c.heaps-heaps.result c.self.inside.vector c.self.inside.tail.items)) c.heap-heap.ensures.same
-    ∙ ap (λ K. missing_of c.args.vector.now (records_over c.self.inside.shard.heap K c.self.inside.vector c.self.inside.tail.items)) c.heaps-heaps.ensures.same
+pub missing-requires : goal.missing-requires
+missing-requires c =
+    let s : HeapImage = c.self.inside.shard in
+    rest_each s c.self.inside.vector c.self.inside.tail.items (limits_of c.self.inside.limits) c.self.inside.handed c.self.inside.stamp c.self.inside.count c.self.invariant
+    c.heap-heap.result c.heaps-heaps.result c.of-start.result.place c.vector.result.now c.of-start.result.seen c.heap-heap.ensures.same c.heaps-heaps.ensures.same c.vector.ensures.same
+    (c.of-start.ensures.seen s.heap s.heaps)
+
+-- they are what is lacked of all records
+all_missing : (c : goal.In_ok-ops) → c.in_ok-ops.ops.items ≡ missing_of c.args.vector.now (records_of c.self.inside)
+all_missing c =
+    let s : HeapImage = c.self.inside.shard in
+    c.in_ok-ops.ensures
+    ∙ missing_from s c.self.inside.vector c.self.inside.tail.items (limits_of c.self.inside.limits) c.self.inside.handed c.self.inside.stamp c.self.inside.count c.self.invariant
+    c.heap-heap.result c.heaps-heaps.result c.of-start.result.place c.vector.result.now c.of-start.result.seen c.heap-heap.ensures.same c.heaps-heaps.ensures.same c.vector.ensures.same
+    (c.of-start.ensures.seen s.heap s.heaps) c.args.vector.now c.of-start.ensures.covered
 
 pub returns-clause-ops : goal.returns-clause-ops
 returns-clause-ops c =
     subst (λ (b : Book). c.in_ok-ops.ops.items ≡ map (placed_at b.heaps) (lacking c.args.vector.now (operations_of b.tail))) c.self.view_is
-    (c.in_ok-ops.ensures
-    ∙ same_records c
+    (all_missing c
     ∙ missing_is c.self.inside.shard.heap c.self.inside.shard.heaps c.args.vector.now (records_of c.self.inside) c.self.invariant.each)
 
 pub returns-clause-placed : goal.returns-clause-placed
@@ -34,7 +45,7 @@ returns-clause-placed c =
     subst (λ (b : Book). All (λ r. IsOfHeap (base_of b) (placed_in r.what)) (records_of c.self.inside)) c.self.view_is
     (All-weaker (IsRecord c.self.inside.shard.heap c.self.inside.shard.heaps) (λ r. IsOfHeap (base_of (book_of c.self.inside)) (placed_in r.what))
     (λ r is. record { heap = is.op.heap; heaps = is.op.heaps; placed = is.op.placed }) (records_of c.self.inside) c.self.invariant.each) in
-    All-same P _ _ (c.in_ok-ops.ensures ∙ same_records c)
+    All-same P _ _ (all_missing c)
     (All-filter (λ p. not (has c.args.vector.now p.operation.site p.operation.n)) P (map (λ r. placed_in r.what) (records_of c.self.inside))
     (All-map P (λ r. placed_in r.what) (records_of c.self.inside) here))
 
