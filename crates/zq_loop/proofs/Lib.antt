@@ -1,3 +1,4 @@
 pub mod AtSocket
 pub mod Crossing
+pub mod Living
 pub mod TurnByTurn

@@ -1,5 +1,8 @@
 -- A connection at its socket, among others.
-use Rattle.std.specs.Prelude.{◌≡◌, ◌⊎◌, ℕ, List, take}
+use Rattle.std.specs.Prelude.{◌≡◌, ◌⊎◌, ◌<◌, ◌≤◌, ◌-◌, ℕ, List, None, Option, Some, take, if◌then◌else◌}
+use Rattle.zq_loop.specs.declared.client.Client.{Client}
+use Rattle.zq_loop.specs.declared.watch.PortFault.{PortFault}
+use Rattle.zq_loop.specs.declared.watch.PortFault.TheVariants.{Device, Protocol}
 use Rattle.zq_session.specs.Among.{Change}
 use Rattle.zq_session.specs.Connection.{ConnectionState, IsAlong, IsWritten, owed_of}
 use Rattle.zq_session.specs.Session.{Relation}
@@ -18,3 +21,13 @@ abbrev pub IsSent : {E : Type 0} → Does E → E → ConnectionState → E → 
 IsSent does before old after new =
     ((count : ℕ) × does before (Said (take count (owed_of old))) after × IsWritten old count new)
     ⊎ ((after ≡ before) × (new ≡ old))
+
+-- what went wrong with a client: its socket failed, or it broke the protocol
+abbrev pub fault_of : {E : Type 0} → Client E → Option PortFault
+fault_of client =
+    if client.has_failed then Some Device
+    else (if client.has_broken then Some Protocol else None)
+
+-- so many seconds have passed since then, where there is a limit
+abbrev pub IsPast : ℕ → ℕ → ℕ → Type 0
+IsPast since limit now = (0 < limit) × (limit ≤ now - since)

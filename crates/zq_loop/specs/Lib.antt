@@ -1,3 +1,4 @@
 pub mod Socket
 pub mod Client
 pub mod Turns
+pub mod Life

@@ -8,11 +8,12 @@ use Rattle.zq_session.specs.Steps.{Does}
 
 -- Each connection is served at its socket, while all others are: from the socket and the state of
 -- what answers with which that of its place began.
-abbrev pub AreServedAt : {E S : Type 0} → Does E → Change S → Relation S → (ℕ → E × S) → S →
-    List (Option (Client E)) → Type 0
-AreServedAt {E} does others answers begun now clients =
+abbrev pub AreServedAt : {E S : Type 0} → Does E → Change S → Relation S →
+    (ℕ → Option (E × S)) → S → List (Option (Client E)) → Type 0
+AreServedAt {E} {S} does others answers begun now clients =
     (place : ℕ) (client : Client E) → slice_get clients place ≡ Some (Some client) →
-    IsServedAt does others answers (begun place).0 (begun place).1 now client.socket client.connection
+    (began : E × S) × (begun place ≡ Some began)
+    × IsServedAt does others answers began.0 began.1 now client.socket client.connection
 
 -- to a connection all that requests do is what others may do
 abbrev pub AreOthers : {S : Type 0} → Change S → Relation S → Type 0

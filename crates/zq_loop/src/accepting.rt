@@ -155,3 +155,32 @@ fn attempt_of(error: &io::Error) -> Option<Attempt> {
         _ => None,
     }
 }
+
+#[cfg(test)]
+mod tests {
+    use super::*;
+
+    /// How an attempt went that ended with this error of the system.
+    fn after(number: i32) -> Option<Attempt> {
+        attempt_of(&io::Error::from_raw_os_error(number))
+    }
+
+    #[test]
+    fn an_accept_that_fails_for_want_of_room_is_tried_again(rt: HostRuntime) {
+        // No memory, too many files in all, too many of this process, no room for buffers.
+        for number in [12, 23, 24, 105] {
+            assert_eq!(rt; after(number), Some(Attempt::Short));
+        }
+        // Nothing to accept now, and a signal.
+        assert_eq!(rt; after(11), Some(Attempt::None));
+        assert_eq!(rt; after(4), Some(Attempt::More));
+    }
+
+    #[test]
+    fn an_accept_that_fails_otherwise_is_a_connection_that_failed(rt: HostRuntime) {
+        // A connection that was given up, and an error of the device.
+        for number in [103, 5] {
+            assert_eq!(rt; after(number), None);
+        }
+    }
+}

@@ -1,9 +1,10 @@
 //! A connection at its socket.
 
-ghost use Rattle.std.specs.Prelude.{◌<◌, ◌≤◌, length};
-ghost use Rattle.zq_loop.specs.Client.{IsSent, IsServedAt};
+ghost use Rattle.std.specs.Prelude.{◌<◌, ◌≡◌, ◌≢◌, ◌≤◌, ◌↔◌, ◌⊎◌, IsTrue, [], length, max};
+ghost use Rattle.zq_loop.specs.Client.{IsPast, IsSent, IsServedAt, fault_of};
+ghost use Rattle.zq_loop.specs.Life.{IsAsItWas};
 ghost use Rattle.zq_session.specs.Among.{AnyRequest, Meanwhile};
-ghost use Rattle.zq_session.specs.Connection.{WantsToRead};
+ghost use Rattle.zq_session.specs.Connection.{IsNew, IsOver, WantsToRead, owed_of};
 
 use crate::socket::{Moved, Socket};
 use crate::watch::PortFault;
@@ -35,7 +36,10 @@ pub struct Client<S: Drop> {
 
 impl<S: Socket + Drop> Client<S> {
     /// A new connection, at a time in seconds.
-    pub fn new(alloc: Global, socket: S, now: u64) -> Client<S> {
+    pub fn new(alloc: Global, socket: S, now: u64) -> Client<S>
+        ensures socket { result.socket ≡ socket }
+        ensures connection { IsNew result.connection }
+    {
         Client {
             socket,
             connection: Connection::new(alloc),
@@ -53,14 +57,18 @@ impl<S: Socket + Drop> Client<S> {
     }
 
     /// What the system told of its socket.
-    pub fn note(&mut self, is_readable: bool, is_writable: bool, is_last: bool) {
+    pub fn note(&mut self, is_readable: bool, is_writable: bool, is_last: bool)
+        ensures { IsAsItWas self.old self.new }
+    {
         self.is_readable |= is_readable;
         self.is_writable |= is_writable;
         self.is_last |= is_last;
     }
 
     /// No more is read of it. What was read is answered, and what is owed is written.
-    pub fn finish(&mut self) {
+    pub fn finish(&mut self)
+        ensures { IsAsItWas self.old self.new }
+    {
         self.is_finishing = true;
     }
 
@@ -153,17 +161,23 @@ impl<S: Socket + Drop> Client<S> {
     }
 
     /// How many bytes it is owed.
-    pub fn owed(&self) -> usize {
+    pub fn owed(&self) -> usize
+        ensures { result ≡ length (owed_of self.now.connection) }
+    {
         self.connection.owed().len()
     }
 
     /// Whether it is to be closed: its socket failed, or nothing more comes of it.
-    pub fn is_over(&self) -> bool {
+    pub fn is_over(&self) -> bool
+        ensures { IsTrue result ↔ (IsTrue self.now.has_failed ⊎ IsOver self.now.connection) }
+    {
         self.has_failed || self.connection.is_over()
     }
 
     /// What went wrong with it.
-    pub fn fault(&self) -> Option<PortFault> {
+    pub fn fault(&self) -> Option<PortFault>
+        ensures { result ≡ fault_of self.now }
+    {
         if self.has_failed {
             Some(PortFault::Device)
         } else if self.has_broken {
@@ -174,13 +188,19 @@ impl<S: Socket + Drop> Client<S> {
     }
 
     /// Whether it has been owed bytes, and took none, for so many seconds. None has where it is 0.
-    pub fn is_stuck(&self, limit: u64, now: u64) -> bool {
+    pub fn is_stuck(&self, limit: u64, now: u64) -> bool
+        ensures { IsTrue result ↔ ((owed_of self.now.connection ≢ [])
+            × IsPast self.now.taken_at limit now) }
+    {
         !self.connection.owed().is_empty() && is_past(self.taken_at, limit, now)
     }
 
     /// Whether it has been owed nothing, and brought nothing, for so many seconds. None has where
     /// it is 0.
-    pub fn is_silent(&self, limit: u64, now: u64) -> bool {
+    pub fn is_silent(&self, limit: u64, now: u64) -> bool
+        ensures { IsTrue result ↔ ((owed_of self.now.connection ≡ [])
+            × IsPast (max self.now.heard_at self.now.taken_at) limit now) }
+    {
         self.connection.owed().is_empty() && is_past(self.heard_at.max(self.taken_at), limit, now)
     }
 
@@ -193,6 +213,8 @@ impl<S: Socket + Drop> Client<S> {
 }
 
 /// Whether a limit of so many seconds has passed since then. None has where it is 0.
-fn is_past(since: u64, limit: u64, now: u64) -> bool {
+fn is_past(since: u64, limit: u64, now: u64) -> bool
+    ensures { IsTrue result ↔ IsPast since limit now }
+{
     limit > 0 && now.saturating_sub(since) >= limit
 }

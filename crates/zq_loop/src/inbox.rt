@@ -3,6 +3,7 @@
 use mio::net::TcpStream;
 use mio::{Poll, Token, Waker};
 use std::alloc::Global;
+use std::collections::VecDeque;
 use std::io;
 use std::net::Net;
 use std::sync::atomic::{AtomicU64, Ordering};
@@ -14,7 +15,8 @@ pub const WAKER: Token = Token(0);
 /// The connections that came for a worker, what wakes it, and what others know of it.
 #[derive(Drop)]
 pub struct Inbox {
-    came: Mutex<Vec<TcpStream>>,
+    // The oldest is the first.
+    came: Mutex<VecDeque<TcpStream>>,
     waker: Waker,
     // No connection of the worker is owed more bytes.
     most: AtomicU64,
@@ -26,7 +28,7 @@ impl Inbox {
         let poll = Poll::new(rt)?;
         let waker = Waker::new(poll.registry(), WAKER)?;
         let inbox = Inbox {
-            came: Mutex::new(Vec::new(alloc)),
+            came: Mutex::new(VecDeque::new(alloc)),
             waker,
             most: AtomicU64::new(0),
         };
@@ -35,14 +37,14 @@ impl Inbox {
 
     /// Hands a connection over, and says whether there was memory for that. Else it is closed.
     pub fn put<R: Wait>(&self, rt: &R, stream: TcpStream) -> bool {
-        let is_put = self.came.lock(rt).push(stream).is_ok();
+        let is_put = self.came.lock(rt).push_back(stream).is_ok();
         self.wake();
         is_put
     }
 
-    /// One that was handed over.
+    /// The one that was handed over first of those that are there.
     pub fn take<R: Wait>(&self, rt: &R) -> Option<TcpStream> {
-        self.came.lock(rt).pop()
+        self.came.lock(rt).pop_front()
     }
 
     /// Whether none is there.

@@ -11,6 +11,8 @@ mod client;
 mod counts;
 mod inbox;
 mod limits;
+mod noting;
+mod places;
 mod poller;
 mod port;
 mod socket;
@@ -21,7 +23,7 @@ mod watch;
 mod worker;
 
 pub use accepting::Acceptor;
-pub use along::keeping_at_sockets;
+pub use along::{keeping_at_sockets, keeping_through_lives};
 pub use client::Client;
 pub use limits::Limits;
 pub use poller::Poller;

@@ -1,6 +1,7 @@
 //! What a worker waits with.
 
 ghost use Rattle.zq_loop.specs.Turns.{AreOthers};
+ghost use Rattle.zq_session.specs.Among.{AnyRequest, Meanwhile};
 
 use crate::inbox::Inbox;
 use crate::port::Port;
@@ -41,7 +42,8 @@ impl Poller {
 
     /// Serves the connections of its port that are handed to it, until all have come and are
     /// served, or it is told to stop. The port has to be the one that it was opened with. What
-    /// answers has to let all that requests do be what others may do to a connection.
+    /// answers has to let all that requests do be what others may do to a connection. It is changed
+    /// by requests alone.
     pub fn run<R: Wait + Clock, A: Answers, W: Watch>(
         self,
         rt: &R,
@@ -51,6 +53,7 @@ impl Poller {
         watch: &W,
     )
         requires others { AreOthers A.others A.answers }
+        ensures { Meanwhile (AnyRequest A.answers) answerer.old answerer.new }
     {
         if let Some(inbox) = port.inboxes.get(self.place) {
             Worker::new(alloc, self, inbox, port, watch).run(rt, answerer);

@@ -1,7 +1,8 @@
 //! A worker's turn: its connections are served, and then they are written.
 
-ghost use Rattle.std.specs.Prelude.{◌<◌, ◌≡◌, ◌≤◌, length, ℕ};
-ghost use Rattle.zq_loop.specs.Turns.{AreOthers, AreServedAt};
+ghost use Rattle.std.specs.Prelude.{◌<◌, ◌≡◌, ◌≤◌, length};
+ghost use Rattle.zq_loop.specs.Life.{IsTurn, moment};
+ghost use Rattle.zq_loop.specs.Turns.{AreOthers};
 
 use crate::client::Client;
 use crate::socket::Socket;
@@ -23,9 +24,8 @@ pub fn turn<S: Socket + Drop, A: Answers, W: Watch>(
     requires others { AreOthers A.others A.answers }
     requires some { 0 < length buffer.old }
     requires one_read { length buffer.old ≤ 65536 }
-    ensures { (begun : ℕ → S × A) →
-        AreServedAt S.does A.others A.answers begun answerer.old clients.old →
-        AreServedAt S.does A.others A.answers begun answerer.new clients.new }
+    ensures { IsTurn S.does A.others A.answers (moment answerer.old clients.old)
+        (moment answerer.new clients.new) }
 {
     serve_all(clients, places, alloc, answerer, buffer, now);
     watch.settle();
@@ -44,9 +44,8 @@ fn serve_all<S: Socket + Drop, A: Answers>(
     requires others { AreOthers A.others A.answers }
     requires some { 0 < length buffer.old }
     requires one_read { length buffer.old ≤ 65536 }
-    ensures { (begun : ℕ → S × A) →
-        AreServedAt S.does A.others A.answers begun answerer.old clients.old →
-        AreServedAt S.does A.others A.answers begun answerer.new clients.new }
+    ensures { IsTurn S.does A.others A.answers (moment answerer.old clients.old)
+        (moment answerer.new clients.new) }
 {
     for place in places {
         serve_at(clients, *place, alloc, answerer, buffer, now);
@@ -65,9 +64,8 @@ fn serve_at<S: Socket + Drop, A: Answers>(
     requires others { AreOthers A.others A.answers }
     requires some { 0 < length buffer.old }
     requires one_read { length buffer.old ≤ 65536 }
-    ensures served { (begun : ℕ → S × A) →
-        AreServedAt S.does A.others A.answers begun answerer.old clients.old →
-        AreServedAt S.does A.others A.answers begun answerer.new clients.new }
+    ensures turned { IsTurn S.does A.others A.answers (moment answerer.old clients.old)
+        (moment answerer.new clients.new) }
     ensures buffer { length buffer.new ≡ length buffer.old }
 {
     if place >= clients.len() {
@@ -87,9 +85,8 @@ fn write_all<S: Socket + Drop, A: Answers>(
     now: u64,
     answerer: &A,
 )
-    ensures { (begun : ℕ → S × A) →
-        AreServedAt S.does A.others A.answers begun answerer.now clients.old →
-        AreServedAt S.does A.others A.answers begun answerer.now clients.new }
+    ensures { IsTurn S.does A.others A.answers (moment answerer.now clients.old)
+        (moment answerer.now clients.new) }
 {
     for place in places {
         write_at(clients, *place, alloc, now, answerer);
@@ -104,9 +101,8 @@ fn write_at<S: Socket + Drop, A: Answers>(
     now: u64,
     _answerer: &A,
 )
-    ensures { (begun : ℕ → S × A) →
-        AreServedAt S.does A.others A.answers begun _answerer.now clients.old →
-        AreServedAt S.does A.others A.answers begun _answerer.now clients.new }
+    ensures { IsTurn S.does A.others A.answers (moment _answerer.now clients.old)
+        (moment _answerer.now clients.new) }
 {
     if place >= clients.len() {
         return;

@@ -1,12 +1,16 @@
 //! A worker: the connections of one thread, and the loop that serves them.
 
-ghost use Rattle.std.specs.Prelude.{◌<◌, ◌≤◌, length};
+ghost use Rattle.std.specs.Prelude.{◌<◌, ◌≡◌, ◌≤◌, [], length};
+ghost use Rattle.zq_loop.specs.Life.{IsTurn, Lives, Rests, moment};
 ghost use Rattle.zq_loop.specs.Turns.{AreOthers};
 
 use crate::client::Client;
-use crate::inbox::{Inbox, WAKER};
+use crate::inbox::Inbox;
+use crate::noting::note_all;
+use crate::places::{Looked, finish_at, look_at, put_in, take_out};
 use crate::poller::Poller;
 use crate::port::Port;
+use crate::socket::Socket;
 use crate::turns::turn;
 use crate::watch::{PortFault, Watch};
 use mio::net::TcpStream;
@@ -61,7 +65,9 @@ impl<'a, 'w, W: Watch> Worker<'a, 'w, W> {
         inbox: &'a Inbox,
         port: &'a Port,
         watch: &'w W,
-    ) -> Worker<'a, 'w, W> {
+    ) -> Worker<'a, 'w, W>
+        ensures { result.clients.items ≡ [] }
+    {
         Worker {
             alloc,
             poller,
@@ -83,6 +89,9 @@ impl<'a, 'w, W: Watch> Worker<'a, 'w, W> {
     /// Serves connections until all have come and none is left.
     pub fn run<R: Wait + Clock, A: Answers>(&mut self, rt: &R, answerer: &mut A)
         requires others { AreOthers A.others A.answers }
+        ensures { Lives ⟦<TcpStream as Socket>⟧.does A.others A.answers
+            (moment answerer.old self.old.clients.items)
+            (moment answerer.new self.new.clients.items) }
     {
         let mut buffer = [0u8; PIECE];
         let mut swept = 0;
@@ -101,9 +110,7 @@ impl<'a, 'w, W: Watch> Worker<'a, 'w, W> {
                 break;
             }
             let now = seconds(rt);
-            self.note();
-            self.take_in(rt, now);
-            self.finish(now);
+            self.prepare(rt, now);
             self.turn(answerer, &mut buffer, now);
             self.relieve();
             if now > swept {
@@ -111,6 +118,16 @@ impl<'a, 'w, W: Watch> Worker<'a, 'w, W> {
                 self.sweep(now);
             }
         }
+    }
+
+    /// What is done before a turn: it is noted what the system told, connections that came are
+    /// taken in, and where the port is stopped all finish.
+    fn prepare<R: Wait>(&mut self, rt: &R, now: u64)
+        ensures { Rests self.old.clients.items self.new.clients.items }
+    {
+        self.note();
+        self.take_in(rt, now);
+        self.finish(now);
     }
 
     /// How long to wait for events.
@@ -128,51 +145,41 @@ impl<'a, 'w, W: Watch> Worker<'a, 'w, W> {
     }
 
     /// Notes what the system told.
-    fn note(&mut self) {
-        for event in self.poller.events.iter() {
-            let token = event.token();
-            if token == WAKER {
-                self.has_mail = true;
-            } else {
-                let place = token.0.saturating_sub(1);
-                if let Some(Some(client)) = self.clients.get_mut(place) {
-                    client.note(
-                        event.is_readable(),
-                        event.is_writable(),
-                        event.is_read_closed() || event.is_error(),
-                    );
-                    if !client.is_queued && client.is_ready() {
-                        client.is_queued = self.queue.push(place).is_ok();
-                    }
-                }
-            }
-        }
+    fn note(&mut self)
+        ensures { Rests self.old.clients.items self.new.clients.items }
+    {
+        let has_mail = note_all(&self.poller.events, &mut self.clients, &mut self.queue);
+        self.has_mail |= has_mail;
     }
 
     /// Takes in connections that were handed over. One for which there is no memory is closed; one
     /// that cannot be watched has failed.
-    fn take_in<R: Wait>(&mut self, rt: &R, now: u64) {
+    fn take_in<R: Wait>(&mut self, rt: &R, now: u64)
+        ensures { Rests self.old.clients.items self.new.clients.items }
+    {
         for _ in 0..TAKEN_IN {
             let Some(stream) = self.inbox.take(rt) else {
                 self.has_mail = false;
                 break;
             };
-            let is_watched = match self.free_place() {
-                Ok(place) => self.place(place, Client::new(self.alloc, stream, now)),
-                Err(AllocError) => {
-                    self.port.counts.leave();
-                    true
-                }
-            };
-            if !is_watched {
-                self.watch.tell(PortFault::Device);
-                self.port.counts.leave();
-            }
+            self.take_in_one(stream, now);
+        }
+    }
+
+    /// Takes in a connection.
+    fn take_in_one(&mut self, stream: TcpStream, now: u64)
+        ensures { Rests self.old.clients.items self.new.clients.items }
+    {
+        match self.free_place() {
+            Ok(place) => self.place(place, stream, now),
+            Err(AllocError) => self.port.counts.leave(),
         }
     }
 
     /// A place that no connection has.
-    fn free_place(&mut self) -> Result<usize, AllocError> {
+    fn free_place(&mut self) -> Result<usize, AllocError>
+        ensures { Rests self.old.clients.items self.new.clients.items }
+    {
         if let Some(place) = self.free.pop() {
             return Ok(place);
         }
@@ -185,97 +192,135 @@ impl<'a, 'w, W: Watch> Worker<'a, 'w, W> {
         Ok(place)
     }
 
-    /// Puts a connection at a free place, and has its socket watched. Says whether that could be
-    /// done.
-    fn place(&mut self, place: usize, client: Client<TcpStream>) -> bool {
-        let mut client = client;
+    /// Puts a connection at a free place, and has its socket watched. Where that cannot be done it
+    /// has failed.
+    fn place(&mut self, place: usize, stream: TcpStream, now: u64)
+        ensures { Rests self.old.clients.items self.new.clients.items }
+    {
+        let mut stream = stream;
         let token = Token(place.saturating_add(1));
         let both = Interest::READABLE | Interest::WRITABLE;
         let registry = self.poller.poll.registry();
-        let is_watched = registry.register(&mut client.socket, token, both).is_ok();
-        match self.clients.get_mut(place) {
-            Some(there) if is_watched => {
-                if self.ends_at.is_some() {
-                    client.finish();
-                }
-                client.is_queued = self.queue.push(place).is_ok();
-                *there = Some(client);
-                self.count = self.count.saturating_add(1);
-                true
-            }
-            _ => {
-                let _ = self.free.push(place);
-                false
-            }
+        let is_watched = registry.register(&mut stream, token, both).is_ok();
+        let mut client = Client::new(self.alloc, stream, now);
+        if self.ends_at.is_some() {
+            client.finish();
+        }
+        if is_watched && put_in(&mut self.clients, &mut self.queue, place, client) {
+            self.count = self.count.saturating_add(1);
+        } else {
+            let _ = self.free.push(place);
+            self.watch.tell(PortFault::Device);
+            self.port.counts.leave();
         }
     }
 
     /// Where the port is stopped, has each connection finish.
-    fn finish(&mut self, now: u64) {
+    fn finish(&mut self, now: u64)
+        ensures { Rests self.old.clients.items self.new.clients.items }
+    {
         if self.ends_at.is_some() || !self.port.counts.is_stopped() {
             return;
         }
         self.ends_at = Some(now.saturating_add(GRACE));
         for place in 0..self.clients.len() {
-            if let Some(Some(client)) = self.clients.get_mut(place) {
-                client.finish();
-                if !client.is_queued {
-                    client.is_queued = self.queue.push(place).is_ok();
-                }
-            }
+            self.finish_one(place);
         }
     }
 
-    /// A turn of the connections that have something to do.
+    /// Has the connection at a place finish.
+    fn finish_one(&mut self, place: usize)
+        ensures { Rests self.old.clients.items self.new.clients.items }
+    {
+        finish_at(&mut self.clients, &mut self.queue, place);
+    }
+
+    /// A turn of the connections that have something to do, after which each of them is looked
+    /// after.
     fn turn<A: Answers>(&mut self, answerer: &mut A, buffer: &mut [u8], now: u64)
         requires others { AreOthers A.others A.answers }
         requires some { 0 < length buffer.old }
         requires one_read { length buffer.old ≤ 65536 }
+        ensures lives { Lives ⟦<TcpStream as Socket>⟧.does A.others A.answers
+            (moment answerer.old self.old.clients.items)
+            (moment answerer.new self.new.clients.items) }
+        ensures buffer { length buffer.new ≡ length buffer.old }
     {
         let next = mem::replace(&mut self.spare, Vec::new(self.alloc));
         let mut queue = mem::replace(&mut self.queue, next);
-        turn(
-            &mut self.clients,
-            &queue,
-            self.alloc,
-            answerer,
-            buffer,
-            now,
-            self.watch,
-        );
-        for place in queue.iter() {
-            self.look_after(*place);
-        }
+        self.turn_of(&queue, answerer, buffer, now);
+        self.look_after_all(&queue);
         queue.clear();
         self.spare = queue;
     }
 
+    /// A turn of the connections at these places.
+    fn turn_of<A: Answers>(
+        &mut self,
+        places: &[usize],
+        answerer: &mut A,
+        buffer: &mut [u8],
+        now: u64,
+    )
+        requires others { AreOthers A.others A.answers }
+        requires some { 0 < length buffer.old }
+        requires one_read { length buffer.old ≤ 65536 }
+        ensures { IsTurn ⟦<TcpStream as Socket>⟧.does A.others A.answers
+            (moment answerer.old self.old.clients.items)
+            (moment answerer.new self.new.clients.items) }
+    {
+        let watch = self.watch;
+        turn(
+            &mut self.clients,
+            places,
+            self.alloc,
+            answerer,
+            buffer,
+            now,
+            watch,
+        );
+    }
+
+    /// Looks after the connections at these places.
+    fn look_after_all(&mut self, places: &[usize])
+        ensures { Rests self.old.clients.items self.new.clients.items }
+    {
+        for place in places {
+            self.look_after(*place);
+        }
+    }
+
     /// Counts what a connection is owed after its turn, and ends it or queues it again.
-    fn look_after(&mut self, place: usize) {
-        let Some(Some(client)) = self.clients.get_mut(place) else {
+    fn look_after(&mut self, place: usize)
+        ensures { Rests self.old.clients.items self.new.clients.items }
+    {
+        let Some(looked) = self.look(place) else {
             return;
         };
-        let owed = client.owed();
-        self.port.counts.count(client.counted, owed);
-        client.counted = owed;
-        let is_over = client.is_over();
-        client.is_queued = !is_over && client.is_ready() && self.queue.push(place).is_ok();
-        self.owes |= owed > 0;
-        if owed as u64 > self.most {
-            self.most = owed as u64;
-            self.inbox.tell_most(self.most);
+        let owed = looked.owed as u64;
+        self.port.counts.count(looked.before, looked.owed);
+        if owed > self.most {
+            self.inbox.tell_most(owed);
         }
-        if is_over {
+        self.most = self.most.max(owed);
+        self.owes |= owed > 0;
+        if looked.is_over {
             self.remove(place);
         }
     }
 
+    /// What there is to say of the connection at a place after its turn.
+    fn look(&mut self, place: usize) -> Option<Looked>
+        ensures { Rests self.old.clients.items self.new.clients.items }
+    {
+        look_at(&mut self.clients, &mut self.queue, place)
+    }
+
     /// Closes a connection, and tells of its fault.
-    fn remove(&mut self, place: usize) {
-        let Some(there) = self.clients.get_mut(place) else {
-            return;
-        };
-        let Some(client) = there.take() else {
+    fn remove(&mut self, place: usize)
+        ensures { Rests self.old.clients.items self.new.clients.items }
+    {
+        let Some(client) = take_out(&mut self.clients, place) else {
             return;
         };
         if let Some(fault) = client.fault() {
@@ -289,36 +334,44 @@ impl<'a, 'w, W: Watch> Worker<'a, 'w, W> {
 
     /// Closes the connections that were silent, or took nothing, for too long; and all where the
     /// port is stopped and its time is over.
-    fn sweep(&mut self, now: u64) {
-        let limits = self.port.limits;
+    fn sweep(&mut self, now: u64)
+        ensures { Rests self.old.clients.items self.new.clients.items }
+    {
         let is_end = match self.ends_at {
             Some(end) => now >= end,
             None => false,
         };
         self.owes = false;
         for place in 0..self.clients.len() {
-            let (is_stuck, is_silent) = match self.clients.get(place) {
-                Some(Some(client)) => {
-                    self.owes |= client.counted > 0;
-                    (
-                        client.is_stuck(limits.write_timeout, now),
-                        client.is_silent(limits.timeout, now),
-                    )
-                }
-                _ => (false, false),
-            };
-            if is_stuck {
-                self.watch.tell(PortFault::Unread);
-            }
-            if is_stuck || is_silent || is_end {
-                self.remove(place);
-            }
+            self.sweep_at(place, is_end, now);
+        }
+    }
+
+    /// Closes the connection at a place where it was silent, or took nothing, for too long; and
+    /// where the end has come.
+    fn sweep_at(&mut self, place: usize, is_end: bool, now: u64)
+        ensures { Rests self.old.clients.items self.new.clients.items }
+    {
+        let limits = self.port.limits;
+        let Some(Some(client)) = self.clients.get(place) else {
+            return;
+        };
+        self.owes |= client.counted > 0;
+        let is_stuck = client.is_stuck(limits.write_timeout, now);
+        let is_silent = client.is_silent(limits.timeout, now);
+        if is_stuck {
+            self.watch.tell(PortFault::Unread);
+        }
+        if is_stuck || is_silent || is_end {
+            self.remove(place);
         }
     }
 
     /// Where all connections are owed too much together, closes the one that is owed most of all.
     /// Where another worker has that, it is woken to do so.
-    fn relieve(&mut self) {
+    fn relieve(&mut self)
+        ensures { Rests self.old.clients.items self.new.clients.items }
+    {
         if self.port.counts.owed() <= self.port.limits.output {
             return;
         }

@@ -9,9 +9,9 @@ use Rattle.zq_site.proofs.running.fn.run_site.scope.Lts.{arg-2-1}
 use Rattle.zq_serve.proofs.Crossing.{linker_send}
 
 -- what the link thread does may go to another thread
-crosses_over : (g : Over) (κs : Lfts 7) → IsSync g.row.L →
+linker_crosses : (g : Over) (κs : Lfts 7) → IsSync g.row.L →
     IsSend (param 1 (arg-2-1 g.row.N g.row.L g.N.laws g.L.laws g.N.Net-dict g.L.Log-dict g.L.RandomSource-dict g.L.Clock-dict g.L.Threads-dict g.L.Wait-dict κs))
-crosses_over g κs log = search (linker_send, shared_send, sendable, crosses) depth 30 fits 50000
+linker_crosses g κs log = search (linker_send, shared_send, sendable, crosses) depth 30 fits 50000
 
 pub spawn-requires-send-F : goal.spawn-requires-send-F
-spawn-requires-send-F g c κs within = crosses_over g κs c.requires.1.1.1
+spawn-requires-send-F g c κs within = linker_crosses g κs c.requires.1.1.1

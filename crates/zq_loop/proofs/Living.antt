@@ -1,0 +1,160 @@
+-- The life of a worker, move by move.
+use Rattle.std.proofs.Common.{◌≡◌, ◌⊎◌, ◌++◌, List, None, Option, Some, ℕ, [], ◌∷◌, inl, inr, refl, suc, sym, subst, zero}
+use Rattle.std.specs.Prelude.{slice_get, slice_set}
+use Rattle.zq_loop.proofs.AtSocket.{served-first}
+use Rattle.zq_loop.proofs.TurnByTurn.{set-cases}
+use Rattle.zq_loop.specs.Client.{IsServedAt}
+use Rattle.zq_loop.specs.Life.{AreKeptOrNew, AreServed, IsAsItWas, IsAt, IsMove, IsTurn, Lives, Moment, Rests, moment}
+use Rattle.zq_loop.specs.Turns.{AreServedAt}
+use Rattle.zq_loop.specs.declared.client.Client.{Client}
+use Rattle.zq_session.proofs.Alongside.{meanwhile-join, meanwhile-none}
+use Rattle.zq_session.specs.Among.{AnyRequest, Change, Leads, Meanwhile}
+use Rattle.zq_session.specs.Connection.{IsNew}
+use Rattle.zq_session.specs.Session.{Relation}
+use Rattle.zq_session.specs.Steps.{Does}
+
+module _ {E : Type 0} where
+  same-client : (client : Client E) → IsAsItWas client client
+  same-client client = record { socket = refl; connection = refl }
+
+  rests-one : (old new : List (Option (Client E))) → AreKeptOrNew old new → Rests old new
+  rests-one old new p = (new ∷ [], (p, refl))
+
+  pub rests-none : (clients : List (Option (Client E))) → Rests clients clients
+  rests-none clients = meanwhile-none (AreKeptOrNew {E = E}) clients
+
+  pub rests-join : (a b c : List (Option (Client E))) → Rests a b → Rests b c → Rests a c
+  rests-join a b c p q = meanwhile-join (AreKeptOrNew {E = E}) a b c p q
+
+  -- one is as it was
+  pub rests-set : (clients : List (Option (Client E))) (at : ℕ) (before after : Client E) → IsAt clients at before → IsAsItWas before after → Rests clients (slice_set clients at (Some after))
+  rests-set clients at before after is same = rests-one clients (slice_set clients at (Some after)) (λ place client there. elim (set-cases clients at place (Some after) (Some client) there) [
+    | inl found ↦
+        let whole : client ≡ after = cc found.1 in
+        inl (before, subst (λ p. IsAt clients p before) (sym found.0) is, subst (λ c. IsAsItWas before c) (sym whole) same)
+    | inr kept ↦ inl (client, kept, same-client client)
+  ])
+
+  -- one was taken out
+  pub rests-taken : (clients : List (Option (Client E))) (at : ℕ) → Rests clients (slice_set clients at None)
+  rests-taken clients at = rests-one clients (slice_set clients at None) (λ place client there. elim (set-cases clients at place None (Some client) there) [
+    | inl found ↦ absurd (cc found.1)
+    | inr kept ↦ inl (client, kept, same-client client)
+  ])
+
+  -- one came, where none was
+  pub rests-put : (clients : List (Option (Client E))) (at : ℕ) (new : Client E) → slice_get clients at ≡ Some None → IsNew new.connection → Rests clients (slice_set clients at (Some new))
+  rests-put clients at new none fresh = rests-one clients (slice_set clients at (Some new)) (λ place client there. elim (set-cases clients at place (Some new) (Some client) there) [
+    | inl found ↦
+        let whole : client ≡ new = cc found.1 in
+        let free : (before : Client E) → IsAt clients place before → ⊥ =
+        λ before is. let at_it : slice_get clients at ≡ Some (Some before) = subst (λ p. slice_get clients p ≡ Some (Some before)) found.0 is in cc (none, at_it) in
+        inr (record { free = free; fresh = subst (λ (c : Client E). IsNew c.connection) (sym whole) fresh })
+    | inr kept ↦ inl (client, kept, same-client client)
+  ])
+
+  push-cases : (clients : List (Option (Client E))) (place : ℕ) (client : Client E) → IsAt (clients ++ None ∷ []) place client → IsAt clients place client
+  push-cases [] zero client p = absurd (cc p)
+  push-cases [] (suc place) client p = p
+  push-cases (x ∷ clients) zero client p = p
+  push-cases (x ∷ clients) (suc place) client p = push-cases clients place client p
+
+  -- a place was added
+  pub rests-push : (clients new : List (Option (Client E))) → new ≡ clients ++ None ∷ [] → Rests clients new
+  rests-push clients new is = rests-one clients new (λ place client there. inl (client, push-cases clients place client (subst (λ l. IsAt l place client) is there), same-client client))
+
+module _ {E S : Type 0} (does : Does E) (others : Change S) (answers : Relation S) where
+  pub turn-none : (now : Moment E S) → IsTurn does others answers now now
+  turn-none now = record { served = λ begun all. all; requests = λ begun all. meanwhile-none (AnyRequest answers) now.answerer }
+
+  pub turn-join : (a b c : Moment E S) → IsTurn does others answers a b → IsTurn does others answers b c → IsTurn does others answers a c
+  turn-join a b c p q = record {
+    served = λ begun all. q.served begun (p.served begun all);
+    requests = λ begun all. meanwhile-join (AnyRequest answers) a.answerer b.answerer c.answerer (p.requests begun all) (q.requests begun (p.served begun all));
+  }
+
+  pub lives-none : (now : Moment E S) → Lives does others answers now now
+  lives-none now = meanwhile-none (IsMove does others answers) now
+
+  pub lives-join : (a b c : Moment E S) → Lives does others answers a b → Lives does others answers b c → Lives does others answers a c
+  lives-join a b c p q = meanwhile-join (IsMove does others answers) a b c p q
+
+  pub lives-turn : (a b : Moment E S) → IsTurn does others answers a b → Lives does others answers a b
+  lives-turn a b p = (b ∷ [], (inl p, refl))
+
+  pub lives-rest : (now : S) (old new : List (Option (Client E))) → Rests old new → Lives does others answers (moment now old) (moment now new)
+  lives-rest now old new p = (moment now new ∷ [], (inr (record { answerer = refl; clients = p }), refl))
+
+  begun-at : S → Option (Option (Client E)) → Option (Option (Client E)) → Option (E × S) → Option (E × S)
+  begun-at now (Some (Some client)) (Some (Some before)) begun = begun
+  begun-at now (Some (Some client)) (Some None) begun = Some (client.socket, now)
+  begun-at now (Some (Some client)) None begun = Some (client.socket, now)
+  begun-at now (Some None) before begun = begun
+  begun-at now None before begun = begun
+
+  IsBegun : S → Option (E × S) → Client E → Type 0
+  IsBegun now begun client = (began : E × S) × (begun ≡ Some began) × IsServedAt does others answers began.0 began.1 now client.socket client.connection
+
+  at-place : (now : S) (old : Option (Option (Client E))) (client : Client E) (begun : Option (E × S))
+      → (((before : Client E) × (old ≡ Some (Some before)) × IsAsItWas before client) ⊎ (((before : Client E) → old ≡ Some (Some before) → ⊥) × IsNew client.connection))
+      → ((before : Client E) → old ≡ Some (Some before) → IsBegun now begun before)
+      → IsBegun now (begun-at now (Some (Some client)) old begun) client
+  unfolding begun-at IsBegun
+  at-place now (Some (Some before)) client begun (inl was) served =
+      let all = served was.0 was.1 in
+      let began = all.0 in (
+        began,
+        all.1,
+        subst (λ c. IsServedAt does others answers began.0 began.1 now client.socket c) (sym was.2.connection)
+            (subst (λ s. IsServedAt does others answers began.0 began.1 now s was.0.connection) (sym was.2.socket) all.2),
+      )
+  at-place now (Some (Some before)) client begun (inr new) served = absurd (new.0 before refl)
+  at-place now (Some None) client begun (inl was) served = absurd (cc was.1)
+  at-place now (Some None) client begun (inr new) served = ((client.socket, now), refl, served-first does others answers client.socket now client.connection new.1)
+  at-place now None client begun (inl was) served = absurd (cc was.1)
+  at-place now None client begun (inr new) served = ((client.socket, now), refl, served-first does others answers client.socket now client.connection new.1)
+
+  begun-after : S → List (Option (Client E)) → List (Option (Client E)) → (ℕ → Option (E × S)) → ℕ → Option (E × S)
+  begun-after now old new begun place = begun-at now (slice_get new place) (slice_get old place) (begun place)
+
+  rest-served : (now : S) (old new : List (Option (Client E))) (begun : ℕ → Option (E × S)) → AreKeptOrNew old new → AreServedAt does others answers begun now old → AreServed does others answers (moment now new)
+  unfolding begun-after IsBegun
+  rest-served now old new begun p all = (
+    begun-after now old new begun,
+    λ place client there.
+        let how : ((before : Client E) × (slice_get old place ≡ Some (Some before)) × IsAsItWas before client) ⊎ (((before : Client E) → slice_get old place ≡ Some (Some before) → ⊥) × IsNew client.connection) =
+        elim (p place client there) [ inl was ↦ inl was | inr new ↦ inr (new.free, new.fresh) ] in
+        subst (λ n. IsBegun now (begun-at now n (slice_get old place) (begun place)) client) (sym there)
+        (at-place now (slice_get old place) client (begun place) how (all place)),
+  )
+
+  rests-served : (now : S) (mids : List (List (Option (Client E)))) (old new : List (Option (Client E))) (begun : ℕ → Option (E × S)) → Leads (AreKeptOrNew {E = E}) old mids new → AreServedAt does others answers begun now old
+      → AreServed does others answers (moment now new)
+  rests-served now [] old new begun same all = subst (λ c. AreServed does others answers (moment now c)) same (begun, all)
+  rests-served now (mid ∷ mids) old new begun p all =
+      let next = rest-served now old mid begun p.0 all in
+      rests-served now mids mid new next.0 p.1 next.1
+
+  lives-by : (mids : List (Moment E S)) (old new : Moment E S) → Leads (IsMove does others answers) old mids new → AreServed does others answers old
+      → AreServed does others answers new × Meanwhile (AnyRequest answers) old.answerer new.answerer
+  lives-by [] old new same served =
+      (subst (AreServed does others answers) same served, subst (λ (m : Moment E S). Meanwhile (AnyRequest answers) old.answerer m.answerer) same (meanwhile-none (AnyRequest answers) old.answerer))
+  lives-by (mid ∷ mids) old new p served = elim p.0 [
+    | inl turn ↦
+        let rest = lives-by mids mid new p.1 (served.0, turn.served served.0 served.1) in
+        (rest.0, meanwhile-join (AnyRequest answers) old.answerer mid.answerer new.answerer (turn.requests served.0 served.1) rest.1)
+    | inr rest ↦
+        let kept : AreServed does others answers (moment old.answerer mid.clients) = rests-served old.answerer rest.clients.0 old.clients mid.clients served.0 rest.clients.1 served.1 in
+        let here : AreServed does others answers mid = subst (λ s. AreServed does others answers (moment s mid.clients)) (sym rest.answerer) kept in
+        let more = lives-by mids mid new p.1 here in
+        (more.0, subst (λ s. Meanwhile (AnyRequest answers) s new.answerer) rest.answerer more.1)
+  ]
+
+  -- over a worker's life each client is served, and what answers is changed by requests alone
+  pub lives-served : (old new : Moment E S) → Lives does others answers old new → AreServed does others answers old
+      → AreServed does others answers new × Meanwhile (AnyRequest answers) old.answerer new.answerer
+  lives-served old new p served = lives-by p.0 old new p.1 served
+
+  -- with no clients there is none to be served
+  pub served-none : (now : S) → AreServed does others answers (moment now [])
+  served-none now = ((λ _. None), λ place client there. absurd (cc there))

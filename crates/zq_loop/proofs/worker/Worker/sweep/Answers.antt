@@ -1,0 +1,5 @@
+use Rattle.zq_loop.proofs.Living.{rests-join}
+use Rattle.zq_loop.proofs.worker.Worker.sweep.Goals as goal
+
+pub loop-place-preserved : goal.loop-place-preserved
+loop-place-preserved g c = rests-join _ _ _ c.loop-place.invariant c.sweep_at.ensures
