@@ -1,8 +1,9 @@
 pub mod Pause
 pub mod Times
 pub mod LinkStates
+pub mod Meetings
 pub mod Words
-pub mod Carried
+pub mod FrameQueues
 pub mod Heard
 pub mod PeerLinks
 pub mod Upkeep

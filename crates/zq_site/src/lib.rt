@@ -10,6 +10,7 @@
 mod accepting;
 mod announcing;
 mod dialing;
+mod frame_queue;
 mod halt;
 mod link_serving;
 mod link_state;
@@ -19,7 +20,9 @@ mod pause;
 mod peer_link;
 mod peer_links;
 mod peer_listener;
-mod queueing;
+mod post;
+mod pushing;
+mod quota;
 mod reading;
 mod running;
 mod serving;

@@ -1,0 +1,6 @@
+//! Sites that push to each other over links in memory.
+
+mod asking;
+mod scenes;
+mod station;
+mod tables;
