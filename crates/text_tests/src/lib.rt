@@ -7,10 +7,6 @@ mod fields;
 #[cfg(test)]
 mod greet;
 #[cfg(test)]
-mod greet_new;
-#[cfg(test)]
-mod greeting_side;
-#[cfg(test)]
 mod mac;
 #[cfg(test)]
 mod outbox;

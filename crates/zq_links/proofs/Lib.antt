@@ -6,4 +6,3 @@ mod Repeated
 mod Taken
 mod Same
 mod Topics
-mod ControlAgain

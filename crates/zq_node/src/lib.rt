@@ -11,7 +11,6 @@ mod job;
 mod node;
 mod parked;
 mod settling;
-mod showing;
 mod taking;
 mod telling;
 mod work_fault;

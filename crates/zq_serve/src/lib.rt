@@ -25,7 +25,7 @@ pub use descriptors::most_clients;
 pub use fault::ServeFault;
 pub use inboxes::Inboxes;
 pub use limits::{limits_of, warn_few};
-pub use linker::{Linker, NodeWork};
+pub use linker::Linker;
 pub use opening::{
     ClientThreads, SiteOptions, SiteThreads, address_of, draw_hasher, listen, most_waiting,
     open_site,

@@ -22,29 +22,7 @@ pub struct Linker {
     pub(crate) ghost own: { IsPassOf (arc_value server).site pass } by { pass_fact (arc_value server).site pass },
 }
 
-/// What works with the node of a site.
-pub trait NodeWork {
-    ghost use Rattle.zq_node.specs.Node.{IsNode};
-
-    /// Works with the node of a site, which has these others beside it.
-    fn run(self, node: &mut Node<'_>, others: &[SiteNo])
-        requires { IsNode node.old };
-}
-
 impl Linker {
-    /// Lends the site's node to this work, for who links the site in another way. The node parks at
-    /// most so many operations that came early.
-    pub fn lend<W: NodeWork>(self, alloc: Global, most: usize, work: W) {
-        let Linker {
-            server,
-            pass,
-            others,
-        } = self;
-        let server: &SiteServer = &server;
-        let mut node = Node::new_up_to(alloc, &server.site, pass, most);
-        work.run(&mut node, &others);
-    }
-
     /// Hears what comes to its site's mailbox, and tells the other sites what this one has, until
     /// Stop comes. What it sends goes to the carrier; of frames that it drops the witness is told.
     /// A state that is heard uses this hasher.

@@ -1,9 +1,8 @@
 pub mod Pause
 pub mod Times
 pub mod LinkStates
-pub mod Meetings
 pub mod Words
-pub mod FrameQueues
+pub mod Carried
 pub mod Heard
 pub mod PeerLinks
 pub mod Upkeep

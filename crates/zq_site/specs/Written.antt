@@ -1,20 +1,13 @@
--- What is written of frames.
+-- What is written of a frame.
 
 use Rattle.std.specs.Io.KnownBytes.{Appends}
-use Rattle.std.specs.Prelude.{List, Option, [], if◌then◌else◌, ℕ, ◌++◌, ◌∷◌, ◌≡◌}
-use Rattle.zq_site.specs.Times.{is_too_long}
+use Rattle.std.specs.Prelude.{List, Option, ℕ, ◌≡◌}
 use Rattle.zq_site.specs.declared.writing.Written.{Written}
 use Rattle.zq_site.specs.declared.writing.Written.TheVariants.{Broken, Dropped, Whole}
 use Rattle.zq_wire.specs.Framed.{framed}
 
--- the frames, each behind its length, but for those that are too long
-abbrev pub framed_each : List (List ℕ) → List ℕ
-framed_each [] = []
-framed_each (frame ∷ frames) =
-    (if is_too_long frame then [] else framed frame) ++ framed_each frames
-
--- what the writer held and holds, the frames, and what became of them
-abbrev pub AreWritten : Option (List ℕ) → Option (List ℕ) → List (List ℕ) → Written → Type 0
-AreWritten held holds frames Whole = Appends held holds (framed_each frames)
-AreWritten held holds frames Dropped = holds ≡ held
-AreWritten held holds frames Broken = Unit {0}
+-- what the writer held and holds, the frame, and what became of it
+abbrev pub IsWritten : Option (List ℕ) → Option (List ℕ) → List ℕ → Written → Type 0
+IsWritten held holds frame Whole = Appends held holds (framed frame)
+IsWritten held holds frame Dropped = holds ≡ held
+IsWritten held holds frame Broken = Unit {0}

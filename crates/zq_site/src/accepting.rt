@@ -1,7 +1,6 @@
 //! What accepts peers.
 
 use crate::link_serving::serve_link;
-use crate::opening::Way;
 use crate::peer_listener::PeerListener;
 use crate::shared::Shared;
 use crate::times::not_accepted;
@@ -32,7 +31,7 @@ where
     match listener.listener.accept() {
         Ok((stream, _)) => {
             if !shared.halt.is_over(log) {
-                serve_link(log, shared, stream, shared.dialers, Way::Accepts);
+                serve_link(log, shared, stream, shared.dialers);
             }
         }
         Err(_) => {

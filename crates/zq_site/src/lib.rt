@@ -10,7 +10,6 @@
 mod accepting;
 mod announcing;
 mod dialing;
-mod frame_queue;
 mod halt;
 mod link_serving;
 mod link_state;
@@ -20,9 +19,7 @@ mod pause;
 mod peer_link;
 mod peer_links;
 mod peer_listener;
-mod post;
-mod pushing;
-mod quota;
+mod queueing;
 mod reading;
 mod running;
 mod serving;

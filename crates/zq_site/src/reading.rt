@@ -7,13 +7,12 @@ ghost use Rattle.zq_wire.specs.StreamLaws.{given_by};
 ghost use Rattle.zq_wire.specs.Stream.{answered, frames_in};
 
 use crate::loss::Loss;
-use crate::post::{Event, Post};
-use crate::quota::Quota;
 use crate::times::{PIECE, most_frame};
 use std::alloc::Global;
 use std::io::{ErrorKind, Read};
 use std::sync::Wait;
 use zq_dots::SiteNo;
+use zq_peers::Mailbox;
 use zq_wire::{Reader, StreamError};
 
 /// What hears frames.
@@ -26,16 +25,12 @@ pub trait Hear {
         ensures { hears self.old frame.items self.new };
 }
 
-/// Leaves the frames of a peer at the site's post, and notes that one came.
+/// Gives the frames of a peer to the site's mailbox, and notes that one came.
 #[derive(Drop)]
 pub struct Ear<'a, R: Wait> {
     pub rt: &'a R,
-    pub post: &'a Post,
-    /// How much of what the peer sent may wait.
-    pub quota: &'a Quota,
+    pub mailbox: &'a Mailbox,
     pub peer: SiteNo,
-    /// The number of the link.
-    pub link: u64,
     /// Whether a frame came.
     pub heard: bool,
 }
@@ -47,17 +42,8 @@ impl<R: Wait> Hear for Ear<'_, R> {
 
     fn hear(&mut self, frame: Vec<u8>) {
         self.heard = true;
-        let length = frame.len() as u64;
-        self.quota.enter(self.rt, length);
-        let event = Event::Frame {
-            peer: self.peer,
-            link: self.link,
-            bytes: frame,
-        };
-        if self.post.leave(self.rt, event).is_err() {
-            // There was no memory: it is lost, and what the peer tells from time to time shows it.
-            self.quota.leave(self.rt, length);
-        }
+        // Where there is no memory it is lost, and the peer's next Have makes up for it.
+        let _ = self.mailbox.give(self.rt, self.peer, frame);
     }
 }
 

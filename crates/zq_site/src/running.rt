@@ -7,9 +7,10 @@ use crate::accepting::accept_peers;
 use crate::dialing::dial_line;
 use crate::peer_links::is_dialled;
 use crate::peer_listener::PeerListener;
-use crate::pushing::Pushing;
+use crate::queueing::{Outward, PeerLinks};
 use crate::shared::Shared;
-use crate::times::{beat, gathering};
+use crate::times::telling;
+use crate::warning_log::WarningLog;
 use crate::writing::write_link;
 use log::Log;
 use std::net::{Net, TcpListener, TcpStream};
@@ -18,13 +19,8 @@ use std::sync::Wait;
 use std::thread;
 use std::thread::Threads;
 use std::time::Clock;
-use zq_links::Message;
-use zq_peers::{Inbox, Incoming};
 use zq_posheap::Seeded;
 use zq_serve::{ClientThreads, Inboxes, Linker, ServeFault, SiteThreads, run_clients};
-
-/// How many operations that came early are parked.
-pub const MOST_PARKED: usize = 65_536;
 
 /// The hasher that a site's members and states use, and what its workers draw with.
 #[derive(Clone, Copy)]
@@ -33,8 +29,8 @@ pub struct Seeds {
     pub draws: u64,
 }
 
-/// Runs the link thread of a site, what tells it of calls, and all its other threads. When those are
-/// done both are told to stop, and are waited for.
+/// Runs the link thread of a site, and all its other threads. When those are done the link thread
+/// is told to stop, and is waited for.
 pub fn run_site<N, L>(
     net: &N,
     log: &L,
@@ -56,41 +52,33 @@ where
                 ended = Err(ServeFault::Device);
             }
         }
-        if scope.spawn(move || gather_calls(log, shared)).is_err() {
-            ended = Err(ServeFault::Device);
-        }
         if ended.is_ok() {
             ended = run_writers(net, log, shared, listener, clients, seeds.draws);
         }
         shared.mailbox.stop(log);
-        shared.post.stop(log);
         ended
     })
 }
 
 /// Links a site to its peers, until it is to stop.
 fn link_site<L: Log + Wait>(log: &L, shared: Shared<'_>, linker: Linker, hasher: Seeded) {
-    let pushing = Pushing {
-        log,
-        shared,
-        hasher,
+    let peer_links = PeerLinks {
+        rt: log,
+        peer_links: shared.peer_links,
     };
-    linker.lend(shared.alloc, MOST_PARKED, pushing);
-}
-
-/// Tells the link thread of calls, until the site ends: at once of the first one after a rest, and
-/// then of all that come while some time is gathered.
-fn gather_calls<L: Wait + Clock>(rt: &L, shared: Shared<'_>) {
-    let mut calls = Incoming::new(rt, shared.mailbox);
-    for _ in rt.forever() {
-        if let Message::Stop = calls.next() {
-            break;
-        }
-        shared.post.call(rt);
-        if shared.halt.wait(rt, gathering()) {
-            break;
-        }
-    }
+    let mut carrier = Outward::new(peer_links);
+    let mut warning_log = WarningLog {
+        log,
+        site: shared.settings.site,
+    };
+    linker.run(
+        log,
+        shared.alloc,
+        shared.mailbox,
+        hasher,
+        &mut carrier,
+        &mut warning_log,
+    );
 }
 
 /// Runs what sends frames to each peer, and what follows, until the site ends.
@@ -124,8 +112,8 @@ where
     })
 }
 
-/// Runs what dials each peer of a smaller number, what tells the link thread of each second, and
-/// what follows, until the site ends.
+/// Runs what dials each peer of a smaller number, what tells the peers from time to time what the
+/// site has, and what follows, until the site ends.
 fn run_dialers<N, L>(
     net: &N,
     log: &L,
@@ -149,7 +137,7 @@ where
                 ended = Err(ServeFault::Device);
             }
         }
-        if scope.spawn(move || beat_time(log, shared)).is_err() {
+        if scope.spawn(move || tell_peers(log, shared)).is_err() {
             ended = Err(ServeFault::Device);
         }
         if ended.is_ok() {
@@ -160,13 +148,13 @@ where
     })
 }
 
-/// Tells the link thread of each second, until the site ends.
-fn beat_time<L: Wait + Clock>(rt: &L, shared: Shared<'_>) {
+/// Has the peers told from time to time what the site has, until it ends.
+fn tell_peers<L: Wait + Clock>(rt: &L, shared: Shared<'_>) {
     for _ in rt.forever() {
-        if shared.halt.wait(rt, beat()) {
+        if shared.halt.wait(rt, telling()) {
             break;
         }
-        shared.post.beat(rt);
+        shared.mailbox.tick(rt);
     }
 }
 

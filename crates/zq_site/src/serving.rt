@@ -6,10 +6,8 @@ ghost use Rattle.zq_serve.specs.Limits.{port_limits};
 
 use crate::announcing::announce;
 use crate::halt::Halt;
-use crate::opening::draw_run;
 use crate::peer_links::{dialers_of, open_peer_links, peers_of};
 use crate::peer_listener::PeerListener;
-use crate::post::Post;
 use crate::running::{Seeds, run_site};
 use crate::shared::Shared;
 use log::Log;
@@ -69,10 +67,6 @@ where
     let peer_links = open_peer_links(alloc, settings)?;
     let dialers = dialers_of(alloc, settings)?;
     let mailbox = open_mailbox(alloc, settings)?;
-    let post = Post::new(alloc);
-    let Ok(run) = draw_run(log) else {
-        return Err(ServeFault::Device);
-    };
     announce(settings, out)?;
     warn_few(
         log,
@@ -84,11 +78,9 @@ where
     let shared = Shared {
         alloc,
         settings,
-        run,
         peer_links: &peer_links,
         dialers: &dialers,
         mailbox: &mailbox,
-        post: &post,
         halt: &halt,
     };
     let seeds = Seeds {
@@ -165,7 +157,7 @@ fn clients_address(settings: &SiteSettings) -> SocketAddr
     SocketAddr::new(settings.bind, settings.port.value() as u16)
 }
 
-/// Where calls are told of.
+/// Where frames wait for the site's link thread.
 fn open_mailbox(alloc: Global, settings: &SiteSettings) -> Result<Mailbox, ServeFault> {
     let peers = settings.peers.as_slice().len();
     let mailbox = Mailbox::new(alloc, most_waiting(peers, settings.heaps))?;

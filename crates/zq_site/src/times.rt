@@ -6,9 +6,6 @@ ghost use Rattle.zq_site.specs.Times as wanted;
 
 use std::time::Duration;
 
-/// After how many seconds the link thread is told that a beat has gone by.
-const BEAT: u64 = 1;
-
 /// After how many seconds the site tells its peers what it has, where nobody calls it.
 const TELLING: u64 = 5;
 
@@ -32,18 +29,11 @@ pub fn opening() -> Duration
     Duration::from_secs(5)
 }
 
-/// After what time the link thread is told that a beat has gone by: a second.
-pub fn beat() -> Duration
-    ensures { as_nanos result ≡ wanted.beat }
+/// After what time the site tells its peers what it has, where nobody calls it: 5 seconds.
+pub fn telling() -> Duration
+    ensures { as_nanos result ≡ wanted.telling }
 {
-    Duration::from_secs(BEAT)
-}
-
-/// For how long calls are gathered before their operations are pushed: 200 microseconds.
-pub fn gathering() -> Duration
-    ensures { as_nanos result ≡ wanted.gathering }
-{
-    Duration::from_micros(200)
+    Duration::from_secs(TELLING)
 }
 
 /// How long nothing may come over a link: 20 seconds.

@@ -13,9 +13,6 @@ pub mod Long
 mod Follows
 mod Stays
 mod Parts
-mod Numbers
 mod Exactly
-mod Changed
 mod Known
-mod Answering
 mod Paid

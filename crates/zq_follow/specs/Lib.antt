@@ -1,8 +1,0 @@
-pub mod SiteSet
-pub mod Counts
-pub mod Sent
-pub mod Follow
-pub mod Tell
-pub mod Routes
-pub mod FollowLaws
-pub mod RouteLaws
