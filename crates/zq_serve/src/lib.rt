@@ -8,17 +8,14 @@ mod answerer;
 mod client_acceptor;
 mod descriptors;
 mod fault;
-mod hashing;
 mod inboxes;
 mod limits;
 mod linker;
-mod mailboxes;
 mod notifier;
-mod plans;
-mod ports;
+mod opening;
 mod running;
 mod serving;
-mod threads;
+mod site_server;
 mod ticking;
 mod warning;
 mod worker;
@@ -26,14 +23,13 @@ mod worker;
 pub use client_acceptor::ClientAcceptor;
 pub use descriptors::most_clients;
 pub use fault::ServeFault;
-pub use hashing::draw_hasher;
 pub use inboxes::Inboxes;
 pub use limits::{limits_of, warn_few};
 pub use linker::Linker;
-pub use mailboxes::most_waiting;
-pub use plans::plan_of;
-pub use ports::{PortEnds, address_of, listen, open_port};
+pub use opening::{
+    ClientThreads, SiteOptions, SiteThreads, address_of, draw_hasher, listen, most_waiting,
+    open_site,
+};
 pub use running::run_clients;
 pub use serving::serve;
-pub use threads::{ClientThreads, SiteThreads};
 pub use worker::Worker;

@@ -1,21 +1,19 @@
 //! Serving all sites.
 
-ghost use Rattle.zq_serve.specs.Plans.{ArePlanned};
+ghost use Rattle.std.specs.Arc.{arc_value};
+ghost use Rattle.std.specs.Prelude.{◌≡◌};
 
 use crate::announcing::announce;
 use crate::descriptors::most_clients;
 use crate::fault::ServeFault;
-use crate::hashing::draw_hasher;
 use crate::inboxes::Inboxes;
-use crate::limits::{limits_of, warn_few};
+use crate::limits::warn_few;
 use crate::linker::Linker;
-use crate::mailboxes::open_mailboxes;
-use crate::plans::plans_of;
-use crate::ports::{OpenPorts, open_ports};
+use crate::opening::{SiteThreads, draw_hasher, open_all, open_mailboxes};
 use crate::running::run_clients;
-use crate::threads::{SiteThreads, threads_of};
+use crate::site_server::SiteServer;
 use log::Log;
-use std::alloc::{AllocError, Global};
+use std::alloc::Global;
 use std::io::Write;
 use std::net::{Net, TcpListener, TcpStream};
 use std::random::RandomSource;
@@ -23,9 +21,9 @@ use std::sync::Wait;
 use std::thread;
 use std::thread::Threads;
 use std::time::Clock;
+use zq_dots::SiteNo;
 use zq_peers::{Mailbox, Silent, Straight};
 use zq_posheap::Seeded;
-use zq_session::{LentSite, SitePlan, SiteWork, with_sites};
 use zq_settings::Settings;
 
 /// Serves the sites of the settings in this process, each on its port on loopback: the connections
@@ -68,81 +66,22 @@ where
     W: Write,
 {
     let hasher = draw_hasher(log)?;
-    let plans = plans_of(alloc, settings)?;
-    let work = Serving {
-        log,
-        alloc,
-        settings,
-        out,
-        hasher,
-    };
-    match with_sites(alloc, &plans, hasher, work) {
-        Ok(ended) => ended,
-        Err(AllocError) => Err(ServeFault::NoMemory),
-    }
-}
-
-/// Serving the sites of settings, which are lent.
-#[derive(Drop)]
-struct Serving<'s, L, W> {
-    log: &'s L,
-    alloc: Global,
-    settings: &'s Settings,
-    out: &'s mut W,
-    hasher: Seeded,
-}
-
-impl<L, W> SiteWork for Serving<'_, L, W>
-where
-    L: Log + Net<Listener = TcpListener, Stream = TcpStream> + Clock + Threads + Wait + Sync,
-    W: Write,
-{
-    ghost use Rattle.zq_serve.specs.Plans.{ArePlansOf};
-
-    ghost is_for = { λ work plans. ArePlansOf work.settings.now plans };
-
-    type Ended = Result<(), ServeFault>;
-
-    fn run<'a>(self, _plans: &[SitePlan], sites: &mut [LentSite<'a>]) -> Result<(), ServeFault> {
-        let Serving {
-            log,
-            alloc,
-            settings,
-            out,
-            hasher,
-        } = self;
-        serve_lent(log, alloc, settings, out, hasher, sites)
-    }
-}
-
-/// Serves the sites of the settings, which these are.
-fn serve_lent<'a, L, W>(
-    log: &L,
-    alloc: Global,
-    settings: &Settings,
-    out: &mut W,
-    hasher: Seeded,
-    sites: &mut [LentSite<'a>],
-) -> Result<(), ServeFault>
-where
-    L: Log + Net<Listener = TcpListener, Stream = TcpStream> + Clock + Threads + Wait + Sync,
-    W: Write,
-    requires { ArePlanned settings.now sites.old }
-{
-    let listened = settings.ports.as_slice();
-    let most = most_clients(listened.len() as u64, settings.workers, 0);
-    let limits = limits_of(settings.connections, &settings.limits, most);
-    let open = open_ports(log, alloc, listened, settings.workers, limits)?;
+    let ports = settings.ports.as_slice();
+    let most = most_clients(ports.len() as u64, settings.workers, 0);
+    let threads = open_all(log, alloc, settings, most, hasher)?;
     let mailboxes = open_mailboxes(alloc, settings)?;
-    announce(listened, out)?;
-    for site in 0..listened.len() {
+    announce(ports, out)?;
+    for site in 0..ports.len() {
         warn_few(log, site as u64, settings.limits.clients, most);
     }
-    let OpenPorts { ports, ends } = open;
-    let ports = ports.as_slice();
-    let threads = threads_of(alloc, settings, sites, ports, ends)?;
-    let seed = settings.seed.value();
-    run_all(log, alloc, threads, &mailboxes, hasher, seed)
+    run_all(
+        log,
+        alloc,
+        threads,
+        &mailboxes,
+        hasher,
+        settings.seed.value(),
+    )
 }
 
 /// Runs each linker and each worker in a thread of its own. When all workers are done it sends Stop
@@ -150,7 +89,7 @@ where
 fn run_all<L: Log + Clock + Threads + Wait + Sync>(
     log: &L,
     alloc: Global,
-    threads: SiteThreads<'_, '_>,
+    threads: SiteThreads,
     mailboxes: &[Mailbox],
     hasher: Seeded,
     seed: u64,
@@ -182,18 +121,18 @@ fn run_all<L: Log + Clock + Threads + Wait + Sync>(
 
 /// Links a site to the others, whose mailboxes these are, until it is to stop. Site N's is at place
 /// N.
-fn link_one<R: Wait>(
-    rt: &R,
-    alloc: Global,
-    linker: Linker<'_, '_>,
-    mailboxes: &[Mailbox],
-    hasher: Seeded,
-) {
-    let Some(number) = linker.number() else {
-        return;
-    };
+fn link_one<R: Wait>(rt: &R, alloc: Global, linker: Linker, mailboxes: &[Mailbox], hasher: Seeded) {
+    let number = site_of(&linker);
     let mut carrier = Straight::new(rt, number, mailboxes);
     if let Some(inbox) = mailboxes.get(usize::from(number.value())) {
         linker.run(rt, alloc, inbox, hasher, &mut carrier, &mut Silent);
     }
+}
+
+/// The number of a linker's site.
+fn site_of(linker: &Linker) -> SiteNo
+    ensures { result ≡ (arc_value linker.now.server).number }
+{
+    let server: &SiteServer = &linker.server;
+    server.number
 }

@@ -13,6 +13,5 @@ pub mod Written
 pub mod Streams
 pub mod Refused
 pub mod PlainBooks
-pub mod MadeAndLent
 mod OfSets
 pub mod InHistory

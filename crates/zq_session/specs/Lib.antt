@@ -13,4 +13,3 @@ pub mod Refusals
 pub mod Passing
 pub mod PassFacts
 pub mod Calls
-pub mod LentSites

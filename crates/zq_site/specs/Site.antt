@@ -1,8 +1,7 @@
 -- What a site does with its settings.
 
 use Rattle.std.specs.Net.Text.{socket_text}
-use Rattle.std.specs.Prelude.{List, Some, [], codes, decimal, max, min, ℕ, ◌*◌, ◌++◌, ◌-◌, ◌^◌, ◌≡◌, ◌∷◌, length, slice_get}
-use Rattle.zq_session.specs.declared.site_plan.SitePlan.{SitePlan}
+use Rattle.std.specs.Prelude.{List, [], codes, decimal, max, min, ℕ, ◌*◌, ◌++◌, ◌-◌, ◌^◌, ◌∷◌}
 use Rattle.zq_settings.specs.declared.values.SiteSettings.{SiteSettings}
 
 -- the line that is written once the site listens
@@ -14,11 +13,3 @@ announced settings =
 -- Two threads accept for each peer that dials, and one where none does.
 abbrev pub acceptors_for : ℕ → ℕ
 acceptors_for dialers = max (min (dialers * 2) (2 ^ 64 - 1)) 1
-
--- the one plan of a site of these settings, with a server for each of so many workers
-pub record IsPlanOf (settings : SiteSettings) (workers : ℕ) (plans : List SitePlan) : Type 0 where
-  pub one : length plans ≡ 1
-  pub number : (plan : SitePlan) → slice_get plans 0 ≡ Some plan → plan.number ≡ settings.site
-  pub heaps : (plan : SitePlan) → slice_get plans 0 ≡ Some plan → plan.heaps ≡ settings.heaps
-  pub rule : (plan : SitePlan) → slice_get plans 0 ≡ Some plan → plan.rule ≡ settings.rule
-  pub servers : (plan : SitePlan) → slice_get plans 0 ≡ Some plan → plan.servers ≡ workers

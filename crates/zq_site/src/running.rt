@@ -20,7 +20,7 @@ use std::thread;
 use std::thread::Threads;
 use std::time::Clock;
 use zq_posheap::Seeded;
-use zq_serve::{Inboxes, Linker, ServeFault, SiteThreads, run_clients};
+use zq_serve::{ClientThreads, Inboxes, Linker, ServeFault, SiteThreads, run_clients};
 
 /// The hasher that a site's members and states use, and what its workers draw with.
 #[derive(Clone, Copy)]
@@ -29,18 +29,14 @@ pub struct Seeds {
     pub draws: u64,
 }
 
-/// Runs the threads of a site: its link thread, what sends frames to each peer, what dials each peer
-/// of a smaller number, what tells the peers from time to time what the site has, what accepts
-/// peers, and what serves clients. When all clients are served the site ends: the threads of its
-/// links are told to halt, and then the link thread to stop, and all are waited for.
-///
-/// `Device` where a thread did not start. Then no client is served.
+/// Runs the link thread of a site, and all its other threads. When those are done the link thread
+/// is told to stop, and is waited for.
 pub fn run_site<N, L>(
     net: &N,
     log: &L,
     shared: Shared<'_>,
     listener: &PeerListener,
-    threads: SiteThreads<'_, '_>,
+    threads: SiteThreads,
     seeds: Seeds,
 ) -> Result<(), ServeFault>
 where
@@ -56,58 +52,16 @@ where
                 ended = Err(ServeFault::Device);
             }
         }
-        for peer_link in shared.peer_links {
-            if ended.is_ok()
-                && scope
-                    .spawn(move || write_link(log, shared, peer_link))
-                    .is_err()
-            {
-                ended = Err(ServeFault::Device);
-            }
-        }
-        for peer_link in shared.peer_links {
-            if ended.is_ok()
-                && is_dialled(shared.settings, &peer_link.peer())
-                && scope
-                    .spawn(move || dial_line(net, log, shared, peer_link))
-                    .is_err()
-            {
-                ended = Err(ServeFault::Device);
-            }
-        }
-        if ended.is_ok() && scope.spawn(move || tell_peers(log, shared)).is_err() {
-            ended = Err(ServeFault::Device);
-        }
-        for _ in 0..acceptors(shared.dialers.len()) {
-            if ended.is_ok() {
-                listener.enter();
-                if scope
-                    .spawn(move || accept_peers(log, shared, listener))
-                    .is_err()
-                {
-                    listener.leave();
-                    ended = Err(ServeFault::Device);
-                }
-            }
-        }
         if ended.is_ok() {
-            let inboxes = Inboxes::One(shared.mailbox);
-            ended = run_clients(log, shared.alloc, clients, inboxes, seeds.draws);
+            ended = run_writers(net, log, shared, listener, clients, seeds.draws);
         }
-        shared.halt_all(log);
-        listener.wake(net, log, shared.settings.listen);
         shared.mailbox.stop(log);
         ended
     })
 }
 
 /// Links a site to its peers, until it is to stop.
-fn link_site<L: Log + Wait>(
-    log: &L,
-    shared: Shared<'_>,
-    linker: Linker<'_, '_>,
-    hasher: Seeded,
-) {
+fn link_site<L: Log + Wait>(log: &L, shared: Shared<'_>, linker: Linker, hasher: Seeded) {
     let peer_links = PeerLinks {
         rt: log,
         peer_links: shared.peer_links,
@@ -127,6 +81,73 @@ fn link_site<L: Log + Wait>(
     );
 }
 
+/// Runs what sends frames to each peer, and what follows, until the site ends.
+fn run_writers<N, L>(
+    net: &N,
+    log: &L,
+    shared: Shared<'_>,
+    listener: &PeerListener,
+    clients: ClientThreads,
+    seed: u64,
+) -> Result<(), ServeFault>
+where
+    N: Net<Listener = TcpListener, Stream = TcpStream> + Sync,
+    L: Log + RandomSource + Clock + Threads + Wait + Sync,
+{
+    thread::scope(thread::scope_env(), log, move |scope| {
+        let mut ended = Ok(());
+        for peer_link in shared.peer_links {
+            if scope
+                .spawn(move || write_link(log, shared, peer_link))
+                .is_err()
+            {
+                ended = Err(ServeFault::Device);
+            }
+        }
+        if ended.is_ok() {
+            ended = run_dialers(net, log, shared, listener, clients, seed);
+        }
+        shared.halt_all(log);
+        ended
+    })
+}
+
+/// Runs what dials each peer of a smaller number, what tells the peers from time to time what the
+/// site has, and what follows, until the site ends.
+fn run_dialers<N, L>(
+    net: &N,
+    log: &L,
+    shared: Shared<'_>,
+    listener: &PeerListener,
+    clients: ClientThreads,
+    seed: u64,
+) -> Result<(), ServeFault>
+where
+    N: Net<Listener = TcpListener, Stream = TcpStream> + Sync,
+    L: Log + RandomSource + Clock + Threads + Wait + Sync,
+{
+    thread::scope(thread::scope_env(), log, move |scope| {
+        let mut ended = Ok(());
+        for peer_link in shared.peer_links {
+            if is_dialled(shared.settings, &peer_link.peer())
+                && scope
+                    .spawn(move || dial_line(net, log, shared, peer_link))
+                    .is_err()
+            {
+                ended = Err(ServeFault::Device);
+            }
+        }
+        if scope.spawn(move || tell_peers(log, shared)).is_err() {
+            ended = Err(ServeFault::Device);
+        }
+        if ended.is_ok() {
+            ended = run_acceptors(net, log, shared, listener, clients, seed);
+        }
+        shared.halt_all(log);
+        ended
+    })
+}
+
 /// Has the peers told from time to time what the site has, until it ends.
 fn tell_peers<L: Wait + Clock>(rt: &L, shared: Shared<'_>) {
     for _ in rt.forever() {
@@ -135,6 +156,41 @@ fn tell_peers<L: Wait + Clock>(rt: &L, shared: Shared<'_>) {
         }
         shared.mailbox.tick(rt);
     }
+}
+
+/// Runs what accepts peers, and what serves clients, until that is done. Then the site ends.
+fn run_acceptors<N, L>(
+    net: &N,
+    log: &L,
+    shared: Shared<'_>,
+    listener: &PeerListener,
+    clients: ClientThreads,
+    seed: u64,
+) -> Result<(), ServeFault>
+where
+    N: Net<Listener = TcpListener, Stream = TcpStream> + Sync,
+    L: Log + RandomSource + Clock + Threads + Wait + Sync,
+{
+    thread::scope(thread::scope_env(), log, move |scope| {
+        let mut ended = Ok(());
+        for _ in 0..acceptors(shared.dialers.len()) {
+            listener.enter();
+            if scope
+                .spawn(move || accept_peers(log, shared, listener))
+                .is_err()
+            {
+                listener.leave();
+                ended = Err(ServeFault::Device);
+            }
+        }
+        if ended.is_ok() {
+            let inboxes = Inboxes::One(shared.mailbox);
+            ended = run_clients(log, shared.alloc, clients, inboxes, seed);
+        }
+        shared.halt_all(log);
+        listener.wake(net, log, shared.settings.listen);
+        ended
+    })
 }
 
 /// How many threads accept peers, of which so many dial: two for each, and at least one. So a peer

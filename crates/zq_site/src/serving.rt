@@ -2,7 +2,7 @@
 
 ghost use Rattle.std.specs.Net.Socket.{socket_ip, socket_port};
 ghost use Rattle.std.specs.Prelude.{◌≡◌, IfSome, None, ◌≤◌};
-ghost use Rattle.zq_serve.specs.Plans.{IsManned};
+ghost use Rattle.zq_serve.specs.Limits.{port_limits};
 
 use crate::announcing::announce;
 use crate::halt::Halt;
@@ -11,7 +11,7 @@ use crate::peer_listener::PeerListener;
 use crate::running::{Seeds, run_site};
 use crate::shared::Shared;
 use log::Log;
-use std::alloc::{AllocError, Global};
+use std::alloc::Global;
 use std::io::Write;
 use std::net::{Net, SocketAddr, TcpListener, TcpStream};
 use std::random::RandomSource;
@@ -21,10 +21,9 @@ use std::time::Clock;
 use zq_peers::Mailbox;
 use zq_posheap::Seeded;
 use zq_serve::{
-    ServeFault, SiteThreads, draw_hasher, limits_of, listen, most_clients, most_waiting, open_port,
-    plan_of, warn_few,
+    ServeFault, SiteOptions, SiteThreads, draw_hasher, limits_of, listen, most_clients,
+    most_waiting, open_site, warn_few,
 };
-use zq_session::{LentSite, SitePlan, SiteWork, with_sites};
 use zq_settings::{SiteSettings, WorkerCount};
 
 // At most so many workers are taken where the settings do not say how many.
@@ -61,103 +60,51 @@ where
     W: Write,
 {
     let hasher = draw_hasher(log)?;
+    let listener = PeerListener::new(listen(net, settings.listen)?);
     let workers = workers_of(log, settings.workers);
-    let plan = plan_of(settings.site, settings.heaps, settings.rule, workers);
-    let work = Serving {
-        net,
+    let most = most_clients(1, workers, links_of(settings));
+    let threads = open_threads(net, alloc, settings, workers, most, hasher)?;
+    let peer_links = open_peer_links(alloc, settings)?;
+    let dialers = dialers_of(alloc, settings)?;
+    let mailbox = open_mailbox(alloc, settings)?;
+    announce(settings, out)?;
+    warn_few(
         log,
+        u64::from(settings.site.value()),
+        settings.limits.clients,
+        most,
+    );
+    let halt = Halt::new();
+    let shared = Shared {
         alloc,
         settings,
-        out,
-        workers,
-        hasher,
+        peer_links: &peer_links,
+        dialers: &dialers,
+        mailbox: &mailbox,
+        halt: &halt,
     };
-    match with_sites(alloc, &[plan], hasher, work) {
-        Ok(ended) => ended,
-        Err(AllocError) => Err(ServeFault::NoMemory),
-    }
+    let seeds = Seeds {
+        hasher,
+        draws: settings.seed.value(),
+    };
+    run_site(net, log, shared, &listener, threads, seeds)
 }
 
-/// Serving the site of settings, which is lent, by so many workers.
-#[derive(Drop)]
-struct Serving<'s, N, L, W> {
-    net: &'s N,
-    log: &'s L,
+/// Listens on the port of the site's clients, and gives what works for the site.
+fn open_threads<R: Net<Listener = TcpListener, Stream = TcpStream>>(
+    net: &R,
     alloc: Global,
-    settings: &'s SiteSettings,
-    out: &'s mut W,
+    settings: &SiteSettings,
     workers: WorkerCount,
+    most: u64,
     hasher: Seeded,
-}
-
-impl<N, L, W> SiteWork for Serving<'_, N, L, W>
-where
-    N: Net<Listener = TcpListener, Stream = TcpStream> + Sync,
-    L: Log + RandomSource + Clock + Threads + Wait + Sync,
-    W: Write,
-{
-    ghost use Rattle.zq_site.specs.Site.{IsPlanOf};
-
-    ghost is_for = { λ work plans. IsPlanOf work.settings.now work.workers plans };
-
-    type Ended = Result<(), ServeFault>;
-
-    fn run<'a>(self, _plans: &[SitePlan], sites: &mut [LentSite<'a>]) -> Result<(), ServeFault> {
-        let Some(site) = sites.first_mut() else {
-            unreachable!()
-        };
-        self.serve(site)
-    }
-}
-
-impl<N, L, W> Serving<'_, N, L, W>
-where
-    N: Net<Listener = TcpListener, Stream = TcpStream> + Sync,
-    L: Log + RandomSource + Clock + Threads + Wait + Sync,
-    W: Write,
-{
-    /// Serves the site, which this is.
-    fn serve<'a>(self, site: &mut LentSite<'a>) -> Result<(), ServeFault>
-        requires { IsManned self.workers site.old }
-    {
-        let Serving {
-            net,
-            log,
-            alloc,
-            settings,
-            out,
-            workers,
-            hasher,
-        } = self;
-        let listener = PeerListener::new(listen(net, settings.listen)?);
-        let most = most_clients(1, workers, links_of(settings));
-        let limits = limits_of(settings.connections, &settings.limits, most);
-        let address = clients_address(settings);
-        let (port, ends) = open_port(net, alloc, address, workers, limits)?;
-        let peers = peers_of(alloc, settings)?;
-        let mut threads = SiteThreads::new(alloc);
-        threads.add(site, &port, ends, peers)?;
-        let peer_links = open_peer_links(alloc, settings)?;
-        let dialers = dialers_of(alloc, settings)?;
-        let mailbox = open_mailbox(alloc, settings)?;
-        announce(settings, out)?;
-        let number = u64::from(settings.site.value());
-        warn_few(log, number, settings.limits.clients, most);
-        let halt = Halt::new();
-        let shared = Shared {
-            alloc,
-            settings,
-            peer_links: &peer_links,
-            dialers: &dialers,
-            mailbox: &mailbox,
-            halt: &halt,
-        };
-        let seeds = Seeds {
-            hasher,
-            draws: settings.seed.value(),
-        };
-        run_site(net, log, shared, &listener, threads, seeds)
-    }
+) -> Result<SiteThreads, ServeFault> {
+    let plan = plan_of(settings, workers, most);
+    let address = clients_address(settings);
+    let mut threads = SiteThreads::new(alloc);
+    let peers = peers_of(alloc, settings)?;
+    open_site(net, alloc, &plan, address, peers, hasher, &mut threads)?;
+    Ok(threads)
 }
 
 /// How many connections the site's links take at most: one or an older one for each peer, another
@@ -182,6 +129,23 @@ fn workers_of<R: Threads>(rt: &R, given: Option<WorkerCount>) -> WorkerCount
     match WorkerCount::new(processors) {
         Some(workers) => workers,
         None => unreachable!(),
+    }
+}
+
+/// How the site is served, whose port may have so many clients at once.
+fn plan_of(settings: &SiteSettings, workers: WorkerCount, most: u64) -> SiteOptions
+    ensures number { result.number ≡ settings.now.site }
+    ensures heaps { result.heaps ≡ settings.now.heaps }
+    ensures rule { result.rule ≡ settings.now.rule }
+    ensures workers { result.workers ≡ workers }
+    ensures limits { result.limits ≡ port_limits settings.now.connections settings.now.limits most }
+{
+    SiteOptions {
+        number: settings.site,
+        heaps: settings.heaps,
+        rule: settings.rule,
+        workers,
+        limits: limits_of(settings.connections, &settings.limits, most),
     }
 }
 
