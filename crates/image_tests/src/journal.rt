@@ -1,6 +1,8 @@
 //! Books of three sites, by tables of steps.
 
 mod calls;
+mod drawn;
+mod handing;
 mod limits;
 
 use crate::deed::Deed;
@@ -35,9 +37,9 @@ enum Step {
     Merge(Site, Site),
     /// So many of the oldest records of a site's book are dropped.
     Cut(Site, usize),
-    /// A peer that has so many operations of site 0 is given those on these members, in this order,
-    /// or `TooOld`.
-    Given(Site, u64, Option<&'static [u8]>),
+    /// A peer that has so many operations of the sites 0, 1 and 2 is given those on these members,
+    /// in this order, or `TooOld`.
+    Given(Site, [u64; 3], Option<&'static [u8]>),
     /// A site's book has this stamp, this count and so many records.
     Shows(Site, u64, u64, usize),
     /// A member of the key q has this score at a site.
@@ -60,11 +62,55 @@ const TABLES: &[Table] = &[
         steps: &[
             Step::Scores(Site::A, b'y', Some(2)),
             Step::Make(Site::A, b'z', Deed::Put(3)),
-            Step::Given(Site::A, 1, None),
-            Step::Given(Site::A, 2, Some(b"z")),
-            Step::Given(Site::A, 3, Some(b"")),
+            Step::Given(Site::A, [1, 0, 0], None),
+            Step::Given(Site::A, [2, 0, 0], Some(b"z")),
+            Step::Given(Site::A, [3, 0, 0], Some(b"")),
             Step::Sound(Site::A),
             Step::Scores(Site::A, b'z', Some(3)),
+        ],
+    },
+    Table {
+        name: "a_peer_is_given_what_it_lacks_of_each_site",
+        steps: &[
+            Step::Given(Site::A, [2, 0, 0], Some(b"")),
+            Step::Given(Site::A, [1, 9, 9], None),
+            Step::Make(Site::B, b'x', Deed::Put(3)),
+            Step::Make(Site::A, b'z', Deed::Put(4)),
+            Step::Take(Site::A, 0, Taken::New),
+            Step::Make(Site::B, b'y', Deed::Put(5)),
+            Step::Take(Site::A, 2, Taken::New),
+            Step::Make(Site::A, b'w', Deed::Put(6)),
+            // the newest alone, none to all,
+            Step::Given(Site::A, [4, 2, 0], Some(b"")),
+            Step::Given(Site::A, [3, 2, 0], Some(b"w")),
+            Step::Given(Site::A, [3, 1, 0], Some(b"yw")),
+            Step::Given(Site::A, [3, 0, 0], Some(b"xyw")),
+            Step::Given(Site::A, [2, 0, 0], Some(b"zxyw")),
+            // those of one site,
+            Step::Given(Site::A, [2, 2, 0], Some(b"zw")),
+            Step::Given(Site::A, [4, 1, 0], Some(b"y")),
+            Step::Given(Site::A, [4, 0, 0], Some(b"xy")),
+            // where it has what the book lacks,
+            Step::Given(Site::A, [9, 9, 9], Some(b"")),
+            Step::Given(Site::A, [9, 1, 7], Some(b"y")),
+            Step::Given(Site::A, [2, 9, 0], Some(b"zw")),
+            Step::Given(Site::A, [1, 9, 9], None),
+            // after a cut,
+            Step::Cut(Site::A, 2),
+            Step::Given(Site::A, [4, 2, 0], Some(b"")),
+            Step::Given(Site::A, [3, 2, 0], Some(b"w")),
+            Step::Given(Site::A, [4, 1, 0], Some(b"y")),
+            Step::Given(Site::A, [3, 1, 0], Some(b"yw")),
+            Step::Given(Site::A, [3, 0, 9], None),
+            Step::Given(Site::A, [2, 9, 9], None),
+            // and after a merge.
+            Step::Merge(Site::A, Site::C),
+            Step::Given(Site::A, [4, 2, 0], Some(b"")),
+            Step::Given(Site::A, [3, 2, 0], None),
+            Step::Make(Site::A, b'v', Deed::Put(7)),
+            Step::Given(Site::A, [4, 2, 0], Some(b"v")),
+            Step::Given(Site::A, [5, 2, 0], Some(b"")),
+            Step::Given(Site::A, [5, 1, 0], None),
         ],
     },
     Table {
@@ -113,7 +159,7 @@ const TABLES: &[Table] = &[
             Step::Touch(Site::A, 4),
             Step::Merge(Site::A, Site::B),
             Step::Shows(Site::A, 4, 2, 0),
-            Step::Given(Site::A, 3, None),
+            Step::Given(Site::A, [3, 0, 0], None),
             Step::Scores(Site::A, b'x', None),
             Step::Scores(Site::A, b'z', Some(3)),
             Step::Sound(Site::A),
@@ -215,7 +261,9 @@ impl Sites {
     /// Whether a site shows what the step says.
     fn shows(&self, alloc: Global, step: &Step) -> bool {
         match *step {
-            Step::Given(site, first, members) => gives(self.at(site), alloc, first, members),
+            Step::Given(site, counters, members) => {
+                gives(self.at(site), alloc, counters, members)
+            }
             Step::Shows(site, stamp, count, records) => {
                 shows(self.at(site), stamp, count, records)
             }

@@ -1,8 +1,8 @@
 -- The vector of a book, counted down over its newest records, and what a vector that covers the count lacks of the older ones.
 
-use Rattle.std.proofs.Common.{List, Option, [], ap, arith, drop, get_or, get_or-set_same, inl, inr, length, length-set, map, refl, subst, suc, sym, take, true, zero, ℕ, ◌++◌, ◌<◌, ◌∙◌, ◌∷◌, ◌≡◌, ◌≤◌}
+use Rattle.std.proofs.Common.{List, Option, [], ap, arith, drop, get_or, get_or-set_same, inl, inr, length, length-set, map, refl, subst, suc, sym, take, true, zero, ℕ, ◌++◌, ◌-◌, ◌<◌, ◌∙◌, ◌∷◌, ◌≡◌, ◌≤◌}
 use Rattle.std.proofs.lemmas.Bool.{and_parts, cases_lt}
-use Rattle.std.proofs.lemmas.List.{map-append, take-append-drop}
+use Rattle.std.proofs.lemmas.List.{length-drop, map-append, take-append-drop}
 use Rattle.std.proofs.lemmas.List.Elements.{All-drop, All-head, All-tail, filter-append}
 use Rattle.std.specs.List.{All}
 use Rattle.std.specs.Prelude.{cond, filter, not, slice_index, slice_set, ◌+◌}
@@ -10,17 +10,19 @@ use Rattle.zq_dots.specs.Placed.{Placed}
 use Rattle.zq_model.proofs.Dots.{has_from}
 use Rattle.zq_model.proofs.NewRecords.{change_is_new}
 use Rattle.zq_model.proofs.Taken.{covers_at}
-use Rattle.zq_model.specs.Books.{are_steps_over, is_change_over, operation_of, steps_of}
+use Rattle.zq_model.specs.Books.{are_steps_over, is_change_over, operation_of, operations_of, steps_of}
 use Rattle.zq_model.specs.Image.{Image, image_after}
 use Rattle.zq_model.specs.Limits.{TailLimits}
 use Rattle.zq_model.specs.Operation.{Operation, has}
 use Rattle.zq_model.specs.Sets.{New, SITES, covers, taken_of}
+use Rattle.zq_model.specs.Tail.{lacking_from}
 use Rattle.zq_journal.proofs.BoundedTails.{grown}
 use Rattle.zq_journal.proofs.Lasts.{one_lower, state_vector}
 use Rattle.zq_journal.proofs.Missing.{operation_is}
+use Rattle.zq_journal.proofs.Oldest.{lacking_from-first, lacking_from-older}
 use Rattle.zq_journal.proofs.Wholes.{dropped_over, taken_over, vector_parts}
 use Rattle.zq_journal.specs.Books.{book_over}
-use Rattle.zq_journal.specs.Records.{IsRecord, IsRecordable, Record, change_of, full_of, leaf_of, leaves_of, missing_of, placed_in, records_in, records_over, vector_below, vector_over, vector_past, vector_under, whole, written_in}
+use Rattle.zq_journal.specs.Records.{AreCounted, IsRecord, IsRecordable, LacksFirst, Record, change_of, full_of, leaf_of, leaves_of, missing_of, placed_in, records_in, records_over, vector_below, vector_over, vector_past, vector_under, whole, written_in}
 use Rattle.zq_journal.specs.Standing.{IsStanding}
 use Rattle.zq_journal.specs.declared.records.Change as code_change
 use Rattle.zq_journal.specs.declared.records.Change.TheVariants as kept
@@ -74,6 +76,23 @@ counted_back h K v (r ∷ records) new =
     ap (λ w. vector_below w (whole h K last r.what)) (counted_back h K past records new.2)
     ∙ below_is h K past last v r.what
     ∙ one_lower h K v (whole h K v r.what) new.0 new.1
+
+-- and each record's counter is that of its site behind it
+counted : (h K : ℕ) (v : List ℕ) (records : List code.Record) → length v ≡ SITES → AreNewOver h K v records → AreCounted h K (vector_over h K v records) records
+counted h K v [] wide new = tt
+counted h K v (r ∷ records) wide new =
+    let o : Operation = (placed_in (whole h K v r.what)).operation in
+    let past : List ℕ = slice_set v o.site o.n in
+    let last : List ℕ = vector_over h K past records in
+    let own : get_or past o.site 0 ≡ o.n = get_or-set_same v o.site o.n 0 (omega (arith, wide, new.0.sound.site)) in
+    let here : slice_index (vector_under h K last records) o.site ≡ o.n = ap (λ w. slice_index w o.site) (counted_back h K past records new.2) ∙ own in
+    (counted_dot h K v last (vector_under h K last records) r.what here, counted h K past records (length-set v o.site o.n ∙ wide) new.2)
+  where
+    counted_dot : (h K : ℕ) (v w u : List ℕ) (what : code_change.Change) →
+        slice_index u (placed_in (whole h K v what)).operation.site ≡ (placed_in (whole h K v what)).operation.n →
+        slice_index u (placed_in (whole h K w what)).operation.site ≡ (placed_in (whole h K w what)).operation.n
+    counted_dot h K v w u (kept.Made own) is = is
+    counted_dot h K v w u (kept.Took op) is = is
 
 -- ---- what is lacked
 
@@ -160,3 +179,25 @@ module _ (s : HeapImage) (base : List ℕ) (tail : List code.Record) (limits : T
       ap (missing_of w) rest_is
       ∙ ap (λ ps. ps ++ missing_of w (drop n (records_in s base tail))) (sym (older_missing w covered))
       ∙ sym (missing-parts n w (records_in s base tail))
+
+  pub all_counted : AreCounted s.heap s.heaps last tail
+  all_counted =
+      subst (λ v. AreCounted s.heap s.heaps v tail) (sym (last_is ∙ state_vector s base tail limits handed stamp count is.book))
+      (counted s.heap s.heaps base tail is.bounded.counters.wide all_new)
+
+  -- counted down over all of them, it is the base's
+  pub base_counted : vector_under s.heap s.heaps last tail ≡ base
+  base_counted =
+      ap (λ v. vector_under s.heap s.heaps v tail) (last_is ∙ state_vector s base tail limits handed stamp count is.book)
+      ∙ counted_back s.heap s.heaps base tail all_new
+
+  -- what covers the count, and lacks the first of them, lacks the book's from there on
+  pub lacking_from-left : (w : List ℕ) → (0 < n → covers w seen ≡ true) → LacksFirst s.heap s.heaps w (drop n tail) →
+      lacking_from w (operations_of (written_in (records_in s base tail))) ≡ length tail - n
+  lacking_from-left w covered first =
+      let all : List Record = records_in s base tail in
+      ap (λ rs. lacking_from w (operations_of (written_in rs))) (sym (take-append-drop n all))
+      ∙ lacking_from-older w (take n all) (drop n all) (older_missing w covered)
+      ∙ ap (λ rs. lacking_from w (operations_of (written_in rs))) (sym (dropped_over n s.heap s.heaps base tail))
+      ∙ lacking_from-first s.heap s.heaps w before (drop n tail) first
+      ∙ length-drop n tail

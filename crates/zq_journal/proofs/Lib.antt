@@ -1,10 +1,12 @@
 pub mod Missing
+pub mod Sinces
 pub mod Entered
 pub mod BoundedTails
 pub mod CutOff
 pub mod Replays
 pub mod Wholes
 pub mod Lasts
+pub mod Oldest
 pub mod Counting
 pub mod Replaying
 pub mod Lacking
@@ -13,3 +15,4 @@ pub mod MadeHere
 pub mod Halves
 pub mod Crossing
 pub mod Weights
+pub mod Weighed

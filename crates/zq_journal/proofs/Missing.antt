@@ -1,6 +1,6 @@
 -- What of a book's records a peer lacks.
 
-use Rattle.std.proofs.Common.{List, [], map, refl, ℕ, Bool, true, false, ◌∷◌, ◌≡◌, ap}
+use Rattle.std.proofs.Common.{List, [], map, refl, ℕ, Bool, true, false, ◌∷◌, ◌≡◌, ap, arith, length, suc, ◌≤◌}
 use Rattle.std.specs.List.{All}
 use Rattle.std.specs.Prelude.{cond, not}
 use Rattle.std.proofs.lemmas.List.Elements.{All-head, All-tail}
@@ -36,3 +36,11 @@ missing_is h K v (r ∷ records) all =
     let o : Operation = operation_of (change_of r.what) in
     rw (placed_is h K r (All-head (IsRecord h K) r records all))
     (if_kept (not (has v o.site o.n)) K o (missing_of v records) (lacking v (operations_of (written_in records))) rest)
+
+-- no more are lacked than there are
+pub length-lacking : (v : List ℕ) (ops : List Operation) → length (lacking v ops) ≤ length ops
+length-lacking v [] = omega arith
+length-lacking v (o ∷ ops) = elim (not (has v o.site o.n)) as (λ b. length (cond b (o ∷ lacking v ops) (lacking v ops)) ≤ suc (length ops)) [
+  | true ↦ omega (arith, length-lacking v ops)
+  | false ↦ omega (arith, length-lacking v ops)
+]

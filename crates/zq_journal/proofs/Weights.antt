@@ -1,6 +1,6 @@
 -- The bytes of the keys and members of records.
 
-use Rattle.std.proofs.Common.{List, [], ap, arith, drop, drop-cons, get_or, length, refl, subst, suc, sym, true, false, zero, ℕ, ◌+◌, ◌<◌, ◌∙◌, ◌∷◌, ◌≡◌, ◌≤◌}
+use Rattle.std.proofs.Common.{List, [], ap, arith, drop, drop-cons, get_or, length, refl, subst, suc, sym, true, false, ℕ, ◌+◌, ◌++◌, ◌<◌, ◌∙◌, ◌∷◌, ◌≡◌, ◌≤◌}
 use Rattle.std.proofs.lemmas.Bool.Decides.{nat_tests}
 use Rattle.std.proofs.lemmas.List.Sums.{sum_by-append}
 use Rattle.std.specs.Prelude.{if◌then◌else◌, nat_le}
@@ -37,13 +37,10 @@ cut_to_bytes-written most h K v (r ∷ records) =
     ap (λ n. if nat_le n most then 0 else suc (cut_to_bytes most (written_in (records_over h K (vector_past v (whole h K v r.what)) records)))) (bytes_in-written h K v (r ∷ records))
     ∙ ap (λ n. if nat_le (bytes_kept_in (r ∷ records)) most then 0 else suc n) (cut_to_bytes-written most h K (vector_past v (whole h K v r.what)) records)
 
-pub bytes_dropped : (records : List code.Record) (i : ℕ) (r : code.Record) → i < length records → r ≡ get_or records i r →
-    bytes_kept_in (drop i records) ≡ bytes_kept r.what + bytes_kept_in (drop (i + 1) records)
-bytes_dropped records i r below is =
+pub first_of : (records : List code.Record) (i : ℕ) (r : code.Record) → i < length records → r ≡ get_or records i r → drop i records ≡ r ∷ drop (i + 1) records
+first_of records i r below is =
     let more : suc i ≡ i + 1 = omega arith in
-    let first : drop i records ≡ r ∷ drop (i + 1) records =
-    drop-cons records i r below ∙ ap (λ k. get_or records i r ∷ drop k records) more ∙ ap (λ x. x ∷ drop (i + 1) records) (sym is) in
-    ap bytes_kept_in first
+    drop-cons records i r below ∙ ap (λ k. get_or records i r ∷ drop k records) more ∙ ap (λ x. x ∷ drop (i + 1) records) (sym is)
 
 -- all of them are kept where they have few bytes
 pub none_cut : (most : ℕ) (records : List code.Record) → bytes_kept_in records ≤ most → cut_kept most records ≡ 0
@@ -52,22 +49,7 @@ none_cut most (r ∷ records) light =
     let test : nat_le (bytes_kept_in (r ∷ records)) most ≡ true = grind (arith, nat_tests) in
     ap (λ b. if b then 0 else suc (cut_kept most records)) test
 
--- else those up to the last whose bytes, with those behind it, are too many
-pub some_cut : (most n : ℕ) (records : List code.Record) → most < bytes_kept_in (drop n records) → bytes_kept_in (drop (n + 1) records) ≤ most → cut_kept most records ≡ n + 1
-some_cut most zero [] heavy light = absurd (omega arith)
-some_cut most (suc n) [] heavy light = absurd (omega arith)
-some_cut most zero (r ∷ records) heavy light =
-    let test : nat_le (bytes_kept_in (r ∷ records)) most ≡ false = grind (arith, nat_tests) in
-    ap (λ b. if b then 0 else suc (cut_kept most records)) test ∙ ap suc (none_cut most records light)
-some_cut most (suc n) (r ∷ records) heavy light =
-    let rest : bytes_kept_in (drop n records) ≤ bytes_kept_in (r ∷ records) = omega (arith, dropped_less (suc n) (r ∷ records)) in
-    let test : nat_le (bytes_kept_in (r ∷ records)) most ≡ false = grind (arith, nat_tests) in
-    let more : suc n + 1 ≡ suc (n + 1) = omega arith in
-    ap (λ b. if b then 0 else suc (cut_kept most records)) test
-    ∙ ap suc (some_cut most n records heavy (subst (λ k. bytes_kept_in (drop k (r ∷ records)) ≤ most) more light))
-    ∙ sym more
-  where
-    dropped_less : (n : ℕ) (records : List code.Record) → bytes_kept_in (drop n records) ≤ bytes_kept_in records
-    dropped_less zero records = omega arith
-    dropped_less (suc n) [] = omega arith
-    dropped_less (suc n) (r ∷ records) = omega (arith, dropped_less n records)
+-- one record more
+pub bytes_more : (records : List code.Record) (r : code.Record) → bytes_kept_in (records ++ r ∷ []) ≡ bytes_kept_in records + bytes_kept r.what
+bytes_more [] r = omega arith
+bytes_more (q ∷ records) r = omega (arith, bytes_more records r)

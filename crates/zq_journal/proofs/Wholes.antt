@@ -4,9 +4,11 @@ use Rattle.std.proofs.Common.{List, [], ap, arith, drop, drop-cons, get_or, leng
 use Rattle.zq_model.specs.Books.{operation_of, replayed}
 use Rattle.zq_journal.proofs.Missing.{operation_is}
 use Rattle.zq_journal.specs.Records.{Record, change_of, full_of, placed_in, records_over, vector_over, vector_past, vector_under, whole, written_in}
+use Rattle.zq_journal.specs.declared.records.Change as code_change
+use Rattle.zq_journal.specs.declared.records.Change.TheVariants as kept
 use Rattle.zq_journal.specs.declared.records.Record as code
+use Rattle.zq_model.specs.Operation.{Operation, has}
 use Rattle.zq_model.specs.Image.{Image, image_after}
-use Rattle.zq_model.specs.Operation.{Operation}
 
 pub length_over : (h K : ℕ) (v : List ℕ) (records : List code.Record) → length (records_over h K v records) ≡ length records
 length_over h K v [] = refl
@@ -53,6 +55,13 @@ under_at h K v seen after records i site n r below is seen_is site_is n_is set =
     ∙ ap (λ m. slice_set seen (placed_in (whole h K v r.what)).operation.site (m - 1)) n_is
     ∙ ap (λ w. slice_set w (placed_in (whole h K v r.what)).operation.site ((placed_in (whole h K v r.what)).operation.n - 1)) seen_is
     ∙ ap (vector_under h K v) (sym first)
+
+-- which vector a record comes over says nothing of its dot
+pub dot_is : (h K : ℕ) (v w u : List ℕ) (what : code_change.Change) →
+    has u (placed_in (whole h K v what)).operation.site (placed_in (whole h K v what)).operation.n
+    ≡ has u (placed_in (whole h K w what)).operation.site (placed_in (whole h K w what)).operation.n
+dot_is h K v w u (kept.Made own) = refl
+dot_is h K v w u (kept.Took op) = refl
 
 -- the vector after the records is that of the image after them
 pub vector_after : (h K : ℕ) (v : List ℕ) (records : List code.Record) (a : Image) → a.vector ≡ v →

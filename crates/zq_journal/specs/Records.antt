@@ -1,6 +1,6 @@
 -- The records of the code, as those of a book.
 
-use Rattle.std.specs.Prelude.{IfSome, List, Option, [], false, filter, if◌then◌else◌, length, map, nat_le, not, slice_set, suc, ℕ, ◌+◌, ◌-◌, ◌∷◌, ◌≡◌}
+use Rattle.std.specs.Prelude.{IfSome, List, Option, [], false, filter, if◌then◌else◌, length, map, nat_le, not, slice_index, slice_set, suc, ℕ, ◌+◌, ◌-◌, ◌∷◌, ◌≡◌}
 use Rattle.zq_dots.specs.Act.{act_of}
 use Rattle.zq_dots.specs.Placed.{IsRanged, Placed}
 use Rattle.zq_model.specs.Books as book
@@ -84,6 +84,19 @@ vector_below v change =
 abbrev pub vector_under : ℕ → ℕ → List ℕ → List kept_record.Record → List ℕ
 vector_under h K v [] = v
 vector_under h K v (r ∷ records) = vector_below (vector_under h K v records) (whole h K v r.what)
+
+-- each record's counter is that of its site behind it, where v is the vector after the records
+abbrev pub AreCounted : ℕ → ℕ → List ℕ → List kept_record.Record → Type 0
+AreCounted h K v [] = Unit {0}
+AreCounted h K v (r ∷ records) =
+    (slice_index (vector_under h K v records) (placed_in (whole h K v r.what)).operation.site
+    ≡ (placed_in (whole h K v r.what)).operation.n) × AreCounted h K v records
+
+-- the vector lacks the operation of the first record, where there is one
+abbrev pub LacksFirst : ℕ → ℕ → List ℕ → List kept_record.Record → Type 0
+LacksFirst h K v [] = Unit {0}
+LacksFirst h K v (r ∷ records) = has v (placed_in (whole h K v r.what)).operation.site
+    (placed_in (whole h K v r.what)).operation.n ≡ false
 
 -- the records of a heap
 abbrev pub records_in : HeapImage → List ℕ → List kept_record.Record → List Record

@@ -22,18 +22,21 @@ use zq_shard::Shard;
 pub const LAST_COUNT: u64 = 4_611_686_018_427_387_904;
 
 /// The journal of one heap: its state, and the records of what was new since an older state, the
-/// base, oldest first. Each record has the stamp of the call that made it, and the book counts all
-/// records that it ever made, and all merges.
+/// base, oldest first. Each record has the stamp of the call that made it, and the book counts its
+/// steps: all records that it ever made, all merges, and each time that it was told what was handed
+/// on.
 ///
 /// The base is not kept: each record has what its member had before it, so that undoing the records
 /// from the newest to the oldest gives the base's members. Its vector is kept.
-/// The records lie in a ring, so that a cut of the oldest moves none that stay.
+/// The records lie in a ring, so that a cut of the oldest moves none that stay. The bytes of all
+/// their keys and members are kept, so that a cut to so many bytes looks at none that stay.
 // Fields lie in this order: what every call reads and writes is in few lines of a cache, beside the
 // front of the shard, and the vector behind all.
 #[derive(Drop)]
 pub struct Book {
     pub(crate) stamp: u64,
     pub(crate) count: u64,
+    pub(crate) bytes: u128,
     pub(crate) tail: VecDeque<Record>,
     pub(crate) limits: TailLimits,
     pub(crate) handed: Option<u64>,
@@ -77,6 +80,7 @@ impl Book {
             tail: VecDeque::new(alloc),
             stamp,
             count,
+            bytes: 0,
             limits: TailLimits::standard(),
             handed: None,
         }
@@ -89,8 +93,8 @@ impl Book {
         self.limits = limits;
     }
 
-    /// From now on a cut takes none but the first so many of its records and merges, by its count:
-    /// those that were handed on. `None` where it may take any.
+    /// From now on a cut takes none but what the first so many of its steps left, by its count: those
+    /// that were handed on. `None` where it may take any.
     pub fn set_handed(&mut self, handed: Option<u64>)
         ensures { self.new ≡ record self.old { handed = handed } }
     {
@@ -105,7 +109,7 @@ impl Book {
         self.stamp
     }
 
-    /// How many records and merges it ever made.
+    /// How many steps it ever made: records, merges, and words of what was handed on.
     pub fn count(&self) -> u64
         ensures same { result ≡ self.now.count }
         ensures bounded { result ≤ LAST_STAMP }

@@ -1,9 +1,9 @@
 //! How a book's base moves on: by a merge to the state, by a cut over the oldest records.
-ghost use Rattle.std.specs.Prelude.{◌≡◌, ◌≢◌, ◌≤◌, ◌↔◌, ◌++◌, ◌∷◌, [], IsErrOf, IsOk, List, OnErr, OnOk, length, take, ℕ};
+ghost use Rattle.std.specs.Prelude.{◌≡◌, ◌≢◌, ◌≤◌, ◌↔◌, ◌++◌, ◌∷◌, [], IsErrOf, IsOk, List, OnErr, OnOk, drop, length, take, ℕ};
 ghost use Rattle.zq_model.specs.Books.{Book as Books, Merged, Step, advanced, merged};
 ghost use Rattle.zq_model.specs.Reach.{IsReachedBy, IsWorked, cut_of};
 ghost use Rattle.zq_journal.specs.Books.{LAST_STAMP, state_of};
-ghost use Rattle.zq_journal.specs.Records.{vector_over};
+ghost use Rattle.zq_journal.specs.Records.{bytes_kept_in, vector_over};
 ghost use Rattle.zq_shard.specs.Shard.{IsSameHeap};
 
 use crate::book::{Book, LAST_COUNT};
@@ -58,6 +58,7 @@ impl Book {
         };
         self.vector = *self.shard.vector();
         self.tail.clear();
+        self.bytes = 0;
         self.stamp = stamp;
         self.count += 1;
         Ok(())
@@ -78,6 +79,7 @@ impl Book {
         // For the proof: a book that was cut as far as a cut takes is reached.
         reaching();
         move_over(&mut self.vector, &self.tail, records);
+        lighten(&mut self.bytes, &self.tail, records);
         self.tail.drain(..records);
         Ok(())
     }
@@ -91,5 +93,16 @@ fn move_over(vector: &mut Vector, tail: &VecDeque<Record>, records: usize)
     for place in 0..records {
         let dot = tail[place].what.dot();
         vector.set(dot.site, dot.n);
+    }
+}
+
+/// Takes the bytes of the first so many of the records off those of all.
+fn lighten(bytes: &mut u128, tail: &VecDeque<Record>, records: usize)
+    requires bytes { bytes.old ≡ bytes_kept_in tail.now.items }
+    requires records { records ≤ length tail.now.items }
+    ensures { bytes.new ≡ bytes_kept_in (drop records tail.now.items) }
+{
+    for place in 0..records {
+        *bytes -= u128::from(tail[place].what.bytes());
     }
 }

@@ -6,6 +6,7 @@ mod audit;
 mod book;
 mod cutting;
 mod faults;
+mod handing;
 mod limits;
 mod names;
 mod own;
@@ -18,5 +19,6 @@ mod trimming;
 
 pub use book::{Book, LAST_COUNT};
 pub use faults::{Advanced, MergeFault, TakeFault};
+pub use handing::FirstSince;
 pub use limits::TailLimits;
 pub use since::Since;

@@ -234,6 +234,7 @@ impl Book {
             what,
             before,
         });
+        self.bytes += (key.len() + member.len()) as u128;
         self.stamp = at;
         self.count += 1;
         Ok(stood)

@@ -1,6 +1,6 @@
 //! What a book tells a peer.
 ghost use Rattle.std.specs.List.{All};
-ghost use Rattle.std.specs.Prelude.{◌≡◌, IfOk, List, drop, map, not};
+ghost use Rattle.std.specs.Prelude.{◌≡◌, IfOk, List, drop, map, not, take};
 ghost use Rattle.zq_model.specs.Books.{operations_of};
 ghost use Rattle.zq_journal.specs.Answers.{IfOps, is_too_old};
 ghost use Rattle.zq_journal.specs.Books.{IsPeer, base_of};
@@ -51,34 +51,34 @@ impl Book {
     {
         // For the proof: what the records say to a peer.
         telling();
-        if !vector.covers(&self.vector) {
-            return Ok(Since::TooOld);
-        }
-        let start = Start::of(&self.tail, self.shard.vector(), vector);
-        let (heap, heaps) = (self.shard.heap(), self.shard.heaps());
-        let ops = missing(alloc, heap, heaps, &start, &self.tail, vector)?;
-        Ok(Since::Ops(ops))
+        let first = self.first_since(alloc, vector, self.tail_len())?;
+        Ok(first.since)
     }
 }
 
-/// The operations of a heap's records that the vector lacks, of those from the start on.
-fn missing(
+/// The operations of a heap's records that the vector lacks, of those from the start on: at most so
+/// many, the oldest of them.
+pub(crate) fn missing(
     alloc: Global,
     heap: u8,
     heaps: u8,
     start: &Start,
     tail: &VecDeque<Record>,
     vector: &Vector,
+    most: usize,
 ) -> Result<Vec<Op>, AllocError>
     requires { All (IsRecord heap heaps)
         (records_over heap heaps start.now.seen (drop start.now.place tail.now.items)) }
     ensures { IfOk result
-        (λ ops. ops.items ≡ missing_of vector.now
-        (records_over heap heaps start.now.seen (drop start.now.place tail.now.items))) }
+        (λ ops. ops.items ≡ take most (missing_of vector.now
+        (records_over heap heaps start.now.seen (drop start.now.place tail.now.items)))) }
 {
     let mut ops = Vec::new(alloc);
     let mut seen = start.seen;
     for place in start.place..tail.len() {
+        if ops.len() == most {
+            return Ok(ops);
+        }
         let record = &tail[place];
         if record.what.is_new_to(vector) {
             ops.push(record.what.op(alloc, heap, heaps, &seen)?)?;

@@ -1,6 +1,6 @@
 //! Where a walk over the records that a peer lacks begins.
 ghost use Rattle.std.specs.Prelude.{◌≡◌, ◌<◌, ◌≤◌, drop, length, true, ℕ};
-ghost use Rattle.zq_journal.specs.Records.{vector_under};
+ghost use Rattle.zq_journal.specs.Records.{AreCounted, LacksFirst, vector_under};
 ghost use Rattle.zq_model.specs.Sets.{covers};
 
 use crate::records::Record;
@@ -23,6 +23,9 @@ impl Start {
         ensures seen { (h K : ℕ) →
             result.seen ≡ vector_under h K last.now (drop result.place tail.now.items) }
         ensures covered { 0 < result.place → covers vector.now result.seen ≡ true }
+        ensures lacked { (h K : ℕ) → AreCounted h K last.now tail.now.items →
+            covers vector.now (vector_under h K last.now tail.now.items) ≡ true →
+            LacksFirst h K vector.now (drop result.place tail.now.items) }
     {
         let mut seen = *last;
         if vector.covers(&seen) {

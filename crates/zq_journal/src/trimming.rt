@@ -2,7 +2,7 @@
 ghost use Rattle.std.specs.Prelude.{◌≡◌, [], length};
 ghost use Rattle.zq_model.specs.Books.{advanced};
 ghost use Rattle.zq_model.specs.Reach.{IsReachedBy, cut_by_bytes, cut_by_length, cut_of};
-ghost use Rattle.zq_journal.specs.Records.{cut_kept};
+ghost use Rattle.zq_journal.specs.Records.{bytes_kept_in, cut_kept};
 
 use crate::book::Book;
 use crate::records::Record;
@@ -65,24 +65,23 @@ impl Book {
     {
         match self.limits.bytes {
             None => 0,
-            Some(most) => cut_to_bytes(&self.tail, most),
+            Some(most) => cut_to_bytes(&self.tail, self.bytes, most),
         }
     }
 }
 
-/// How many of the oldest records go, so that the keys and members of the rest have at most so many
-/// bytes.
-fn cut_to_bytes(tail: &VecDeque<Record>, most: u64) -> usize
+/// How many of the oldest records go, of a tail of so many bytes, so that the keys and members of
+/// the rest have at most `most`. It looks at no others.
+fn cut_to_bytes(tail: &VecDeque<Record>, bytes: u128, most: u64) -> usize
+    requires { bytes ≡ bytes_kept_in tail.now.items }
     ensures { result ≡ cut_kept most tail.now.items }
 {
-    let mut left = most;
-    for newer in 0..tail.len() {
-        let place = tail.len() - 1 - newer;
-        let bytes = tail[place].what.bytes();
-        if bytes > left {
-            return place + 1;
+    let mut left = bytes;
+    for place in 0..tail.len() {
+        if left <= u128::from(most) {
+            return place;
         }
-        left -= bytes;
+        left -= u128::from(tail[place].what.bytes());
     }
-    0
+    tail.len()
 }

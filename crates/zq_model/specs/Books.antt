@@ -3,7 +3,7 @@
 
 use Rattle.std.specs.Cmp.Lexicographic.{pointwise}
 use Rattle.std.specs.List.{list_all}
-use Rattle.std.specs.Prelude.{Bool, List, Option, [], drop, int_le, length, map, nat_eq, nat_le, nat_lt, neg_ℤ, not, pos, slice_index, take, true, ℕ, ℤ, ◌&&◌, ◌++◌, ◌+◌, ◌==◌, ◌∷◌, ◌≡◌, ◌≤◌}
+use Rattle.std.specs.Prelude.{Bool, List, Option, Some, [], drop, int_le, length, map, nat_eq, nat_le, nat_lt, neg_ℤ, not, pos, slice_index, take, true, ℕ, ℤ, ◌&&◌, ◌++◌, ◌+◌, ◌==◌, ◌∷◌, ◌≡◌, ◌≤◌}
 use Rattle.zq_model.specs.Limits.{TailLimits}
 use Rattle.zq_model.specs.Heaps.{heap_of}
 use Rattle.zq_model.specs.Image.{Image, image_after, join}
@@ -30,14 +30,16 @@ pub record Book : Type 0 where
   pub stamp : ℕ
   pub count : ℕ
   pub limits : TailLimits
-  -- how many of its records and merges, by their count, were handed on and may be cut; none: all
-  -- may be
+  -- how many of its steps, by their count, were handed on, so that what they left in the tail may be
+  -- cut; none: all may be
   pub handed : Option ℕ
 
--- a step of a book's history: a record, or the merge of another image
+-- a step of a book's history: a record, the merge of another image, or the word that so many steps
+-- were handed on
 pub data Step : Type 0 where
   Recorded : (r : Record) → Step
   Merged : (stamp : ℕ) → (other : Image) → Step
+  HandedOn : (stamp handed : ℕ) → Step
 
 abbrev pub operation_of : Change → Operation
 operation_of (Made o) = o
@@ -46,6 +48,7 @@ operation_of (Took o) = o
 abbrev pub stamp_of : Step → ℕ
 stamp_of (Recorded r) = r.stamp
 stamp_of (Merged stamp other) = stamp
+stamp_of (HandedOn stamp handed) = stamp
 
 abbrev pub is_within : ℤ → Bool
 is_within x = int_le (neg_ℤ (pos MOST)) x && int_le x (pos MOST)
@@ -90,10 +93,12 @@ is_change_over K h v c =
 abbrev pub is_step_over : ℕ → ℕ → Image → Step → Bool
 is_step_over K h a (Recorded r) = is_change_over K h a.vector r.change
 is_step_over K h a (Merged stamp other) = is_wide a.vector
+is_step_over K h a (HandedOn stamp handed) = true
 
 abbrev pub image_step : Step → Image → Image
 image_step (Recorded r) a = image_after (operation_of r.change) a
 image_step (Merged stamp other) a = join a other
+image_step (HandedOn stamp handed) a = a
 
 -- the image after the steps, oldest first
 abbrev pub steps_image : List Step → Image → Image
@@ -111,11 +116,12 @@ are_rising low high [] = true
 are_rising low high (s ∷ ss) =
     nat_le low (stamp_of s) && (nat_le (stamp_of s) high && are_rising (stamp_of s) high ss)
 
--- the tail after the steps: all that follows the last merge, and the whole where there is none
+-- the tail after the steps: all records that follow the last merge, and all where there is none
 abbrev pub tail_after : List Record → List Step → List Record
 tail_after tail [] = tail
 tail_after tail (Recorded r ∷ ss) = tail_after (tail ++ r ∷ []) ss
 tail_after tail (Merged stamp other ∷ ss) = tail_after [] ss
+tail_after tail (HandedOn stamp handed ∷ ss) = tail_after tail ss
 
 -- a tail's records, as steps
 abbrev pub steps_of : List Record → List Step
@@ -158,6 +164,10 @@ merged b stamp other = record {
   limits = b.limits;
   handed = b.handed;
 }
+
+-- the book of whose steps so many were handed on, which counts as one step more
+abbrev pub handed_on : Book → ℕ → ℕ → Book
+handed_on b stamp handed = record b { stamp = stamp; count = b.count + 1; handed = Some handed }
 
 abbrev pub touched : Book → ℕ → Book
 touched b stamp = record b { stamp = stamp }

@@ -2,7 +2,7 @@
 
 use Rattle.std.specs.List.{list_all}
 use Rattle.std.specs.Prelude.{List, None, Option, Some, [], if◌then◌else◌, length, max, min, nat_le, suc, sum_by, true, ℕ, ◌++◌, ◌+◌, ◌-◌, ◌<◌, ◌==◌, ◌∷◌, ◌≡◌, ◌≤◌, ◌⊎◌}
-use Rattle.zq_model.specs.Books.{Book, Merged, Record, Recorded, Step, advanced, are_rising, are_steps_over, merged, operation_of, recorded, stamp_of, steps_image, tail_after, touched}
+use Rattle.zq_model.specs.Books.{Book, HandedOn, Merged, Record, Recorded, Step, advanced, are_rising, are_steps_over, handed_on, merged, operation_of, recorded, stamp_of, steps_image, tail_after, touched}
 use Rattle.zq_model.specs.Limits.{TailLimits}
 
 -- the bytes of a record's key and member
@@ -25,8 +25,8 @@ IsCutOff limits cut tail = (cut ≡ [])
     ⊎ ((limits.kept ≤ length tail) ⊎ IsHeavy limits.bytes (cut ++ tail))
 
 -- these steps lead from a to b: their stamps are above a's and none is above b's, each counts one,
--- and b's tail is a's with them, or what follows the last merge, of which the oldest may have been
--- cut off
+-- and b's tail is a's with their records, or what follows the last merge, of which the oldest may
+-- have been cut off
 pub record IsReachedBy (b a : Book) (steps : List Step) : Type 0 where
   pub heap : b.heap ≡ a.heap
   pub heaps : b.heaps ≡ a.heaps
@@ -59,8 +59,9 @@ abbrev pub cut_by_bytes : Option ℕ → List Record → ℕ
 cut_by_bytes None tail = 0
 cut_by_bytes (Some most) tail = cut_to_bytes most tail
 
--- how many of the oldest may go: of a tail's n, before which the book had others by its count,
--- those that were handed on
+-- how many of the oldest may go: of a tail's n, before which the book counts other steps, those that
+-- were handed on. A step that left no record counts as one before the tail, so that none goes which
+-- was not handed on
 abbrev pub cut_at_most : Option ℕ → ℕ → ℕ → ℕ
 cut_at_most None count n = n
 cut_at_most (Some handed) count n = handed - (count - n)
@@ -79,6 +80,7 @@ begun stamp a = touched (advanced (cut_of a) a) stamp
 abbrev pub after_step : Step → Book → Book
 after_step (Recorded r) b = recorded b r.stamp r.change
 after_step (Merged stamp other) b = merged b stamp other
+after_step (HandedOn stamp handed) b = handed_on b stamp handed
 
 -- the book after the steps, oldest first
 abbrev pub after_steps : List Step → Book → Book
@@ -89,13 +91,20 @@ after_steps (s ∷ ss) b = after_steps ss (after_step s b)
 abbrev pub worked : ℕ → List Step → Book → Book
 worked stamp steps a = after_steps steps (begun stamp a)
 
+-- how many steps were handed on after these
+abbrev pub handed_after : Option ℕ → List Step → Option ℕ
+handed_after before [] = before
+handed_after before (Recorded r ∷ ss) = handed_after before ss
+handed_after before (Merged stamp other ∷ ss) = handed_after before ss
+handed_after before (HandedOn stamp handed ∷ ss) = handed_after (Some handed) ss
+
 -- b is a after the own steps of one call of this stamp
 pub record IsWorked (b a : Book) (stamp : ℕ) (steps : List Step) : Type 0 where
   pub heap : b.heap ≡ a.heap
   pub heaps : b.heaps ≡ a.heaps
   pub rule : b.rule ≡ a.rule
   pub limits : b.limits ≡ a.limits
-  pub handed : b.handed ≡ a.handed
+  pub handed : b.handed ≡ handed_after a.handed steps
   pub legal : are_steps_over a.heaps a.heap a.state steps ≡ true
   pub state : b.state ≡ steps_image steps a.state
   pub own : list_all (λ s. stamp_of s == stamp) steps ≡ true

@@ -1,6 +1,6 @@
 -- A tail of operations over a set: what a peer takes of it.
 
-use Rattle.std.specs.Prelude.{List, [], filter, not, ℕ, ◌∷◌, ◌≡◌}
+use Rattle.std.specs.Prelude.{List, [], filter, if◌then◌else◌, length, not, ℕ, ◌∷◌, ◌≡◌}
 use Rattle.zq_model.specs.Image.{Image, image_after}
 use Rattle.zq_model.specs.Operation.{Operation, has}
 use Rattle.zq_model.specs.Sets.{IsNew, New, taken_of}
@@ -17,6 +17,13 @@ image_after_all (o ∷ tail) a = image_after_all tail (image_after o a)
 -- what of the tail the vector lacks
 abbrev pub lacking : List ℕ → List Operation → List Operation
 lacking v tail = filter (λ o. not (has v o.site o.n)) tail
+
+-- how many operations of the tail there are from the oldest on that the vector lacks; it may have
+-- some of them
+abbrev pub lacking_from : List ℕ → List Operation → ℕ
+lacking_from v [] = 0
+lacking_from v (o ∷ tail) =
+    if has v o.site o.n then lacking_from v tail else length (o ∷ tail)
 
 -- each operation of the tail was new where it came
 abbrev pub IsTail : ℕ → List Operation → List Operation → Type 0

@@ -81,20 +81,30 @@ pub(crate) fn cuts(book: &mut Book, records: usize) -> bool {
     records <= book.tail_len() && book.advance(records).is_ok()
 }
 
-/// What a peer is given that has the first operations of site 0, 9999 at most.
+/// The vector of so many operations of the sites 0, 1 and 2, 9999 at most of each.
 #[tactic(auto, unfolding(zq_model::specs::Sets::LAST))]
-pub(crate) fn since(book: &Book, alloc: Global, first: u64) -> Option<Since> {
-    if first > 9999 {
-        return None;
-    }
+pub(crate) fn vector_of(counters: [u64; 3]) -> Option<Vector> {
     let mut vector = Vector::new();
-    vector.set(SiteNo::new(0)?, first);
-    book.since(alloc, &vector).ok()
+    let [first, second, third] = counters;
+    for (site, counter) in [(0, first), (1, second), (2, third)] {
+        vector.set(SiteNo::new(site)?, counter.min(9999));
+    }
+    Some(vector)
+}
+
+/// What a peer is given that has so many operations of the sites 0, 1 and 2.
+pub(crate) fn since(book: &Book, alloc: Global, counters: [u64; 3]) -> Option<Since> {
+    book.since(alloc, &vector_of(counters)?).ok()
 }
 
 /// Whether such a peer is given operations on these members, in this order, or `TooOld`.
-pub(crate) fn gives(book: &Book, alloc: Global, first: u64, members: Option<&[u8]>) -> bool {
-    match (since(book, alloc, first), members) {
+pub(crate) fn gives(
+    book: &Book,
+    alloc: Global,
+    counters: [u64; 3],
+    members: Option<&[u8]>,
+) -> bool {
+    match (since(book, alloc, counters), members) {
         (Some(Since::TooOld), None) => true,
         (Some(Since::Ops(ops)), Some(members)) => are_on(&ops, members),
         _ => false,
@@ -110,9 +120,9 @@ fn are_on(ops: &[Op], members: &[u8]) -> bool {
     same
 }
 
-/// Whether such a peer is given so many operations, or `TooOld`.
+/// Whether a peer that has the first operations of site 0 is given so many, or `TooOld`.
 pub(crate) fn gives_number(book: &Book, alloc: Global, first: u64, count: Option<usize>) -> bool {
-    match (since(book, alloc, first), count) {
+    match (since(book, alloc, [first, 0, 0]), count) {
         (Some(Since::TooOld), None) => true,
         (Some(Since::Ops(ops)), Some(count)) => ops.len() == count,
         _ => false,

@@ -1,5 +1,5 @@
-use Rattle.std.proofs.Common.{List, [], ap, append_assoc, arith, drop, false, length, sym, true, ℕ, ◌+◌, ◌++◌, ◌∙◌, ◌∷◌, ◌≡◌, ◌≤◌}
-use Rattle.std.proofs.lemmas.List.{append-nil, drop_all}
+use Rattle.std.proofs.Common.{List, [], ap, append_assoc, arith, drop, false, length, subst, sym, true, ℕ, ◌+◌, ◌++◌, ◌∙◌, ◌∷◌, ◌≡◌, ◌≤◌}
+use Rattle.std.proofs.lemmas.List.{append-nil, drop_all, length-append, take_all}
 use Rattle.zq_dots.specs.Placed.{Placed}
 use Rattle.zq_journal.proofs.Lacking.{each_after, missing_after, own_at}
 use Rattle.zq_journal.specs.Records.{missing_of, records_over}
@@ -38,6 +38,14 @@ loop-place-preserved c =
                 ∙ ap (λ xs. had ++ xs) (sym (more false (sym w.if-is_new_to.false ∙ c.is_new_to.ensures h K c.loop-place.seen)))
                 ∙ c.loop-place.invariant.ops
           ];
+      few =
+          elim c.if-is_new_to.branch [
+            | then-is_new_to+in_ok-op+in_ok-push w ↦ (
+                let longer = ap length (ap (λ l. l.items) w.ops-is ∙ w.in_ok-push.ensures.items) in
+                let one = length-append had (w.in_ok-op.field-0 ∷ []) in
+                omega (arith, longer, one, c.len.ensures, c.loop-place.ops.ok.0, c.if-len-most.false, c.loop-place.invariant.few))
+            | else-is_new_to w ↦ (let same = ap (λ l. length l.items) w.ops-is in omega (arith, same, c.loop-place.invariant.few))
+          ];
       each =
           each_after h K v c.loop-place.seen c.args.tail.now.items i c.index-record.result.now (omega arith) c.index-record.ensures
           c.dot-dot.result.site c.dot-dot.result.n c.set.new.self (c.dot-dot.ensures.site h K c.loop-place.seen) (c.dot-dot.ensures.n h K c.loop-place.seen) c.set.ensures
@@ -47,7 +55,11 @@ loop-place-preserved c =
 pub returns : goal.returns
 returns c =
     let tail : List code.Record = c.args.tail.now.items in
+    let all : List Placed = missing_of c.args.vector.now (records_over c.args.heap c.args.heaps c.args.start.now.seen (drop c.args.start.now.place tail)) in
     let none : drop c.loop-place.place tail ≡ [] = drop_all c.loop-place.place tail (omega arith) in
+    let whole : c.loop-place.ops.items ≡ all =
     sym (append-nil c.loop-place.ops.items)
     ∙ ap (λ rs. c.loop-place.ops.items ++ missing_of c.args.vector.now (records_over c.args.heap c.args.heaps c.loop-place.seen rs)) (sym none)
-    ∙ c.loop-place.invariant.ops
+    ∙ c.loop-place.invariant.ops in
+    let few : length all ≤ c.args.most = subst (λ ps. length ps ≤ c.args.most) whole c.loop-place.invariant.few in
+    whole ∙ sym (take_all c.args.most all few)

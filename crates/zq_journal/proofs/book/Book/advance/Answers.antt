@@ -6,7 +6,7 @@ use Rattle.zq_journal.proofs.CutOff.{IsMoved, cut_is, cut_stands}
 use Rattle.zq_journal.proofs.Lasts.{length_tail}
 use Rattle.zq_journal.proofs.Wholes.{dropped_over, taken_over, vector_after}
 use Rattle.zq_journal.specs.BookView.{book_of, records_of}
-use Rattle.zq_journal.specs.Records.{Record, records_in, vector_over, written_in}
+use Rattle.zq_journal.specs.Records.{Record, bytes_kept_in, records_in, vector_over, written_in}
 use Rattle.zq_journal.specs.declared.records.Record as code
 use Rattle.zq_model.specs.Image.{Image}
 use Rattle.zq_shard.specs.Shard.{HeapImage}
@@ -14,6 +14,12 @@ use Rattle.zq_journal.proofs.book.Book.advance.Goals as goal
 
 pub move_over-requires : goal.move_over-requires
 move_over-requires c =
+    let long : length c.self.inside.tail.items ≡ length c.args.self.now.tail =
+    sym (length_tail c.self.inside.shard c.self.inside.vector c.self.inside.tail.items) ∙ ap (λ (b : Book). length b.tail) c.self.view_is in
+    omega (arith, long, c.requires)
+
+pub lighten-requires-clause-records : goal.lighten-requires-clause-records
+lighten-requires-clause-records c =
     let long : length c.self.inside.tail.items ≡ length c.args.self.now.tail =
     sym (length_tail c.self.inside.shard c.self.inside.vector c.self.inside.tail.items) ∙ ap (λ (b : Book). length b.tail) c.self.view_is in
     omega (arith, long, c.requires)
@@ -48,13 +54,17 @@ left_is c =
 pub invariant_of-self : goal.invariant_of-self
 invariant_of-self c =
     let left : List Record = records_in c.self.inside.shard c.move_over.new.vector c.drop-drain.new.self.0.items in
-    cut_stands c.args.records c.self.inside.shard c.self.inside.vector c.move_over.new.vector (records_of c.self.inside) left (limits_of c.self.inside.limits) c.self.inside.handed c.self.inside.stamp c.self.inside.count c.self.invariant
-    (moved_is c) (left_is c) (c.keeping.ensures.advance c.args.records (book_of c.self.inside) c.self.invariant.book)
+    record {
+      standing =
+          cut_stands c.args.records c.self.inside.shard c.self.inside.vector c.move_over.new.vector (records_of c.self.inside) left (limits_of c.self.inside.limits) c.self.inside.handed c.self.inside.stamp c.self.inside.count c.self.invariant.standing
+          (moved_is c) (left_is c) (c.keeping.ensures.advance c.args.records (book_of c.self.inside) c.self.invariant.standing.book);
+      bytes = c.lighten.ensures ∙ ap bytes_kept_in (sym (c.drop-drain.ensures.items ∙ c.drain.ensures.kept));
+    }
 
 pub returns-clause-advanced : goal.returns-clause-advanced
 returns-clause-advanced c =
     let left : List Record = records_in c.self.inside.shard c.move_over.new.vector c.drop-drain.new.self.0.items in
-    cut_is c.args.records c.self.inside.shard c.self.inside.vector c.move_over.new.vector (records_of c.self.inside) left (limits_of c.self.inside.limits) c.self.inside.handed c.self.inside.stamp c.self.inside.count c.self.invariant
+    cut_is c.args.records c.self.inside.shard c.self.inside.vector c.move_over.new.vector (records_of c.self.inside) left (limits_of c.self.inside.limits) c.self.inside.handed c.self.inside.stamp c.self.inside.count c.self.invariant.standing
     (moved_is c) (left_is c)
     ∙ ap (advanced c.args.records) c.self.view_is
 

@@ -1,4 +1,4 @@
-use Rattle.std.proofs.Common.{List, [], ap, arith, refl, subst, sym, true, ◌++◌, ◌∙◌, ◌∷◌, ◌≡◌, ◌≤◌}
+use Rattle.std.proofs.Common.{List, [], ap, arith, length, refl, subst, sym, true, ◌++◌, ◌∙◌, ◌∷◌, ◌≡◌, ◌≤◌}
 use Rattle.zq_model.proofs.NewRecords.{change_is_new}
 use Rattle.zq_model.specs.Books.{Book, is_change_over, recorded}
 use Rattle.zq_model.specs.Reach.{IsWorked}
@@ -7,9 +7,11 @@ use Rattle.zq_journal.proofs.BoundedTails.{bounded_state}
 use Rattle.zq_journal.proofs.Entered.{IsPutIn, entered_is, entered_stands, next_from, record_from}
 use Rattle.zq_journal.proofs.Lasts.{longer_is}
 use Rattle.zq_journal.proofs.Missing.{operation_is}
+use Rattle.zq_journal.proofs.Weighed.{bytes_bounded}
+use Rattle.zq_journal.proofs.Weights.{bytes_more, bytes_whole}
 use Rattle.zq_journal.specs.BookView.{book_of, records_of}
 use Rattle.zq_journal.specs.Books.{step_of}
-use Rattle.zq_journal.specs.Records.{Change, IsRecordable, Record, change_of, placed_in, records_in, whole}
+use Rattle.zq_journal.specs.Records.{Change, IsRecordable, Record, bytes_kept_in, change_of, placed_in, records_in, whole}
 use Rattle.zq_journal.specs.Standing.{IsStanding}
 use Rattle.zq_journal.specs.declared.records.Record as code
 use Rattle.zq_model.specs.Sets.{New, taken_of}
@@ -29,10 +31,20 @@ put_in-requires-clause-new c =
     subst (λ o. taken_of s.image.vector o ≡ New) (operation_is change) (change_is_new s.heaps s.heap s.image.vector (change_of change) over).1
 
 pub invariant_of-self-in_err-before : goal.invariant_of-self-in_err-before
-invariant_of-self-in_err-before c =
-    subst (λ s. IsStanding s c.self.inside.vector (records_in s c.self.inside.vector c.reserve.new.self.items) (limits_of c.self.inside.limits) c.self.inside.handed c.self.inside.stamp c.self.inside.count) (sym c.in_err-before.ensures.refused)
-    (subst (λ rs. IsStanding c.self.inside.shard c.self.inside.vector (records_in c.self.inside.shard c.self.inside.vector rs) (limits_of c.self.inside.limits) c.self.inside.handed c.self.inside.stamp c.self.inside.count)
-    (sym c.in_ok-reserve.ensures.items) c.self.invariant)
+invariant_of-self-in_err-before c = record {
+  standing =
+      subst (λ s. IsStanding s c.self.inside.vector (records_in s c.self.inside.vector c.reserve.new.self.items) (limits_of c.self.inside.limits) c.self.inside.handed c.self.inside.stamp c.self.inside.count) (sym c.in_err-before.ensures.refused)
+      (subst (λ rs. IsStanding c.self.inside.shard c.self.inside.vector (records_in c.self.inside.shard c.self.inside.vector rs) (limits_of c.self.inside.limits) c.self.inside.handed c.self.inside.stamp c.self.inside.count)
+      (sym c.in_ok-reserve.ensures.items) c.self.invariant.standing);
+  bytes = c.self.invariant.bytes ∙ ap bytes_kept_in (sym c.in_ok-reserve.ensures.items);
+}
+
+pub overflow_add-self-2 : goal.overflow_add-self-2
+overflow_add-self-2 c =
+    let key = ap length c.requires.key in
+    let member = ap length c.requires.member in
+    let most = bytes_bounded c.self.inside.shard c.self.inside.vector c.self.inside.tail.items (limits_of c.self.inside.limits) c.self.inside.handed c.self.inside.stamp c.self.inside.count c.self.invariant.standing in
+    omega (arith, key, member, most, c.self.invariant.bytes, c.requires.recordable.sound.key, c.requires.recordable.sound.member)
 
 pub invariant_of-self-2 : goal.invariant_of-self-2
 invariant_of-self-2 c =
@@ -51,19 +63,24 @@ invariant_of-self-2 c =
       rule = c.in_ok-before.ensures.rule;
       image = c.in_ok-before.ensures.image;
       had = c.in_ok-before.ensures.before;
-      bounded = bounded_state s c.self.inside.vector (records_of c.self.inside) (limits_of c.self.inside.limits) c.self.inside.handed c.self.inside.stamp c.self.inside.count c.self.invariant;
+      bounded = bounded_state s c.self.inside.vector (records_of c.self.inside) (limits_of c.self.inside.limits) c.self.inside.handed c.self.inside.stamp c.self.inside.count c.self.invariant.standing;
     } in
     let after : List Record = records_in c.put_in.new.shard c.self.inside.vector c.push_back_reserved.new.self.items in
     let pushed : code.Record = record { stamp = c.args.at; what = c.args.what; before = c.in_ok-before.before } in
     let longer : after ≡ records_of c.self.inside ++ r ∷ [] =
-    longer_is s c.put_in.new.shard c.self.inside.vector c.self.inside.tail.items c.push_back_reserved.new.self.items pushed (limits_of c.self.inside.limits) c.self.inside.handed c.self.inside.stamp c.self.inside.count c.self.invariant.book
+    longer_is s c.put_in.new.shard c.self.inside.vector c.self.inside.tail.items c.push_back_reserved.new.self.items pushed (limits_of c.self.inside.limits) c.self.inside.handed c.self.inside.stamp c.self.inside.count c.self.invariant.standing.book
     c.in_ok-before.ensures.heap c.in_ok-before.ensures.heaps (c.push_back_reserved.ensures.items ∙ ap (λ xs. xs ++ pushed ∷ []) c.in_ok-reserve.ensures.items) in
     let stamp_is : b.stamp ≡ c.args.self.now.stamp = ap (λ q. q.stamp) c.self.view_is in
     let count_is : b.count ≡ c.args.self.now.count = ap (λ q. q.count) c.self.view_is in
     let rises : b.stamp ≤ c.args.at = omega (arith, stamp_is, c.requires.stamp) in
-    entered_stands s c.put_in.new.shard c.self.inside.vector (records_of c.self.inside) after r (limits_of c.self.inside.limits) c.self.inside.handed c.self.inside.stamp c.self.inside.count (next_from s c.put_in.new.shard r (placed_in change) put) longer
-    c.self.invariant (c.keeping.ensures.recording b c.args.at (change_of change) rises over c.self.invariant.book) (record_from s c.put_in.new.shard r (placed_in change) put own) c.requires.bounded
-    (omega (arith, count_is, c.requires.count))
+    let items : c.push_back_reserved.new.self.items ≡ c.self.inside.tail.items ++ pushed ∷ [] = c.push_back_reserved.ensures.items ∙ ap (λ xs. xs ++ pushed ∷ []) c.in_ok-reserve.ensures.items in
+    record {
+      standing =
+          entered_stands s c.put_in.new.shard c.self.inside.vector (records_of c.self.inside) after r (limits_of c.self.inside.limits) c.self.inside.handed c.self.inside.stamp c.self.inside.count (next_from s c.put_in.new.shard r (placed_in change) put) longer
+          c.self.invariant.standing (c.keeping.ensures.recording b c.args.at (change_of change) rises over c.self.invariant.standing.book) (record_from s c.put_in.new.shard r (placed_in change) put own) c.requires.bounded
+          (omega (arith, count_is, c.requires.count));
+      bytes = omega (arith, c.self.invariant.bytes, ap length c.requires.key, ap length c.requires.member, bytes_whole c.args.self.now.heap c.args.self.now.heaps c.args.self.now.state.vector c.args.what, bytes_more c.self.inside.tail.items pushed, ap bytes_kept_in items);
+    }
 
 pub returns-clause-recorded : goal.returns-clause-recorded
 returns-clause-recorded c =
@@ -78,12 +95,12 @@ returns-clause-recorded c =
       rule = c.in_ok-before.ensures.rule;
       image = c.in_ok-before.ensures.image;
       had = c.in_ok-before.ensures.before;
-      bounded = bounded_state s c.self.inside.vector (records_of c.self.inside) (limits_of c.self.inside.limits) c.self.inside.handed c.self.inside.stamp c.self.inside.count c.self.invariant;
+      bounded = bounded_state s c.self.inside.vector (records_of c.self.inside) (limits_of c.self.inside.limits) c.self.inside.handed c.self.inside.stamp c.self.inside.count c.self.invariant.standing;
     } in
     let after : List Record = records_in c.put_in.new.shard c.self.inside.vector c.push_back_reserved.new.self.items in
     let pushed : code.Record = record { stamp = c.args.at; what = c.args.what; before = c.in_ok-before.before } in
     let longer : after ≡ records_of c.self.inside ++ r ∷ [] =
-    longer_is s c.put_in.new.shard c.self.inside.vector c.self.inside.tail.items c.push_back_reserved.new.self.items pushed (limits_of c.self.inside.limits) c.self.inside.handed c.self.inside.stamp c.self.inside.count c.self.invariant.book
+    longer_is s c.put_in.new.shard c.self.inside.vector c.self.inside.tail.items c.push_back_reserved.new.self.items pushed (limits_of c.self.inside.limits) c.self.inside.handed c.self.inside.stamp c.self.inside.count c.self.invariant.standing.book
     c.in_ok-before.ensures.heap c.in_ok-before.ensures.heaps (c.push_back_reserved.ensures.items ∙ ap (λ xs. xs ++ pushed ∷ []) c.in_ok-reserve.ensures.items) in
     entered_is s c.put_in.new.shard c.self.inside.vector (records_of c.self.inside) after r (limits_of c.self.inside.limits) c.self.inside.handed c.self.inside.stamp c.self.inside.count (next_from s c.put_in.new.shard r (placed_in change) put) longer
     ∙ ap (λ (q : Book). recorded q c.args.at (change_of (whole q.heap q.heaps q.state.vector c.args.what))) c.self.view_is

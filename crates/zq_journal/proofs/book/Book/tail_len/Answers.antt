@@ -12,5 +12,5 @@ returns-clause-same c =
 
 pub returns-clause-bounded : goal.returns-clause-bounded
 returns-clause-bounded c =
-    let kept : IsBook c.args.self.now = subst IsBook c.self.view_is c.self.invariant.book in
+    let kept : IsBook c.args.self.now = subst IsBook c.self.view_is c.self.invariant.standing.book in
     subst (λ n. n ≤ c.args.self.now.count) (sym (returns-clause-same c)) kept.count

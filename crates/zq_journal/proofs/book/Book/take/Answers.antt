@@ -48,7 +48,7 @@ enter-requires-clause-over c =
     let here : IsOfHeap (state_of c.args.self.now) c.args.op.now = first_of (search rules, grind arith) in
     let new : taken_of c.args.self.now.state.vector c.args.op.now.operation ≡ New = first_of (search rules, grind arith) in
     let same = c.in_ok-copy.ensures.same in
-    let bounded = bounded_state c.self.inside.shard c.self.inside.vector (records_of c.self.inside) (limits_of c.self.inside.limits) c.self.inside.handed c.self.inside.stamp c.self.inside.count c.self.invariant in
+    let bounded = bounded_state c.self.inside.shard c.self.inside.vector (records_of c.self.inside) (limits_of c.self.inside.limits) c.self.inside.handed c.self.inside.stamp c.self.inside.count c.self.invariant.standing in
     let wide : length c.args.self.now.state.vector ≡ SITES = ap (λ (q : Book). length q.state.vector) (sym c.self.view_is) ∙ bounded.counters.wide in
     took_over c.args.self.now.heaps c.args.self.now.heap c.args.self.now.state.vector c.in_ok-copy.copy.value (ap (λ (p : Placed). p.heaps) same ∙ here.heaps) (ap (λ (p : Placed). p.operation.heap) same ∙ here.heap)
     (ap (λ (p : Placed). heap_of p.operation.key p.operation.member c.args.self.now.heaps) same ∙ here.placed) wide c.in_ok-copy.ensures.sound

@@ -7,10 +7,13 @@ invariant_of-self c =
     let is : c.self.inside.stamp ≡ c.args.self.now.stamp = ap (λ b. b.stamp) c.self.view_is in
     let rises : c.self.inside.stamp ≤ c.args.stamp = omega (arith, is, c.requires.stamp) in
     record {
-      book = c.keeping.ensures.touch (book_of c.self.inside) c.args.stamp rises c.self.invariant.book;
-      kept = c.self.invariant.kept;
-      bounded = c.self.invariant.bounded;
-      each = c.self.invariant.each;
-      last_stamp = c.requires.bounded;
-      last_count = c.self.invariant.last_count;
+      standing = record {
+        book = c.keeping.ensures.touch (book_of c.self.inside) c.args.stamp rises c.self.invariant.standing.book;
+        kept = c.self.invariant.standing.kept;
+        bounded = c.self.invariant.standing.bounded;
+        each = c.self.invariant.standing.each;
+        last_stamp = c.requires.bounded;
+        last_count = c.self.invariant.standing.last_count;
+      };
+      bytes = c.self.invariant.bytes;
     }
