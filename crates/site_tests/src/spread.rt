@@ -4,6 +4,7 @@ mod asking;
 mod commands;
 mod crowd;
 mod cutting;
+mod draining;
 mod exchanging;
 mod holding;
 mod last_values;

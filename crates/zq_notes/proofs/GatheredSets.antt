@@ -5,7 +5,7 @@ use Rattle.std.proofs.lemmas.Bool.{and_parts, cases_Bool, eqb-true}
 use Rattle.std.specs.Prelude.{List, [], refl, slice_index, true, ℕ, ◌++◌, ◌&&◌, ◌==◌, ◌∷◌, ◌≡◌}
 use Rattle.zq_model.proofs.NewRecords.{change_is_new}
 use Rattle.zq_model.proofs.Works.{worked_is}
-use Rattle.zq_model.specs.Books.{Book, Merged, Recorded, Step, are_steps_over, is_change_over, operation_of, steps_image}
+use Rattle.zq_model.specs.Books.{Book, HandedOn, Merged, Recorded, Step, are_steps_over, is_change_over, operation_of, steps_image}
 use Rattle.zq_model.specs.Reach.{after_step, after_steps, begun, worked}
 use Rattle.zq_model.proofs.Dots.{counter_positive, dots_below, has_from, has_parts, last_above}
 use Rattle.zq_model.proofs.JoinImages.{join-union}
@@ -162,6 +162,11 @@ module _ (K : ℕ) (W : List Operation) (world : IsWorld K W) where
         more = λ p i. rest.more p (first.more p i);
         apart = λ p i away. first.apart p (rest.apart p i away) away;
       }
+  grown_in h (HandedOn stamp handed ∷ steps) S within closed over of = grown_in h steps S within closed over of.1
+
+  -- the tail is the same where a book is told what was handed on
+  tail_handed : (h : ℕ) (S : List Operation) (b : Book) (stamp handed : ℕ) → HasTailOf S h b → HasTailOf S h (after_step (HandedOn stamp handed) b)
+  tail_handed h S b stamp handed is = record { start = is.start; within = is.within; closed = is.closed; base = is.base; tailed = is.tailed; told = is.told; all = is.all }
 
   -- and the tail of a book with the set's image
   tail_grown : (h : ℕ) (steps : List Step) (S : List Operation) (b : Book) → ((o : Operation) → IsIn o S → IsIn o W) → IsClosed S → are_steps_over K h (image_of S h) steps ≡ true →
@@ -181,6 +186,8 @@ module _ (K : ℕ) (W : List Operation) (world : IsWorld K W) where
       let rest_over : are_steps_over K h (join (image_of S h) other) steps ≡ true = (and_parts _ _ over).1 in
       tail_grown h steps (covered_by W h other ++ S) (after_step (Merged stamp other) b) first.within first.closed (subst (λ a. are_steps_over K h a steps ≡ true) (sym first.here) rest_over) of.1
       (ap (λ a. join a other) state ∙ sym first.here) (tail_merged K W world h (covered_by W h other ++ S) b stamp other first.closed (ap (λ a. join a other) state ∙ sym first.here))
+  tail_grown h (HandedOn stamp handed ∷ steps) S b within closed over of state is =
+      tail_grown h steps S (after_step (HandedOn stamp handed) b) within closed over of.1 state (tail_handed h S b stamp handed is)
 
   -- ---- calls
 

@@ -3,11 +3,11 @@
 use Rattle.std.proofs.Common.{ap, arith, subst, sym}
 use Rattle.std.specs.Prelude.{List, [], map, refl, ℕ, ◌++◌, ◌∷◌, ◌≡◌, ◌≤◌}
 use Rattle.zq_dots.specs.Rule.{rule_of}
-use Rattle.zq_journal.specs.Books.{opened}
 use Rattle.zq_model.proofs.JoinImages.{image_of-nothing}
 use Rattle.zq_model.proofs.Same.{image_of-same}
 use Rattle.zq_model.proofs.Worlds.{world_part}
-use Rattle.zq_model.specs.Image.{empty_image, image_of}
+use Rattle.zq_model.specs.Image.{image_of}
+use Rattle.zq_model.specs.Limits.{TailLimits}
 use Rattle.zq_model.specs.Operation.{Operation}
 use Rattle.zq_model.specs.Rule.{Rule}
 use Rattle.zq_model.specs.Queue.{queue_of}
@@ -21,6 +21,7 @@ use Rattle.zq_notes.specs.Calls.{AreCallsFrom, Call, notes_of}
 use Rattle.zq_notes.specs.Gathered.{AreImagesOf, AreOfWorld, HasTailOf, gathered}
 use Rattle.zq_notes.specs.Notes.{Books, Note}
 use Rattle.zq_notes.specs.Readings.{IsReadOff}
+use Rattle.zq_notes.specs.Sites.{empty_books}
 use Rattle.zq_notes.specs.Thread.{IsNoteOver, IsOneThread, left_by, left_by_all}
 use Rattle.zq_semantics.specs.Reading.{answer_of, answer_over, heaps_in, queues_over}
 use Rattle.zq_spread.specs.Calls.{heaps_of}
@@ -28,16 +29,16 @@ use Rattle.zq_spread.specs.declared.site.Site.{Site}
 use Rattle.zq_words.specs.Command.{command_of}
 use Rattle.zq_words.specs.Words.{Word}
 
-pub opens : (rule : Rule) (K : ℕ) (W : List Operation) → AreImagesOf rule K W [] (λ h. opened (record { heap = h; heaps = K; rule = rule; image = empty_image }) 0 0)
-opens rule K W = record {
+pub opens : (limits : TailLimits) (rule : Rule) (K : ℕ) (W : List Operation) → AreImagesOf rule K W [] (empty_books limits rule K)
+opens limits rule K W = record {
   within = λ o none. absurd none;
   closed = record { before = λ o none. absurd none };
   each = λ h. record { heap = refl; heaps = refl; ruled = refl; state = sym (image_of-nothing [] h (λ o none. absurd none)); tail = none h };
 }
   where
-    none : (h : ℕ) → HasTailOf [] h (opened (record { heap = h; heaps = K; rule = rule; image = empty_image }) 0 0)
+    none : (h : ℕ) → HasTailOf [] h (empty_books limits rule K h)
     none h =
-        all_in_base [] h (opened (record { heap = h; heaps = K; rule = rule; image = empty_image }) 0 0) (record { before = λ o none. absurd none })
+        all_in_base [] h (empty_books limits rule K h) (record { before = λ o none. absurd none })
         (sym (image_of-nothing [] h (λ o none. absurd none))) refl
 
 module _ (rule : Rule) (K site : ℕ) (W : List Operation) (two : 2 ≤ K) (world : IsWorld K W) where

@@ -12,6 +12,7 @@ use Rattle.zq_model.proofs.Same.{image_of-same}
 use Rattle.zq_model.proofs.Taken.{taken_known}
 use Rattle.zq_model.proofs.Worlds.{vector_is, world_part}
 use Rattle.zq_model.specs.Image.{Image}
+use Rattle.zq_model.specs.Limits.{TailLimits}
 use Rattle.zq_model.specs.Operation.{Operation, has}
 use Rattle.zq_model.specs.Queue.{queue_of}
 use Rattle.zq_model.specs.Rule.{Rule}
@@ -34,15 +35,15 @@ members_same : (f g : Books) → ((h : ℕ) → (f h).state ≡ (g h).state) →
 members_same f g same [] = refl
 members_same f g same (h ∷ heaps) = let first = same h in let rest = members_same f g same heaps in λ i. (first i).members ∷ rest i
 
-module _ (rule : Rule) (K : ℕ) (two : 2 ≤ K) (meant : AreScoresMeant) (sites : ℕ → Site) (events : List Event) (are : AreEventsOf rule K sites events) where
+module _ (limits : ℕ → TailLimits) (rule : Rule) (K : ℕ) (two : 2 ≤ K) (meant : AreScoresMeant) (sites : ℕ → Site) (events : List Event) (are : AreEventsOf limits rule K sites events) where
   abbrev W : List Operation
   W = made_of events
 
   world : IsWorld K W
-  world = all_world rule K two meant sites events are
+  world = all_world limits rule K two meant sites events are
 
-  images : (s : ℕ) (before after : List Event) → events ≡ before ++ after → AreImagesOf rule K W (has_at W s before) (books_at rule K s before)
-  images = images_by rule K two meant sites events are
+  images : (s : ℕ) (before after : List Event) → events ≡ before ++ after → AreImagesOf rule K W (has_at W s before) (books_at limits rule K s before)
+  images = images_by limits rule K two meant sites events are
 
   -- an operation of the world that is no later than the last of its site is in a closed set
   known_in : (S : List Operation) → ((p : Operation) → IsIn p S → IsIn p W) → IsClosed S → (o : Operation) → IsIn o W → o.n ≤ last S o.heap o.site → IsIn o S
@@ -60,7 +61,7 @@ module _ (rule : Rule) (K : ℕ) (two : 2 ≤ K) (meant : AreScoresMeant) (sites
   own : (before after : List Event) → events ≡ before ++ after → (o : Operation) → IsIn o (made_of before) → IsIn o (has_at W o.site before)
   own before after is o i =
       let S : List Operation = has_at W o.site before in
-      let stands = stands_at rule K two meant sites events are before after is in
+      let stands = stands_at limits rule K two meant sites events are before after is in
       let mine : List Operation = stands.has o.site in
       let its = images o.site before after is in
       let part : IsWorld K S = world_part K S W its.within world in
@@ -79,14 +80,14 @@ module _ (rule : Rule) (K : ℕ) (two : 2 ≤ K) (meant : AreScoresMeant) (sites
 
   -- sites that have the same hold the same
   converges : (s t : ℕ) (before after past later : List Event) → events ≡ before ++ after → events ≡ past ++ later → AreSame (has_at W s before) (has_at W t past) →
-      HoldSame rule K (books_at rule K s before) (books_at rule K t past)
+      HoldSame rule K (books_at limits rule K s before) (books_at limits rule K t past)
   converges s t before after past later is was same =
       let one = images s before after is in
       let other = images t past later was in
       let part : IsWorld K (has_at W s before) = world_part K (has_at W s before) W one.within world in
-      let states : (h : ℕ) → (books_at rule K s before h).state ≡ (books_at rule K t past h).state =
+      let states : (h : ℕ) → (books_at limits rule K s before h).state ≡ (books_at limits rule K t past h).state =
       (λ h. (one.each h).state ∙ image_of-same K (has_at W s before) (has_at W t past) h same part ∙ sym (other.each h).state) in
-      record { images = states; queues = λ i key. queue_of rule key (members_same (books_at rule K s before) (books_at rule K t past) states (heaps_in K) i) }
+      record { images = states; queues = λ i key. queue_of rule key (members_same (books_at limits rule K s before) (books_at limits rule K t past) states (heaps_in K) i) }
 
   -- ---- a call
 
@@ -107,8 +108,8 @@ module _ (rule : Rule) (K : ℕ) (two : 2 ≤ K) (meant : AreScoresMeant) (sites
         IsIn op.operation (has_at W e.site (before ++ e ∷ []))
     taken op answer asked answered late i =
         let o : Operation = op.operation in
-        let off = off_as rule K two meant sites events are before e after is (ToTake op) (Handed (Ok answer)) asked answered in
-        let does = does_as rule K two meant sites events are before e after is (ToTake op) (Handed (Ok answer)) asked answered in
+        let off = off_as limits rule K two meant sites events are before e after is (ToTake op) (Handed (Ok answer)) asked answered in
+        let does = does_as limits rule K two meant sites events are before e after is (ToTake op) (Handed (Ok answer)) asked answered in
         subst (IsIn o) (sym (led o.heap (steps_when (taken_of (vector_of S o.heap) o) e.call.note.stamp o) does.0 off.1))
         (by (taken_of (vector_of S o.heap) o) o i refl (λ early. late (off.0 ∙ early)))
       where
@@ -122,16 +123,16 @@ module _ (rule : Rule) (K : ℕ) (two : 2 ≤ K) (meant : AreScoresMeant) (sites
     merged : (other : HeapImage) (done : Unit {0}) → e.call.note.asked ≡ ToMerge other → e.call.note.answer ≡ Joined (Ok done) → (o : Operation) → IsIn o W → o.heap ≡ other.heap →
         has other.image.vector o.site o.n ≡ true → IsIn o (has_at W e.site (before ++ e ∷ []))
     merged other done asked answered o i here known =
-        let off = off_as rule K two meant sites events are before e after is (ToMerge other) (Joined (Ok done)) asked answered in
-        let does = does_as rule K two meant sites events are before e after is (ToMerge other) (Joined (Ok done)) asked answered in
+        let off = off_as limits rule K two meant sites events are before e after is (ToMerge other) (Joined (Ok done)) asked answered in
+        let does = does_as limits rule K two meant sites events are before e after is (ToMerge other) (Joined (Ok done)) asked answered in
         subst (IsIn o) (sym (led other.heap (Merged e.call.note.stamp other.image ∷ []) does.0 off))
         (in_left o (covered_by W other.heap other.image) S
         (in_filter (λ p. (p.heap == other.heap) && has other.image.vector p.site p.n) W o i (rw (eq-eqb o.heap other.heap here, known) refl)))
 
-  pub linked : IsLinked rule K events
+  pub linked : IsLinked limits rule K events
   linked = record {
     world = world;
-    thread = λ s. thread_at rule K two meant sites events are s [] events refl;
+    thread = λ s. thread_at limits rule K two meant sites events are s [] events refl;
     images = images;
     within = λ s before after is o i. (images s before after is).within o i;
     converges = converges;
@@ -139,5 +140,5 @@ module _ (rule : Rule) (K : ℕ) (two : 2 ≤ K) (meant : AreScoresMeant) (sites
     taken = taken;
     merged = merged;
     stays = λ s before between after is o i. stays s before between o i;
-    answers = all_answers rule K two meant sites events are;
+    answers = all_answers limits rule K two meant sites events are;
   }

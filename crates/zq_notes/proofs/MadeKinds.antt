@@ -2,16 +2,17 @@
 
 use Rattle.std.proofs.Common.{Err, Ok, inl, inr, refl, subst, sym}
 use Rattle.std.specs.Prelude.{List, [], false, if◌then◌else◌, map, slice_index, slice_set, true, ℕ, ◌+◌, ◌==◌, ◌∷◌, ◌≡◌, ◌⊎◌}
-use Rattle.zq_model.specs.Books.{Made, Step}
+use Rattle.zq_model.specs.Books.{HandedOn, Made, Step}
 use Rattle.zq_journal.specs.Books.{step_of, steps_when}
+use Rattle.zq_journal.specs.declared.since.Since.TheVariants.{Ops, TooOld}
 use Rattle.zq_model.specs.Heaps.{heap_of}
 use Rattle.zq_model.specs.Operation.{Operation, operation_over}
 use Rattle.zq_model.specs.Rule.{Rule}
 use Rattle.zq_model.specs.Sets.{Early, Known, New, Taken, taken_of, vector_of}
 use Rattle.zq_model.specs.Moves.{Move}
 use Rattle.zq_notes.proofs.MadeWorlds.{AllMade, AllMadeIn}
-use Rattle.zq_notes.specs.Notes.{Answer, Asked, Copied, Handed, Joined, Replied, Shown, ToCopy, ToMerge, ToRun, ToShow, ToTake, ToTell, Told}
-use Rattle.zq_notes.specs.Readings.{IsAnswerOf, moved_in}
+use Rattle.zq_notes.specs.Notes.{Answer, Asked, Copied, Handed, Joined, Replied, Shown, ToCopy, ToDrain, ToMerge, ToRun, ToShow, ToTake, ToTell, Told}
+use Rattle.zq_notes.specs.Readings.{IsAnswerOf, MayHandOn, moved_in}
 use Rattle.zq_notes.specs.Sites.{made_in_all}
 
 all_moved : (K s stamp h : ℕ) (moves : List Move) (v : List ℕ) → AllMade s (moved_in K s stamp h moves v)
@@ -40,6 +41,10 @@ none_taken New stamp o = λ W. refl
 none_taken Known stamp o = λ W. refl
 none_taken Early stamp o = λ W. refl
 
+none_handed : (stamp : ℕ) (steps : List (List Step)) → MayHandOn stamp steps → MakeNone steps
+none_handed stamp steps (inl is) = none_of steps is
+none_handed stamp steps (inr told) = subst MakeNone (sym told.1) (λ W. refl)
+
 pub kinds : (rule : Rule) (K site : ℕ) (S : List Operation) (asked : Asked) (stamp : ℕ) (heaps : List ℕ) (answer : Answer) (steps : List (List Step)) → IsAnswerOf rule K site S asked stamp heaps answer steps →
     AllMadeIn site steps ⊎ MakeNone steps
 kinds rule K site S (ToRun command w1 w2) stamp heaps (Replied reply) steps is =
@@ -52,6 +57,9 @@ kinds rule K site S (ToMerge other) stamp heaps (Joined (Ok done)) steps is =
 kinds rule K site S (ToMerge other) stamp heaps (Joined (Err fault)) steps is = inr (none_of steps is.1)
 kinds rule K site S (ToTell heap vector) stamp heaps (Told (Ok since)) steps is = inr (none_of steps is.1)
 kinds rule K site S (ToTell heap vector) stamp heaps (Told (Err fault)) steps is = inr (none_of steps is.1)
+kinds rule K site S (ToDrain heap vector most) stamp heaps (Told (Ok (Ops ops))) steps is = inr (none_handed stamp steps is.1)
+kinds rule K site S (ToDrain heap vector most) stamp heaps (Told (Ok TooOld)) steps is = inr (none_of steps is)
+kinds rule K site S (ToDrain heap vector most) stamp heaps (Told (Err fault)) steps is = inr (none_of steps is.1)
 kinds rule K site S (ToCopy heap) stamp heaps (Copied (Ok copy)) steps is = inr (none_of steps is.1)
 kinds rule K site S (ToCopy heap) stamp heaps (Copied (Err fault)) steps is = inr (none_of steps is.1)
 kinds rule K site S (ToShow heap) stamp heaps (Shown vector) steps is = inr (none_of steps is.1)

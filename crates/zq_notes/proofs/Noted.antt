@@ -13,11 +13,11 @@ use Rattle.zq_journal.specs.declared.since.Since.{Since}
 use Rattle.zq_model.specs.Heaps.{heap_of}
 use Rattle.zq_notes.specs.Calls.{HasNote, HeldNone, HeldNoneIn}
 use Rattle.zq_notes.specs.Does.{AreHeapsFor, Does, IsOfHeaps, IsTold}
-use Rattle.zq_notes.specs.Notes.{Answer, Asked, Copied, Handed, Joined, Replied, Shown, ToCopy, ToMerge, ToRun, ToShow, ToTake, ToTell, Told}
+use Rattle.zq_notes.specs.Notes.{Answer, Asked, Copied, Handed, Joined, Replied, Shown, ToCopy, ToDrain, ToMerge, ToRun, ToShow, ToTake, ToTell, Told}
 use Rattle.zq_semantics.specs.Doing.{drawn}
 use Rattle.zq_shard.specs.Shard.{HeapImage}
 use Rattle.zq_shard.specs.declared.taken.Taken.{Taken}
-use Rattle.zq_spread.specs.Answers.{IsAsked, IsCopied, IsMerged, IsShown, IsSince, IsTaken, read_of}
+use Rattle.zq_spread.specs.Answers.{IsAsked, IsCopied, IsDrained, IsMerged, IsShown, IsSince, IsTaken, read_of}
 use Rattle.zq_spread.specs.Calls.{AreWorkedIn, HasSeenBook, IsCall, IsLikeSite, IsOfSite, heaps_of}
 use Rattle.zq_spread.specs.Dispatch.{DoesCommand, DoesNear, IsCalled, IsCalledIn, IsCommand, all_heaps}
 use Rattle.zq_spread.specs.declared.faults.ReadFault.{ReadFault}
@@ -73,6 +73,10 @@ module _ (site : Site) (p : ℕ) (before after : Pass) where
 
   pub shows : (heap : ℕ) (vector : List ℕ) → IsCall (IsShown vector) before after (heap ∷ []) → HasNote site p before after (ToShow heap) (Shown vector)
   shows heap vector call = noted (IsShown vector) (ToShow heap) (heap ∷ []) (Shown vector) (λ found steps is. (refl, is)) call
+
+  pub drains : (heap : ℕ) (vector : List ℕ) (most : ℕ) (result : Result Since ReadFault) → IsCall (IsDrained after.stamp vector most result) before after (heap ∷ []) →
+      HasNote site p before after (ToDrain heap vector most) (Told result)
+  drains heap vector most result call = noted (IsDrained after.stamp vector most result) (ToDrain heap vector most) (heap ∷ []) (Told result) (λ found steps is. (refl, is)) call
 
   -- ---- what a peer lacks
 

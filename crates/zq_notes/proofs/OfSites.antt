@@ -4,10 +4,11 @@ use Rattle.std.proofs.Common.{ap, arith, inl, inr, subst, suc, sym, zero, ◌∙
 use Rattle.std.proofs.lemmas.Bool.{cases_eq, eq-eqb, ne_eqb}
 use Rattle.std.proofs.lemmas.List.{append-nil, append_assoc, length-append, map-append}
 use Rattle.std.specs.Prelude.{List, [], if◌then◌else◌, false, length, map, refl, true, ℕ, ◌+◌, ◌++◌, ◌==◌, ◌∷◌, ◌≡◌, ◌≤◌, ◌⊎◌}
-use Rattle.zq_model.specs.Books.{Change, Made, Merged, Recorded, Step, Took, operation_of}
+use Rattle.zq_model.specs.Books.{Change, HandedOn, Made, Merged, Recorded, Step, Took, operation_of}
 use Rattle.zq_model.proofs.Dots.{last_above, last_below}
 use Rattle.zq_model.proofs.Worlds.{last_within, vector_is, world_part}
 use Rattle.zq_model.specs.Image.{Image}
+use Rattle.zq_model.specs.Limits.{TailLimits}
 use Rattle.zq_model.specs.Operation.{Operation}
 use Rattle.zq_model.specs.Rule.{Rule}
 use Rattle.zq_model.specs.Sets.{IsIn, IsWorld, last, vector_of}
@@ -93,50 +94,50 @@ gathered_on W [] [] S o i = i
 gathered_on W [] (n ∷ ys) S o i = gathered_on W [] ys (gathered_by W n.heaps n.steps S) o (gathered_stays_all W o n.heaps n.steps S i)
 gathered_on W (n ∷ xs) ys S o i = gathered_on W xs ys (gathered_by W n.heaps n.steps S) o i
 
-module _ (rule : Rule) (K : ℕ) where
-  books_at-append : (s : ℕ) (xs ys : List Event) → books_at rule K s (xs ++ ys) ≡ left_by_all (notes_at s ys) (books_at rule K s xs)
+module _ (limits : ℕ → TailLimits) (rule : Rule) (K : ℕ) where
+  books_at-append : (s : ℕ) (xs ys : List Event) → books_at limits rule K s (xs ++ ys) ≡ left_by_all (notes_at s ys) (books_at limits rule K s xs)
   books_at-append s xs ys =
-      ap (λ notes. left_by_all notes (empty_books rule K)) (notes_at-append s xs ys) ∙ left_by_all-append (notes_at s xs) (notes_at s ys) (empty_books rule K)
+      ap (λ notes. left_by_all notes (empty_books (limits s) rule K)) (notes_at-append s xs ys) ∙ left_by_all-append (notes_at s xs) (notes_at s ys) (empty_books (limits s) rule K)
 
-  books_here : (s : ℕ) (before : List Event) (e : Event) → e.site ≡ s → books_at rule K s (before ++ e ∷ []) ≡ left_by e.call.note (books_at rule K s before)
-  books_here s before e same = books_at-append s before (e ∷ []) ∙ ap (λ notes. left_by_all notes (books_at rule K s before)) (notes_here s e [] same)
+  books_here : (s : ℕ) (before : List Event) (e : Event) → e.site ≡ s → books_at limits rule K s (before ++ e ∷ []) ≡ left_by e.call.note (books_at limits rule K s before)
+  books_here s before e same = books_at-append s before (e ∷ []) ∙ ap (λ notes. left_by_all notes (books_at limits rule K s before)) (notes_here s e [] same)
 
-  books_apart : (s : ℕ) (before : List Event) (e : Event) → (e.site ≡ s → ⊥) → books_at rule K s (before ++ e ∷ []) ≡ books_at rule K s before
-  books_apart s before e apart = books_at-append s before (e ∷ []) ∙ ap (λ notes. left_by_all notes (books_at rule K s before)) (notes_apart s e [] apart)
+  books_apart : (s : ℕ) (before : List Event) (e : Event) → (e.site ≡ s → ⊥) → books_at limits rule K s (before ++ e ∷ []) ≡ books_at limits rule K s before
+  books_apart s before e apart = books_at-append s before (e ∷ []) ∙ ap (λ notes. left_by_all notes (books_at limits rule K s before)) (notes_apart s e [] apart)
 
   -- after these events what was made is one world; each site has a closed set of it, of which its heaps are the images, and in it what it made
   pub record IsStanding (p : List Event) : Type 0 where
     pub world : IsWorld K (made_of p)
     pub has : ℕ → List Operation
-    pub images : (s : ℕ) → AreImagesOf rule K (made_of p) (has s) (books_at rule K s p)
+    pub images : (s : ℕ) → AreImagesOf rule K (made_of p) (has s) (books_at limits rule K s p)
     pub own : (o : Operation) → IsIn o (made_of p) → IsIn o (has o.site)
 
   stands_first : IsStanding []
   stands_first = record {
     world = record { each = λ o none. absurd none; one = λ o p none. absurd none };
     has = λ s. [];
-    images = λ s. opens rule K [];
+    images = λ s. opens (limits s) rule K [];
     own = λ o none. absurd none;
   }
 
   images_wider : (W X S : List Operation) (books : Books) → ((o : Operation) → IsIn o W → IsIn o X) → AreImagesOf rule K W S books → AreImagesOf rule K X S books
   images_wider W X S books more is = record { within = λ o i. more o (is.within o i); closed = is.closed; each = is.each }
 
-  module _ (two : 2 ≤ K) (meant : AreScoresMeant) (sites : ℕ → Site) (before : List Event) (e : Event) (at : IsEventAfter rule K sites before e) where
+  module _ (two : 2 ≤ K) (meant : AreScoresMeant) (sites : ℕ → Site) (before : List Event) (e : Event) (at : IsEventAfter limits rule K sites before e) where
     abbrev note : Note
     note = e.call.note
 
     abbrev made_now : List Operation
     made_now = made_in_all note.steps (made_of before)
 
-    pub note_over : IsNoteOver rule K e.site (books_at rule K e.site before) note
+    pub note_over : IsNoteOver rule K e.site (books_at limits rule K e.site before) note
     note_over =
-        subst (λ n. IsNoteOver rule K n (books_at rule K e.site before) note) at.number
-        (subst (λ k. IsNoteOver rule k (sites e.site).number (books_at rule K e.site before) note) at.heaps
-        (subst (λ r. IsNoteOver r (heaps_of (sites e.site)) (sites e.site).number (books_at rule K e.site before) note) at.ruled (over_call (sites e.site) (books_at rule K e.site before) e.call at.call)))
+        subst (λ n. IsNoteOver rule K n (books_at limits rule K e.site before) note) at.number
+        (subst (λ k. IsNoteOver rule k (sites e.site).number (books_at limits rule K e.site before) note) at.heaps
+        (subst (λ r. IsNoteOver r (heaps_of (sites e.site)) (sites e.site).number (books_at limits rule K e.site before) note) at.ruled (over_call (sites e.site) (books_at limits rule K e.site before) e.call at.call)))
 
     once : AreOnce note.heaps
-    once = once_of rule K e.site note.stamp note.asked note.heaps note.answer (map (books_at rule K e.site before) note.heaps) note.steps two note_over.does
+    once = once_of rule K e.site note.stamp note.asked note.heaps note.answer (map (books_at limits rule K e.site before) note.heaps) note.steps two note_over.does
 
     module _ (earlier : (past later : List Event) → before ≡ past ++ later → IsStanding past) where
       -- what is recorded and merged is of every set that has all that is made by then
@@ -145,7 +146,7 @@ module _ (rule : Rule) (K : ℕ) where
         of_change (Made o) made sent = made o (inl refl)
         of_change (Took o) made sent = more o (in_more_all o note.steps (made_of before) sent)
 
-        of_each : (h : ℕ) (steps : List Step) → ((o : Operation) → IsMadeIn o steps → IsIn o X) → AreBrought rule K before h steps → AreOf X h steps
+        of_each : (h : ℕ) (steps : List Step) → ((o : Operation) → IsMadeIn o steps → IsIn o X) → AreBrought limits rule K before h steps → AreOf X h steps
         of_each h [] made brought = tt
         of_each h (Recorded r ∷ steps) made brought = (of_change r.change (λ o i. made o (inl i)) brought.0, of_each h steps (λ o i. made o (inr i)) brought.1)
         of_each h (Merged stamp other ∷ steps) made brought =
@@ -160,8 +161,9 @@ module _ (rule : Rule) (K : ℕ) where
               ),
               of_each h steps made brought.1,
             )
+        of_each h (HandedOn stamp handed ∷ steps) made brought = (tt, of_each h steps made brought.1)
 
-        of_all : (heaps : List ℕ) (steps : List (List Step)) → ((o : Operation) → IsMadeInAll o steps → IsIn o X) → AreBroughtIn rule K before heaps steps → AreOfIn X heaps steps
+        of_all : (heaps : List ℕ) (steps : List (List Step)) → ((o : Operation) → IsMadeInAll o steps → IsIn o X) → AreBroughtIn limits rule K before heaps steps → AreOfIn X heaps steps
         of_all [] steps made brought = tt
         of_all (h ∷ heaps) [] made brought = tt
         of_all (h ∷ heaps) (ss ∷ steps) made brought = (of_each h ss (λ o i. made o (inl i)) brought.0, of_all heaps steps (λ o i. made o (inr i)) brought.1)
@@ -177,9 +179,9 @@ module _ (rule : Rule) (K : ℕ) where
         part = world_part K had (made_of before) (stands.images e.site).within stands.world
 
         -- the site knows each operation that it made
-        abreast : (h : ℕ) → IsIn h note.heaps → IsAbreast K e.site (made_of before) h (books_at rule K e.site before h).state.vector
+        abreast : (h : ℕ) → IsIn h note.heaps → IsAbreast K e.site (made_of before) h (books_at limits rule K e.site before h).state.vector
         abreast h i =
-            let same : (books_at rule K e.site before h).state.vector ≡ vector_of had h = ap (λ (a : Image). a.vector) ((stands.images e.site).each h).state in
+            let same : (books_at limits rule K e.site before h).state.vector ≡ vector_of had h = ap (λ (a : Image). a.vector) ((stands.images e.site).each h).state in
             let counter = (vector_is K had h part).counter in
             subst (IsAbreast K e.site (made_of before) h) (sym same) (record {
               covered = λ t.
@@ -194,12 +196,12 @@ module _ (rule : Rule) (K : ℕ) where
 
         read : IsAnswerOf rule K e.site had note.asked note.stamp note.heaps note.answer note.steps
         read =
-            read_off meant rule K (made_of before) had (books_at rule K e.site before) part (stands.images e.site) e.site note.stamp note.asked note.heaps note.answer note.steps (omega (arith, two)) note_over.does
+            read_off meant rule K (made_of before) had (books_at limits rule K e.site before) part (stands.images e.site) e.site note.stamp note.asked note.heaps note.answer note.steps (omega (arith, two)) note_over.does
 
         made_world : IsWorld K made_now × ((o : Operation) → IsMadeInAll o note.steps → o.site ≡ e.site)
         made_world = elim (kinds rule K e.site had note.asked note.stamp note.heaps note.answer note.steps read) [
           | inl made ↦ (
-              let all = made_worlds K e.site note.stamp (books_at rule K e.site before) note.heaps note.steps (made_of before) once note_over.steps made stands.world abreast
+              let all = made_worlds K e.site note.stamp (books_at limits rule K e.site before) note.heaps note.steps (made_of before) once note_over.steps made stands.world abreast
               (λ h. ((stands.images e.site).each h).heaps) (λ h. ((stands.images e.site).each h).heap) in
               (all.world, all.site))
           | inr none ↦ (
@@ -220,17 +222,17 @@ module _ (rule : Rule) (K : ℕ) where
         in_now : (o : Operation) → IsIn o (made_of before) → IsIn o made_now
         in_now o i = in_more_all o note.steps (made_of before) i
 
-        images_now : (t : ℕ) → AreImagesOf rule K made_now (has_now t) (books_at rule K t (before ++ e ∷ []))
+        images_now : (t : ℕ) → AreImagesOf rule K made_now (has_now t) (books_at limits rule K t (before ++ e ∷ []))
         images_now t = elim (cases_eq e.site t) [
-          | inl same ↦ subst (λ x. AreImagesOf rule K made_now (has_now x) (books_at rule K x (before ++ e ∷ []))) same
+          | inl same ↦ subst (λ x. AreImagesOf rule K made_now (has_now x) (books_at limits rule K x (before ++ e ∷ []))) same
               (subst (λ books. AreImagesOf rule K made_now (has_now e.site) books) (sym (books_here e.site before e refl))
-              (subst (λ S. AreImagesOf rule K made_now S (left_by note (books_at rule K e.site before))) (sym now_here)
-              (grown_by K made_now made_world.0 rule note.stamp note.heaps note.steps had (books_at rule K e.site before) once note_over.steps (of_event made_now (λ o i. i))
-              (images_wider (made_of before) made_now had (books_at rule K e.site before) in_now (stands.images e.site)))))
+              (subst (λ S. AreImagesOf rule K made_now S (left_by note (books_at limits rule K e.site before))) (sym now_here)
+              (grown_by K made_now made_world.0 rule note.stamp note.heaps note.steps had (books_at limits rule K e.site before) once note_over.steps (of_event made_now (λ o i. i))
+              (images_wider (made_of before) made_now had (books_at limits rule K e.site before) in_now (stands.images e.site)))))
           | inr apart ↦
               subst (λ books. AreImagesOf rule K made_now (has_now t) books) (sym (books_apart t before e apart))
-              (subst (λ S. AreImagesOf rule K made_now S (books_at rule K t before)) (sym (now_apart t apart))
-              (images_wider (made_of before) made_now (stands.has t) (books_at rule K t before) in_now (stands.images t)))
+              (subst (λ S. AreImagesOf rule K made_now S (books_at limits rule K t before)) (sym (now_apart t apart))
+              (images_wider (made_of before) made_now (stands.has t) (books_at limits rule K t before) in_now (stands.images t)))
         ]
 
         stays_now : (t : ℕ) (o : Operation) → IsIn o (stands.has t) → IsIn o (has_now t)
@@ -244,7 +246,7 @@ module _ (rule : Rule) (K : ℕ) where
           | inl before_it ↦ stays_now o.site o (stands.own o before_it)
           | inr now ↦ subst (λ x. IsIn o (has_now x)) (sym (made_world.1 o now))
               (subst (IsIn o) (sym now_here)
-              (gathers_made_all made_now o note.heaps note.steps had (as_many note.stamp (books_at rule K e.site before) note.heaps note.steps note_over.steps) now))
+              (gathers_made_all made_now o note.heaps note.steps had (as_many note.stamp (books_at limits rule K e.site before) note.heaps note.steps note_over.steps) now))
         ]
 
         pub stands_next : IsStanding (before ++ e ∷ [])
@@ -253,11 +255,11 @@ module _ (rule : Rule) (K : ℕ) where
             record {
               world = subst (IsWorld K) (sym same) made_world.0;
               has = has_now;
-              images = λ t. subst (λ W. AreImagesOf rule K W (has_now t) (books_at rule K t (before ++ e ∷ []))) (sym same) (images_now t);
+              images = λ t. subst (λ W. AreImagesOf rule K W (has_now t) (books_at limits rule K t (before ++ e ∷ []))) (sym same) (images_now t);
               own = λ o i. own_now o (subst (IsIn o) same i);
             }
 
-  module _ (two : 2 ≤ K) (meant : AreScoresMeant) (sites : ℕ → Site) (events : List Event) (are : AreEventsOf rule K sites events) where
+  module _ (two : 2 ≤ K) (meant : AreScoresMeant) (sites : ℕ → Site) (events : List Event) (are : AreEventsOf limits rule K sites events) where
     -- a part of the events, and one more
     pub one_longer : (before : List Event) (e : Event) (rest : List Event) → events ≡ before ++ e ∷ rest → events ≡ (before ++ e ∷ []) ++ rest
     one_longer before e rest is = is ∙ sym (append_assoc before (e ∷ []) rest)
@@ -295,16 +297,16 @@ module _ (rule : Rule) (K : ℕ) where
     all_world = (stands_at events [] (sym (append-nil events))).world
 
     -- the notes of each site are one thread's, and of that world
-    pub thread_at : (s : ℕ) (before rest : List Event) → events ≡ before ++ rest → IsOneThread rule K s (books_at rule K s before) (notes_at s rest)
+    pub thread_at : (s : ℕ) (before rest : List Event) → events ≡ before ++ rest → IsOneThread rule K s (books_at limits rule K s before) (notes_at s rest)
     thread_at s before [] is = tt
     thread_at s before (e ∷ rest) is =
         let more = thread_at s (before ++ e ∷ []) rest (one_longer before e rest is) in
         elim (cases_eq e.site s) [
-          | inl same ↦ subst (IsOneThread rule K s (books_at rule K s before)) (sym (notes_here s e rest same)) (
-            subst (λ x. IsNoteOver rule K x (books_at rule K x before) e.call.note) same (note_over two meant sites before e (are before e rest is)),
+          | inl same ↦ subst (IsOneThread rule K s (books_at limits rule K s before)) (sym (notes_here s e rest same)) (
+            subst (λ x. IsNoteOver rule K x (books_at limits rule K x before) e.call.note) same (note_over two meant sites before e (are before e rest is)),
             subst (λ books. IsOneThread rule K s books (notes_at s rest)) (books_here s before e same) more,
           )
-          | inr apart ↦ subst (IsOneThread rule K s (books_at rule K s before)) (sym (notes_apart s e rest apart))
+          | inr apart ↦ subst (IsOneThread rule K s (books_at limits rule K s before)) (sym (notes_apart s e rest apart))
               (subst (λ books. IsOneThread rule K s books (notes_at s rest)) (books_apart s before e apart) more)
         ]
 
@@ -330,15 +332,15 @@ module _ (rule : Rule) (K : ℕ) where
         let s : ℕ = e.site in
         let split : notes_at s events ≡ notes_at s before ++ e.call.note ∷ notes_at s after =
         ap (notes_at s) is ∙ notes_at-append s before (e ∷ after) ∙ ap (λ l. notes_at s before ++ l) (notes_here s e after refl) in
-        reads rule K s (made_of events) two all_world meant [] (empty_books rule K) (notes_at s before) e.call.note (notes_at s after) (opens rule K (made_of events))
-        (subst (IsOneThread rule K s (empty_books rule K)) split (thread_at s [] events refl)) (subst (AreOfWorld (made_of events)) split (world_at s [] events refl))
+        reads rule K s (made_of events) two all_world meant [] (empty_books (limits s) rule K) (notes_at s before) e.call.note (notes_at s after) (opens (limits s) rule K (made_of events))
+        (subst (IsOneThread rule K s (empty_books (limits s) rule K)) split (thread_at s [] events refl)) (subst (AreOfWorld (made_of events)) split (world_at s [] events refl))
 
     -- after each part of the events each heap is the image of what its site has
-    pub images_by : (s : ℕ) (before after : List Event) → events ≡ before ++ after → AreImagesOf rule K (made_of events) (has_at (made_of events) s before) (books_at rule K s before)
+    pub images_by : (s : ℕ) (before after : List Event) → events ≡ before ++ after → AreImagesOf rule K (made_of events) (has_at (made_of events) s before) (books_at limits rule K s before)
     images_by s before after is =
         let split : notes_at s events ≡ notes_at s before ++ notes_at s after = ap (notes_at s) is ∙ notes_at-append s before after in
-        gathers rule K s (made_of events) two all_world [] (empty_books rule K) (notes_at s before) (opens rule K (made_of events))
-        (thread_front rule K s (empty_books rule K) (notes_at s before) (notes_at s after) (subst (IsOneThread rule K s (empty_books rule K)) split (thread_at s [] events refl)))
+        gathers rule K s (made_of events) two all_world [] (empty_books (limits s) rule K) (notes_at s before) (opens (limits s) rule K (made_of events))
+        (thread_front rule K s (empty_books (limits s) rule K) (notes_at s before) (notes_at s after) (subst (IsOneThread rule K s (empty_books (limits s) rule K)) split (thread_at s [] events refl)))
         (world_front (made_of events) (notes_at s before) (notes_at s after) (subst (AreOfWorld (made_of events)) split (world_at s [] events refl)))
 
     module _ (before : List Event) (e : Event) (after : List Event) (is : events ≡ before ++ e ∷ after) where
@@ -346,10 +348,10 @@ module _ (rule : Rule) (K : ℕ) where
       S = has_at (made_of events) e.site before
 
       pub does_as : (asked : Asked) (answer : Answer) → e.call.note.asked ≡ asked → e.call.note.answer ≡ answer →
-          Does rule K e.site e.call.note.stamp asked e.call.note.heaps answer (map (books_at rule K e.site before) e.call.note.heaps) e.call.note.steps
+          Does rule K e.site e.call.note.stamp asked e.call.note.heaps answer (map (books_at limits rule K e.site before) e.call.note.heaps) e.call.note.steps
       does_as asked answer same_asked same_answer =
           let n : Note = e.call.note in
-          let found = map (books_at rule K e.site before) n.heaps in
+          let found = map (books_at limits rule K e.site before) n.heaps in
           subst (λ a. Does rule K e.site n.stamp asked n.heaps a found n.steps) same_answer
           (subst (λ q. Does rule K e.site n.stamp q n.heaps n.answer found n.steps) same_asked (note_over two meant sites before e (are before e after is)).does)
 

@@ -8,11 +8,13 @@ use Rattle.zq_dots.specs.Placed.{Placed}
 use Rattle.zq_model.specs.Books as book
 use Rattle.zq_model.specs.Books.{Step, Took}
 use Rattle.zq_journal.specs.Books.{step_of, steps_when}
+use Rattle.zq_journal.specs.declared.since.Since.TheVariants.{Ops, TooOld}
 use Rattle.zq_model.proofs.Membership.{in_left, in_right, in_union}
 use Rattle.zq_model.proofs.OfHeaps.{in_heap_too, of_heap}
 use Rattle.zq_model.proofs.Same.{image_of-same}
 use Rattle.zq_model.proofs.Worlds.{world_part}
 use Rattle.zq_model.specs.Image.{Image, image_of}
+use Rattle.zq_model.specs.Limits.{TailLimits}
 use Rattle.zq_model.specs.Operation.{Operation}
 use Rattle.zq_model.specs.Queue.{queue_of}
 use Rattle.zq_model.specs.Rule.{Rule}
@@ -31,11 +33,11 @@ use Rattle.zq_notes.proofs.ReadOff.{AreScoresMeant, alone, queues_are, run_found
 use Rattle.zq_notes.proofs.RunMoves.{IsAt, IsMoved, all_done, apart_is, counts_with, done_all, here_is, moved, next_within, not_full, not_worn, numbers_with, operations}
 use Rattle.zq_notes.proofs.SaidCommands.{all_made, for_drawn, for_other, for_rest, is_near, not_ping, popping, popping_asks, popping_plans, popping_reads, some_there}
 use Rattle.zq_notes.specs.Does.{AreHeapsFor, Does}
-use Rattle.zq_notes.specs.Gathered.{AreImagesOf, covered_by, gathered, gathered_by}
-use Rattle.zq_notes.specs.Notes.{Answer, Asked, Books, Copied, Handed, Joined, Note, Replied, Shown, ToCopy, ToMerge, ToRun, ToShow, ToTake, ToTell, Told}
+use Rattle.zq_notes.specs.Gathered.{AreImagesOf, covered_by, gathered, gathered_by, gathered_in}
+use Rattle.zq_notes.specs.Notes.{Answer, Asked, Books, Copied, Handed, Joined, Note, Replied, Shown, ToCopy, ToDrain, ToMerge, ToRun, ToShow, ToTake, ToTell, Told}
 use Rattle.zq_notes.specs.Played.{IsAskedAs, IsNone, IsPlayed, IsPlayedAs, itself, popped}
-use Rattle.zq_notes.specs.Readings.{IsAnswerOf, IsRunOver, moved_in}
-use Rattle.zq_notes.specs.Sites.{AreBroughtIn, AreEventsOf, Event, IsBrought, books_at, has_at, made_in_all, made_of, notes_at}
+use Rattle.zq_notes.specs.Readings.{IsAnswerOf, IsRunOver, MayHandOn, moved_in}
+use Rattle.zq_notes.specs.Sites.{AreBroughtIn, AreEventsOf, Event, IsBrought, books_at, has_at, made_in, made_in_all, made_of, notes_at}
 use Rattle.zq_notes.specs.Uncut.{AreRunnable, IsInFull, IsRunnable, IsThere, IsUncut, steps_in, steps_of}
 use Rattle.zq_semantics.specs.Plan.{Plan, is_there, plan_of}
 use Rattle.zq_semantics.specs.Run.{LAST_COUNT}
@@ -84,12 +86,12 @@ pub record HasSource (count : ℕ) (r : Run) (T : List Operation) : Type 0 where
 named_so : (P : Asked → Answer → Type 0) (q asked : Asked) (a answer : Answer) → q ≡ asked → a ≡ answer → P asked answer → P q a
 named_so P q asked a answer first second x = subst (λ b. P q b) (sym second) (subst (λ c. P c answer) (sym first) x)
 
-module _ (rule : Rule) (K count : ℕ) (two : 2 ≤ K) (meant : AreScoresMeant) (sites : ℕ → Site) (events : List Event) (are : AreEventsOf rule K sites events) (runnable : AreRunnable rule K count events) where
+module _ (limits : ℕ → TailLimits) (rule : Rule) (K count : ℕ) (two : 2 ≤ K) (meant : AreScoresMeant) (sites : ℕ → Site) (events : List Event) (are : AreEventsOf limits rule K sites events) (runnable : AreRunnable limits rule K count events) where
   abbrev W : List Operation
   W = made_of events
 
   world : IsWorld K W
-  world = all_world rule K two meant sites events are
+  world = all_world limits rule K two meant sites events are
 
   two_heaps : IsHeaps K
   two_heaps = let most = runnable.most in (omega (arith, two), most)
@@ -115,16 +117,16 @@ module _ (rule : Rule) (K count : ℕ) (two : 2 ≤ K) (meant : AreScoresMeant) 
     st = r.now
 
     abbrev books : Books
-    books = books_at rule K s before
+    books = books_at limits rule K s before
 
     abbrev stamp : ℕ
     stamp = next_stamp K st s
 
-    own : IsRunnable rule K count before e
+    own : IsRunnable limits rule K count before e
     own = runnable.each before e after is
 
     images : AreImagesOf rule K W S books
-    images = images_by rule K two meant sites events are s before (e ∷ after) is
+    images = images_by limits rule K two meant sites events are s before (e ∷ after) is
 
     part : IsWorld K S
     part = world_part K S W images.within world
@@ -168,17 +170,21 @@ module _ (rule : Rule) (K count : ℕ) (two : 2 ≤ K) (meant : AreScoresMeant) 
     gathers : (h : ℕ) (ss : List Step) → n.heaps ≡ h ∷ [] → n.steps ≡ ss ∷ [] → gathered_by W n.heaps n.steps S ≡ gathered_by W (h ∷ []) (ss ∷ []) S
     gathers h ss held steps = ap (λ hs. gathered_by W hs n.steps S) held ∙ ap (λ x. gathered_by W (h ∷ []) x S) steps
 
-    still : (h : ℕ) → n.heaps ≡ h ∷ [] → n.steps ≡ [] ∷ [] → IsNext W before e st st
-    still h held none = record {
-      here = same_by (st.sets s) S _ (alike.sets s) (sym (gathers h [] held none));
+    still : (h : ℕ) (ss : List Step) → n.heaps ≡ h ∷ [] → n.steps ≡ ss ∷ [] → gathered_in W h ss S ≡ S → made_in ss (made_of before) ≡ made_of before → IsNext W before e st st
+    still h ss held steps same none = record {
+      here = same_by (st.sets s) S _ (alike.sets s) (sym (gathers h ss held steps ∙ same));
       others = λ t apart. refl;
-      made = same_by st.made (made_of before) _ alike.made (sym (ap (λ x. made_in_all x (made_of before)) none));
+      made = same_by st.made (made_of before) _ alike.made (sym (ap (λ x. made_in_all x (made_of before)) steps ∙ none));
       stamps = λ a b. let low = alike.stamps a b in omega (arith, low);
       counts = λ a b. let low = alike.counts a b in omega (arith, low);
     }
 
     reads_books : (h : ℕ) → n.heaps ≡ h ∷ [] → n.steps ≡ [] ∷ [] → IsNone n.asked → IsOne rule K count W before e r
-    reads_books h held none idle = no_event idle (after_none W before e r alike st (still h held none) refl)
+    reads_books h held none idle = no_event idle (after_none W before e r alike st (still h [] held none refl refl) refl)
+
+    hands_on : (h : ℕ) → n.heaps ≡ h ∷ [] → MayHandOn n.stamp n.steps → IsNone n.asked → IsOne rule K count W before e r
+    hands_on h held (inl none) idle = reads_books h held none idle
+    hands_on h held (inr told) idle = no_event idle (after_none W before e r alike st (still h (book.HandedOn n.stamp told.0 ∷ []) held told.1 refl refl) refl)
 
     -- ---- one more record or merge in a heap
 
@@ -201,10 +207,10 @@ module _ (rule : Rule) (K count : ℕ) (two : 2 ≤ K) (meant : AreScoresMeant) 
       o = op.operation
 
       does_take : Does rule K s n.stamp (ToTake op) n.heaps (Handed (Ok taken)) (map books n.heaps) n.steps
-      does_take = does_as rule K two meant sites events are before e after is (ToTake op) (Handed (Ok taken)) asked answered
+      does_take = does_as limits rule K two meant sites events are before e after is (ToTake op) (Handed (Ok taken)) asked answered
 
       off_take : IsAnswerOf rule K s S (ToTake op) n.stamp n.heaps (Handed (Ok taken)) n.steps
-      off_take = off_as rule K two meant sites events are before e after is (ToTake op) (Handed (Ok taken)) asked answered
+      off_take = off_as limits rule K two meant sites events are before e after is (ToTake op) (Handed (Ok taken)) asked answered
 
       sent : IsIn o (made_of before)
       sent = subst (IsThere K before) asked own.asked
@@ -227,8 +233,8 @@ module _ (rule : Rule) (K count : ℕ) (two : 2 ≤ K) (meant : AreScoresMeant) 
             forth = λ p i. elim i [ inl same ↦ inl same | inr j ↦ inr ((alike.sets s).forth p j) ];
             back = λ p i. elim i [ inl same ↦ inl same | inr j ↦ inr ((alike.sets s).back p j) ];
           }) refl)
-      next_taken sets.Known steps = still o.heap does_take.0 steps
-      next_taken sets.Early steps = still o.heap does_take.0 steps
+      next_taken sets.Known steps = still o.heap [] does_take.0 steps refl refl
+      next_taken sets.Early steps = still o.heap [] does_take.0 steps refl refl
 
       abbrev take_event : runs.Event
       take_event = Take s place.0
@@ -251,15 +257,15 @@ module _ (rule : Rule) (K count : ℕ) (two : 2 ≤ K) (meant : AreScoresMeant) 
       h = other.heap
 
       does_merge : Does rule K s n.stamp (ToMerge other) n.heaps (Joined (Ok finished)) (map books n.heaps) n.steps
-      does_merge = does_as rule K two meant sites events are before e after is (ToMerge other) (Joined (Ok finished)) asked answered
+      does_merge = does_as limits rule K two meant sites events are before e after is (ToMerge other) (Joined (Ok finished)) asked answered
 
       off_merge : IsAnswerOf rule K s S (ToMerge other) n.stamp n.heaps (Joined (Ok finished)) n.steps
-      off_merge = off_as rule K two meant sites events are before e after is (ToMerge other) (Joined (Ok finished)) asked answered
+      off_merge = off_as limits rule K two meant sites events are before e after is (ToMerge other) (Joined (Ok finished)) asked answered
 
-      brought : IsBrought rule K before h (book.Merged n.stamp other.image)
+      brought : IsBrought limits rule K before h (book.Merged n.stamp other.image)
       brought =
-          (subst (λ hs. AreBroughtIn rule K before hs ((book.Merged n.stamp other.image ∷ []) ∷ [])) does_merge.0
-          (subst (AreBroughtIn rule K before n.heaps) off_merge (are before e after is).brought)).0.0
+          (subst (λ hs. AreBroughtIn limits rule K before hs ((book.Merged n.stamp other.image ∷ []) ∷ [])) does_merge.0
+          (subst (AreBroughtIn limits rule K before n.heaps) off_merge (are before e after is).brought)).0.0
 
       abbrev past : List Event
       past = brought.1
@@ -270,8 +276,8 @@ module _ (rule : Rule) (K count : ℕ) (two : 2 ≤ K) (meant : AreScoresMeant) 
       cut : events ≡ past ++ (brought.2 ++ e ∷ after)
       cut = is ∙ ap (λ l. l ++ e ∷ after) brought.3 ∙ append_assoc past brought.2 (e ∷ after)
 
-      theirs : AreImagesOf rule K W T (books_at rule K brought.0 past)
-      theirs = images_by rule K two meant sites events are brought.0 past (brought.2 ++ e ∷ after) cut
+      theirs : AreImagesOf rule K W T (books_at limits rule K brought.0 past)
+      theirs = images_by limits rule K two meant sites events are brought.0 past (brought.2 ++ e ∷ after) cut
 
       image_was : other.image ≡ image_of T h
       image_was = brought.4 ∙ (theirs.each h).state
@@ -343,7 +349,7 @@ module _ (rule : Rule) (K count : ℕ) (two : 2 ≤ K) (meant : AreScoresMeant) 
 
     module _ (command : Command) (w1 w2 : ℕ) (reply : Word) (asked : n.asked ≡ ToRun command w1 w2) (answered : n.answer ≡ Replied reply) where
       does_run : Does rule K s n.stamp (ToRun command w1 w2) n.heaps (Replied reply) (map books n.heaps) n.steps
-      does_run = does_as rule K two meant sites events are before e after is (ToRun command w1 w2) (Replied reply) asked answered
+      does_run = does_as limits rule K two meant sites events are before e after is (ToRun command w1 w2) (Replied reply) asked answered
 
       asks : (words : List Word) × IsRequest words × (command_of words ≡ Ok command)
       asks = subst (IsThere K before) asked own.asked
@@ -397,7 +403,7 @@ module _ (rule : Rule) (K count : ℕ) (two : 2 ≤ K) (meant : AreScoresMeant) 
       made_new p i = from_all_steps K s n.stamp n.heaps plan.moves V p (subst (IsMadeInAll p) steps_are i)
 
       new_inside : (p : Operation) → IsIn p new → IsIn p W
-      new_inside p i = made_by_then rule K two meant sites events are before e after is p (made_there_all p n.steps (made_of before) (new_made p i))
+      new_inside p i = made_by_then limits rule K two meant sites events are before e after is p (made_there_all p n.steps (made_of before) (new_made p i))
 
       at : IsAt K s W world two_heaps V st
       at = record { within = inside; closed = closed; vectors = vector_is }
@@ -415,7 +421,7 @@ module _ (rule : Rule) (K count : ℕ) (two : 2 ≤ K) (meant : AreScoresMeant) 
       next_run =
           let its = moves_made.1 in
           let as_many_moves = full.moves in
-          let many = as_many n.stamp books n.heaps n.steps (note_over rule K two meant sites before e (are before e after is)).steps in
+          let many = as_many n.stamp books n.heaps n.steps (note_over limits rule K two meant sites before e (are before e after is)).steps in
           record {
             here = record {
               forth = λ p i. elim (its.has_from p i) [
@@ -547,19 +553,28 @@ module _ (rule : Rule) (K count : ℕ) (two : 2 ≤ K) (meant : AreScoresMeant) 
         by (ToMerge other) (Joined (Err fault)) asked answered =
             absurd (subst (λ a. IsUncut rule (ToMerge other) a (map books n.heaps) n.steps) answered (subst (λ q. IsUncut rule q n.answer (map books n.heaps) n.steps) asked own.uncut))
         by (ToTell heap vector) (Told (Ok since)) asked answered =
-            reads_books heap (does_as rule K two meant sites events are before e after is (ToTell heap vector) (Told (Ok since)) asked answered).0
-            (off_as rule K two meant sites events are before e after is (ToTell heap vector) (Told (Ok since)) asked answered).1 (subst IsNone (sym asked) tt)
+            reads_books heap (does_as limits rule K two meant sites events are before e after is (ToTell heap vector) (Told (Ok since)) asked answered).0
+            (off_as limits rule K two meant sites events are before e after is (ToTell heap vector) (Told (Ok since)) asked answered).1 (subst IsNone (sym asked) tt)
         by (ToTell heap vector) (Told (Err fault)) asked answered =
-            reads_books heap (does_as rule K two meant sites events are before e after is (ToTell heap vector) (Told (Err fault)) asked answered).0
-            (off_as rule K two meant sites events are before e after is (ToTell heap vector) (Told (Err fault)) asked answered).1 (subst IsNone (sym asked) tt)
+            reads_books heap (does_as limits rule K two meant sites events are before e after is (ToTell heap vector) (Told (Err fault)) asked answered).0
+            (off_as limits rule K two meant sites events are before e after is (ToTell heap vector) (Told (Err fault)) asked answered).1 (subst IsNone (sym asked) tt)
+        by (ToDrain heap vector most) (Told (Ok (Ops ops))) asked answered =
+            hands_on heap (does_as limits rule K two meant sites events are before e after is (ToDrain heap vector most) (Told (Ok (Ops ops))) asked answered).0
+            (off_as limits rule K two meant sites events are before e after is (ToDrain heap vector most) (Told (Ok (Ops ops))) asked answered).1 (subst IsNone (sym asked) tt)
+        by (ToDrain heap vector most) (Told (Ok TooOld)) asked answered =
+            reads_books heap (does_as limits rule K two meant sites events are before e after is (ToDrain heap vector most) (Told (Ok TooOld)) asked answered).0
+            (off_as limits rule K two meant sites events are before e after is (ToDrain heap vector most) (Told (Ok TooOld)) asked answered) (subst IsNone (sym asked) tt)
+        by (ToDrain heap vector most) (Told (Err fault)) asked answered =
+            reads_books heap (does_as limits rule K two meant sites events are before e after is (ToDrain heap vector most) (Told (Err fault)) asked answered).0
+            (off_as limits rule K two meant sites events are before e after is (ToDrain heap vector most) (Told (Err fault)) asked answered).1 (subst IsNone (sym asked) tt)
         by (ToCopy heap) (Copied (Ok copy)) asked answered =
-            reads_books heap (does_as rule K two meant sites events are before e after is (ToCopy heap) (Copied (Ok copy)) asked answered).0
-            (off_as rule K two meant sites events are before e after is (ToCopy heap) (Copied (Ok copy)) asked answered).1 (subst IsNone (sym asked) tt)
+            reads_books heap (does_as limits rule K two meant sites events are before e after is (ToCopy heap) (Copied (Ok copy)) asked answered).0
+            (off_as limits rule K two meant sites events are before e after is (ToCopy heap) (Copied (Ok copy)) asked answered).1 (subst IsNone (sym asked) tt)
         by (ToCopy heap) (Copied (Err fault)) asked answered =
-            reads_books heap (does_as rule K two meant sites events are before e after is (ToCopy heap) (Copied (Err fault)) asked answered).0
-            (off_as rule K two meant sites events are before e after is (ToCopy heap) (Copied (Err fault)) asked answered).1 (subst IsNone (sym asked) tt)
+            reads_books heap (does_as limits rule K two meant sites events are before e after is (ToCopy heap) (Copied (Err fault)) asked answered).0
+            (off_as limits rule K two meant sites events are before e after is (ToCopy heap) (Copied (Err fault)) asked answered).1 (subst IsNone (sym asked) tt)
         by (ToShow heap) (Shown vector) asked answered =
-            reads_books heap (does_as rule K two meant sites events are before e after is (ToShow heap) (Shown vector) asked answered).0
-            (off_as rule K two meant sites events are before e after is (ToShow heap) (Shown vector) asked answered).1 (subst IsNone (sym asked) tt)
+            reads_books heap (does_as limits rule K two meant sites events are before e after is (ToShow heap) (Shown vector) asked answered).0
+            (off_as limits rule K two meant sites events are before e after is (ToShow heap) (Shown vector) asked answered).1 (subst IsNone (sym asked) tt)
         by other_asked other_answer asked answered =
-            absurd (does_as rule K two meant sites events are before e after is other_asked other_answer asked answered)
+            absurd (does_as limits rule K two meant sites events are before e after is other_asked other_answer asked answered)

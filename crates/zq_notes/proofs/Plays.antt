@@ -3,6 +3,7 @@
 use Rattle.std.proofs.Common.{ap, arith, refl, subst, suc, sym, zero, ◌∙◌}
 use Rattle.std.proofs.lemmas.List.{append-nil, append_assoc, length-append, take_all}
 use Rattle.std.specs.Prelude.{List, None, Option, Some, [], if◌then◌else◌, length, take, ℕ, ◌+◌, ◌++◌, ◌∷◌, ◌≡◌, ◌≤◌}
+use Rattle.zq_model.specs.Limits.{TailLimits}
 use Rattle.zq_model.specs.Operation.{Operation}
 use Rattle.zq_model.specs.Rule.{Rule}
 use Rattle.zq_model.specs.Sets.{AreSame}
@@ -96,14 +97,14 @@ module _ (rule : Rule) (K count : ℕ) (W : List Operation) (before : List Event
       each_of next more alike_on same (suc k) few =
           further k (run_on rule K (events_in (take k more)) (after_event rule K r p)) (subst (λ q. IsAlike W ((before ++ e ∷ []) ++ take k rest) (run_on rule K (events_in (take k more)) q)) same (alike_on k (omega (arith, few))))
 
-module _ (rule : Rule) (K count : ℕ) (two : 2 ≤ K) (meant : AreScoresMeant) (sites : ℕ → Site) (events : List Event) (are : AreEventsOf rule K sites events) (runnable : AreRunnable rule K count events) where
+module _ (limits : ℕ → TailLimits) (rule : Rule) (K count : ℕ) (two : 2 ≤ K) (meant : AreScoresMeant) (sites : ℕ → Site) (events : List Event) (are : AreEventsOf limits rule K sites events) (runnable : AreRunnable limits rule K count events) where
   abbrev W : List Operation
   W = made_of events
 
   play_on : (before rest : List Event) → events ≡ before ++ rest → (r : Run) → IsAlike W before r → (plays : List (Option runs.Event)) × IsRest rule K count W before rest r plays
   play_on before [] is r alike = ([], ended rule K count W before r alike)
   play_on before (e ∷ rest) is r alike =
-      longer rule K count W before e rest r alike (one_call rule K count two meant sites events are runnable before e rest is r alike)
+      longer rule K count W before e rest r alike (one_call limits rule K count two meant sites events are runnable before e rest is r alike)
       (λ q stands. play_on (before ++ e ∷ []) rest (is ∙ sym (append_assoc before (e ∷ []) rest)) q stands)
 
   pub plays : (played : List (Option runs.Event)) × IsPlay rule K count events played

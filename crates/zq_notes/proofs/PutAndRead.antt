@@ -7,6 +7,7 @@ use Rattle.zq_model.specs.Books.{Made, Step}
 use Rattle.zq_model.proofs.SetTests.{HasScore-from_test, IsWorld-from_test}
 use Rattle.zq_model.specs.Examples.{HEAPS, key_q, member_x, near, on_x}
 use Rattle.zq_model.specs.Heaps.{fnv1a64, heap_of}
+use Rattle.zq_model.specs.Limits.{standard}
 use Rattle.zq_model.specs.Meaning.{IsScore}
 use Rattle.zq_model.specs.Operation.{Operation, Put}
 use Rattle.zq_model.specs.Rule.{Greatest}
@@ -29,7 +30,7 @@ use Rattle.zq_semantics.specs.Run.{whole}
 use Rattle.zq_words.specs.Command.{Command, Zadd, Zscore}
 
 abbrev opening : Books
-opening = empty_books Greatest HEAPS
+opening = empty_books standard Greatest HEAPS
 
 abbrev then_put : Books
 then_put = left_by (added 1 (put 1 ∷ [])) opening
@@ -81,7 +82,7 @@ module _ (meant : AreScoresMeant) where
   none_in : (o : Option ℤ) → score_in (queues_of Greatest (map opening (1 ∷ [])) key_q) member_x ≡ o → o ≡ None
   none_in None is = refl
   none_in (Some x) is =
-      let means = (meant Greatest HEAPS [] (map opening (1 ∷ [])) world_none (listed meant Greatest HEAPS [] [] opening world_none (opens Greatest HEAPS []) (1 ∷ [])) key_q member_x x (inl (sym lies_there))).0 is in
+      let means = (meant Greatest HEAPS [] (map opening (1 ∷ [])) world_none (listed meant Greatest HEAPS [] [] opening world_none (opens standard Greatest HEAPS []) (1 ∷ [])) key_q member_x x (inl (sym lies_there))).0 is in
       absurd (means.reached.1.here)
 
   plans : plan_of adding (queues_of Greatest (map opening (1 ∷ []))) ≡ plan_by None
@@ -104,7 +105,7 @@ module _ (meant : AreScoresMeant) where
   -- ---- once x was put
 
   images_put : AreImagesOf Greatest HEAPS set_put set_put then_put
-  images_put = gathers Greatest HEAPS 1 set_put (omega arith) world_put [] opening (added 1 (put 1 ∷ []) ∷ []) (opens Greatest HEAPS set_put) (puts, tt) (((inl refl, tt), tt), tt)
+  images_put = gathers Greatest HEAPS 1 set_put (omega arith) world_put [] opening (added 1 (put 1 ∷ []) ∷ []) (opens standard Greatest HEAPS set_put) (puts, tt) (((inl refl, tt), tt), tt)
 
   score_is : score_in (queues_of Greatest (map then_put (1 ∷ [])) key_q) member_x ≡ Some (pos 3)
   score_is =

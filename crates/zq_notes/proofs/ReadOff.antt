@@ -2,7 +2,7 @@
 
 use Rattle.std.proofs.Common.{None, Option, Some, [], ap, arith, inl, inr, subst, sym, true≢false, ◌∙◌}
 use Rattle.std.proofs.lemmas.Option.{slice_get_within}
-use Rattle.std.specs.Prelude.{Bool, Err, List, Ok, Result, false, length, map, not, refl, slice_get, slice_index, take, true, ℕ, ℤ, ◌<◌, ◌∷◌, ◌↔◌, ◌≡◌, ◌≤◌}
+use Rattle.std.specs.Prelude.{Bool, Err, List, Ok, Result, false, length, map, not, refl, slice_get, slice_index, take, true, ℕ, ℤ, ◌+◌, ◌-◌, ◌<◌, ◌∷◌, ◌↔◌, ◌≡◌, ◌≤◌}
 use Rattle.zq_dots.specs.Placed.{Placed}
 use Rattle.zq_model.specs.Books.{Book, Step, operations_of}
 use Rattle.zq_model.specs.Reach.{begun}
@@ -28,7 +28,7 @@ use Rattle.zq_model.specs.Meaning.{IsScore}
 use Rattle.zq_model.specs.Operation.{Operation, has}
 use Rattle.zq_model.specs.Queue.{queue_of}
 use Rattle.zq_model.specs.Rule.{Rule}
-use Rattle.zq_model.specs.Sets.{IsIn, IsWorld, covers, in_heap, taken_of, vector_of}
+use Rattle.zq_model.specs.Sets.{AreSame, IsIn, IsWorld, covers, in_heap, taken_of, vector_of}
 use Rattle.zq_model.specs.Tail.{lacking}
 use Rattle.zq_model.proofs.Lists.{in_filter, in_filter_from}
 use Rattle.zq_model.specs.Lent as lent
@@ -37,10 +37,10 @@ use Rattle.zq_model.specs.Moves.{Move, Queues, score_in}
 use Rattle.zq_notes.specs.Does.{AreHeapsFor, Does, IsTold}
 use Rattle.zq_notes.proofs.Tails.{in_tail_set, tail_begun}
 use Rattle.zq_notes.specs.Gathered.{AreImagesOf, HasTailOf}
-use Rattle.zq_notes.specs.Notes.{Answer, Asked, Books, Copied, Handed, Joined, Replied, Shown, ToCopy, ToMerge, ToRun, ToShow, ToTake, ToTell, Told}
+use Rattle.zq_notes.specs.Notes.{Answer, Asked, Books, Copied, Handed, Joined, Replied, Shown, ToCopy, ToDrain, ToMerge, ToRun, ToShow, ToTake, ToTell, Told}
 use Rattle.zq_notes.proofs.HomeMoves.{at_home}
 use Rattle.zq_notes.proofs.MovedSteps.{moves_are}
-use Rattle.zq_notes.specs.Readings.{AreLacked, IsAnswerOf, IsCutAt, IsOrShort, IsRunOf, IsRunOff, IsRunOver, cut_off, in_full, is_list, moved_in, over_all, over_drawn}
+use Rattle.zq_notes.specs.Readings.{AreFirstLacked, AreLacked, IsAnswerOf, IsCutAt, IsOrShort, IsRunOf, IsRunOff, IsRunOver, MayHandOn, cut_off, in_full, is_list, moved_in, over_all, over_drawn}
 use Rattle.zq_semantics.proofs.FewMembers.{few_members}
 use Rattle.zq_semantics.proofs.Lifted.{cut_same, not_popping, takes_same}
 use Rattle.zq_semantics.proofs.Narrow.{plans_same}
@@ -51,7 +51,7 @@ use Rattle.zq_semantics.specs.Run.{ForCopies, ForMoves, ForReply, IsReadShort, I
 use Rattle.zq_semantics.specs.Reading.{heaps_in, is_reading, queues_over}
 use Rattle.zq_shard.specs.Shard.{HeapImage}
 use Rattle.zq_shard.specs.declared.taken.Taken.{Taken}
-use Rattle.zq_spread.specs.Answers.{IsCopied, IsMerged, IsShown, IsSince, IsTaken}
+use Rattle.zq_spread.specs.Answers.{AreHandings, IsCopied, IsDrained, IsFirstSince, IsMerged, IsShown, IsSince, IsTaken, unhanded_of}
 use Rattle.zq_spread.specs.Commanded.{IsAnswered}
 use Rattle.zq_spread.specs.Dispatch.{HasNear}
 use Rattle.zq_spread.specs.declared.faults.ReadFault.{ReadFault}
@@ -265,32 +265,25 @@ module _ (named : AreScoresMeant) (rule : Rule) (K : ℕ) (W S : List Operation)
   copy_off site stamp heap heaps (Err unread.NoMemory) (ss ∷ []) is = (refl, ap (λ (l : List Step). l ∷ []) is.1)
   copy_off site stamp heap heaps (Err fault) (ss ∷ more ∷ steps) is = absurd is
 
-  -- what a peer lacks of the set
-  told_off : (stamp heap : ℕ) (vector : List ℕ) (since : Since) → IsSince vector since (begun stamp (books heap)) → IfOps since (AreLacked K S heap vector)
-  told_off stamp heap vector TooOld is = tt
-  told_off stamp heap vector (Ops ops) is = record {
-    told = lacking vector (operations_of (begun stamp (books heap)).tail);
-    placed = is.ops ∙ ap (λ k. map (placed_at k) (lacking vector (operations_of (begun stamp (books heap)).tail))) (are.each heap).heaps;
-    same = record {
-      forth = λ o i.
-          let parts = in_filter_from (λ p. not (has vector p.site p.n)) (operations_of (begun stamp (books heap)).tail) o i in
-          let mine : IsIn o S = its.told o parts.0 in
-          in_filter (λ p. not (has vector p.site p.n)) (in_heap heap S) o (in_heap_too heap S o mine (tail_above heap its.start (operations_of (begun stamp (books heap)).tail) o its.tailed parts.0).0) parts.1;
-      back = λ o i.
-          let parts = in_filter_from (λ p. not (has vector p.site p.n)) (in_heap heap S) o i in
-          let mine = of_heap heap S o parts.0 in
-          in_filter (λ p. not (has vector p.site p.n)) (operations_of (begun stamp (books heap)).tail) o (elim (in_tail_set o its.start (operations_of (begun stamp (books heap)).tail) (its.all o mine.0 mine.1)) [
-            | inl j ↦ absurd (true≢false (sym parts.1 ∙ ap not (known o mine.0 j mine.1)))
-            | inr j ↦ j
-          ]) parts.1;
-    };
+  -- what the tail has that a vector lacks is what the set has, where the vector covers the base's
+  lacked_alike : (stamp heap : ℕ) (vector : List ℕ) → covers vector (begun stamp (books heap)).base.vector ≡ true →
+      AreSame (lacking vector (operations_of (begun stamp (books heap)).tail)) (lacking vector (in_heap heap S))
+  lacked_alike stamp heap vector covered = record {
+    forth = λ o i.
+        let parts = in_filter_from (λ p. not (has vector p.site p.n)) (operations_of (begun stamp (books heap)).tail) o i in
+        let mine : IsIn o S = its.told o parts.0 in
+        in_filter (λ p. not (has vector p.site p.n)) (in_heap heap S) o (in_heap_too heap S o mine (tail_above heap its.start (operations_of (begun stamp (books heap)).tail) o its.tailed parts.0).0) parts.1;
+    back = λ o i.
+        let parts = in_filter_from (λ p. not (has vector p.site p.n)) (in_heap heap S) o i in
+        let mine = of_heap heap S o parts.0 in
+        in_filter (λ p. not (has vector p.site p.n)) (operations_of (begun stamp (books heap)).tail) o (elim (in_tail_set o its.start (operations_of (begun stamp (books heap)).tail) (its.all o mine.0 mine.1)) [
+          | inl j ↦ absurd (true≢false (sym parts.1 ∙ ap not (known o mine.0 j mine.1)))
+          | inr j ↦ j
+        ]) parts.1;
   }
     where
       its : HasTailOf S heap (begun stamp (books heap))
       its = tail_begun K S world heap S (λ o i. i) stamp (books heap) (are.each heap).tail
-
-      covered : covers vector (begun stamp (books heap)).base.vector ≡ true
-      covered = not_false _ is.too_old
 
       -- the vector covers what the base has
       known : (o : Operation) → IsIn o S → IsIn o its.start → o.heap ≡ heap → has vector o.site o.n ≡ true
@@ -301,6 +294,29 @@ module _ (named : AreScoresMeant) (rule : Rule) (K : ℕ) (W S : List Operation)
           let most = covers_at vector (begun stamp (books heap)).base.vector o.site covered (world.each o mine).site in
           has_from vector o.site o.n (counter_positive K S o world mine) (omega (arith, low, base, counter, most))
 
+  -- what a peer lacks of the set
+  told_off : (stamp heap : ℕ) (vector : List ℕ) (since : Since) → IsSince vector since (begun stamp (books heap)) → IfOps since (AreLacked K S heap vector)
+  told_off stamp heap vector TooOld is = tt
+  told_off stamp heap vector (Ops ops) is = record {
+    told = lacking vector (operations_of (begun stamp (books heap)).tail);
+    placed = is.ops ∙ ap (λ k. map (placed_at k) (lacking vector (operations_of (begun stamp (books heap)).tail))) (are.each heap).heaps;
+    same = lacked_alike stamp heap vector (not_false _ is.too_old);
+  }
+
+  -- the first that a log lacks of it
+  drained_off : (stamp heap : ℕ) (vector : List ℕ) (most : ℕ) (since : Since) → IsFirstSince vector most since (begun stamp (books heap)) → IfOps since (AreFirstLacked K S heap vector most)
+  drained_off stamp heap vector most TooOld is = tt
+  drained_off stamp heap vector most (Ops ops) is = record {
+    told = lacking vector (operations_of (begun stamp (books heap)).tail);
+    placed = is.ops ∙ ap (λ k. map (placed_at k) (take most (lacking vector (operations_of (begun stamp (books heap)).tail)))) (are.each heap).heaps;
+    same = lacked_alike stamp heap vector (not_false _ is.too_old);
+  }
+
+  -- and its book may be told what was handed on
+  may_hand_on : (stamp newest : ℕ) (b : Book) (ss : List Step) → AreHandings stamp newest b ss → MayHandOn stamp (ss ∷ [])
+  may_hand_on stamp newest b ss (inl none) = inl (ap (λ (l : List Step). l ∷ []) none.0)
+  may_hand_on stamp newest b ss (inr told) = inr (b.count + 1 - newest, ap (λ (l : List Step). l ∷ []) told.0)
+
   tell_off : (site stamp heap : ℕ) (vector : List ℕ) (heaps : List ℕ) (result : Result Since ReadFault) (steps : List (List Step)) → IsTold stamp vector result (map books (heap ∷ [])) steps →
       IsAnswerOf rule K site S (ToTell heap vector) stamp heaps (Told result) steps
   tell_off site stamp heap vector heaps result [] is = absurd is
@@ -308,6 +324,16 @@ module _ (named : AreScoresMeant) (rule : Rule) (K : ℕ) (W S : List Operation)
   tell_off site stamp heap vector heaps (Err unread.Worn) (ss ∷ []) is = absurd is.0
   tell_off site stamp heap vector heaps (Err unread.NoMemory) (ss ∷ []) is = (refl, ap (λ (l : List Step). l ∷ []) is.1)
   tell_off site stamp heap vector heaps result (ss ∷ more ∷ steps) is = absurd is
+
+  drain_off : (site stamp heap : ℕ) (vector : List ℕ) (most : ℕ) (heaps : List ℕ) (result : Result Since ReadFault) (steps : List (List Step)) → IsDrained stamp vector most result (map books (heap ∷ [])) steps →
+      IsAnswerOf rule K site S (ToDrain heap vector most) stamp heaps (Told result) steps
+  drain_off site stamp heap vector most heaps result [] is = absurd is
+  drain_off site stamp heap vector most heaps (Ok (Ops ops)) (ss ∷ []) is =
+      (drained_off stamp heap vector most (Ops ops) is.0, may_hand_on stamp (unhanded_of vector (begun stamp (books heap))) (begun stamp (books heap)) ss is.1)
+  drain_off site stamp heap vector most heaps (Ok TooOld) (ss ∷ []) is = ap (λ (l : List Step). l ∷ []) is.1
+  drain_off site stamp heap vector most heaps (Err unread.Worn) (ss ∷ []) is = absurd is.0
+  drain_off site stamp heap vector most heaps (Err unread.NoMemory) (ss ∷ []) is = (refl, ap (λ (l : List Step). l ∷ []) is.1)
+  drain_off site stamp heap vector most heaps result (ss ∷ more ∷ steps) is = absurd is
 
   -- the answer to what was asked, and the steps, over the books of its heaps
   pub read_off : (site stamp : ℕ) (asked : Asked) (heaps : List ℕ) (answer : Answer) (steps : List (List Step)) → 0 < K → Does rule K site stamp asked heaps answer (map books heaps) steps →
@@ -323,6 +349,8 @@ module _ (named : AreScoresMeant) (rule : Rule) (K : ℕ) (W S : List Operation)
       copy_off site stamp heap heaps result steps (subst (λ hs. IsCopied result (map books hs) steps) is.0 is.1)
   read_off site stamp (ToTell heap vector) heaps (Told result) steps some is =
       tell_off site stamp heap vector heaps result steps (subst (λ hs. IsTold stamp vector result (map books hs) steps) is.0 is.1)
+  read_off site stamp (ToDrain heap vector most) heaps (Told result) steps some is =
+      drain_off site stamp heap vector most heaps result steps (subst (λ hs. IsDrained stamp vector most result (map books hs) steps) is.0 is.1)
   read_off site stamp asked heaps answer steps some is = absurd is
 
 -- ---- commands that only read

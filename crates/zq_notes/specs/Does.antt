@@ -8,10 +8,10 @@ use Rattle.zq_model.specs.Reach.{begun}
 use Rattle.zq_journal.specs.declared.since.Since.{Since}
 use Rattle.zq_model.specs.Heaps.{heap_of}
 use Rattle.zq_model.specs.Rule.{Rule}
-use Rattle.zq_notes.specs.Notes.{Answer, Asked, Copied, Handed, Joined, Replied, Shown, ToCopy, ToMerge, ToRun, ToShow, ToTake, ToTell, Told}
+use Rattle.zq_notes.specs.Notes.{Answer, Asked, Copied, Handed, Joined, Replied, Shown, ToCopy, ToDrain, ToMerge, ToRun, ToShow, ToTake, ToTell, Told}
 use Rattle.zq_semantics.specs.Doing.{drawn}
 use Rattle.zq_shard.specs.Shard.{HeapImage}
-use Rattle.zq_spread.specs.Answers.{IsCopied, IsMerged, IsShown, IsSince, IsTaken, read_of}
+use Rattle.zq_spread.specs.Answers.{IsCopied, IsDrained, IsMerged, IsShown, IsSince, IsTaken, read_of}
 use Rattle.zq_spread.specs.Commanded.{IsAnswered}
 use Rattle.zq_spread.specs.Dispatch.{HasNear}
 use Rattle.zq_spread.specs.declared.faults.ReadFault.{ReadFault}
@@ -64,4 +64,6 @@ Does rule K site stamp (ToCopy heap) heaps (Copied result) found steps = (heaps 
     × IsCopied result found steps
 Does rule K site stamp (ToShow heap) heaps (Shown vector) found steps = (heaps ≡ heap ∷ [])
     × IsShown vector found steps
+Does rule K site stamp (ToDrain heap vector most) heaps (Told result) found steps =
+    (heaps ≡ heap ∷ []) × IsDrained stamp vector most result found steps
 Does rule K site stamp asked heaps answer found steps = ⊥

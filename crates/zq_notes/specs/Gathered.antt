@@ -1,7 +1,7 @@
 -- The operations that a site gathers: what it makes and takes, and what merged images cover.
 
 use Rattle.std.specs.Prelude.{List, [], filter, ℕ, ◌&&◌, ◌++◌, ◌==◌, ◌∷◌, ◌≡◌}
-use Rattle.zq_model.specs.Books.{Book, Merged, Recorded, Step, operation_of, operations_of}
+use Rattle.zq_model.specs.Books.{Book, HandedOn, Merged, Recorded, Step, operation_of, operations_of}
 use Rattle.zq_model.specs.Image.{Image, image_of}
 use Rattle.zq_model.specs.Operation.{Operation, has}
 use Rattle.zq_model.specs.Rule.{Rule}
@@ -17,6 +17,7 @@ covered_by W h a = filter (λ o. (o.heap == h) && has a.vector o.site o.n) W
 abbrev pub brought : List Operation → ℕ → Step → List Operation
 brought W h (Recorded r) = operation_of r.change ∷ []
 brought W h (Merged stamp other) = covered_by W h other
+brought W h (HandedOn stamp handed) = []
 
 -- the set after steps in the heap h, the oldest first
 abbrev pub gathered_in : List Operation → ℕ → List Step → List Operation → List Operation
@@ -41,6 +42,7 @@ IsOf W h (Recorded r) = IsIn (operation_of r.change) W
 IsOf W h (Merged stamp other) =
     (U : List Operation) × IsClosed U × ((o : Operation) → IsIn o U → IsIn o W)
     × (other ≡ image_of U h)
+IsOf W h (HandedOn stamp handed) = Unit {0}
 
 abbrev pub AreOf : List Operation → ℕ → List Step → Type 0
 AreOf W h [] = Unit {0}

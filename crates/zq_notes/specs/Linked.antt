@@ -2,6 +2,7 @@
 
 use Rattle.std.specs.Prelude.{List, Ok, [], map, true, ℕ, ◌++◌, ◌∷◌, ◌≡◌}
 use Rattle.zq_dots.specs.Placed.{Placed}
+use Rattle.zq_model.specs.Limits.{TailLimits}
 use Rattle.zq_model.specs.Operation.{Operation, has}
 use Rattle.zq_model.specs.Rule.{Rule}
 use Rattle.zq_model.specs.Sets.{AreSame, Early, IsIn, IsWorld}
@@ -21,17 +22,18 @@ pub record HoldSame (rule : Rule) (K : ℕ) (first second : Books) : Type 0 wher
   pub images : (h : ℕ) → (first h).state ≡ (second h).state
   pub queues : queues_of rule (map first (heaps_in K)) ≡ queues_of rule (map second (heaps_in K))
 
-pub record IsLinked (rule : Rule) (K : ℕ) (events : List Event) : Type 0 where
+pub record IsLinked (limits : ℕ → TailLimits) (rule : Rule) (K : ℕ) (events : List Event) :
+    Type 0 where
   -- all that the sites made is one world
   pub world : IsWorld K (made_of events)
   -- the calls of each site are one thread's
-  pub thread : (s : ℕ) → IsOneThread rule K s (empty_books rule K) (notes_at s events)
+  pub thread : (s : ℕ) → IsOneThread rule K s (empty_books (limits s) rule K) (notes_at s events)
   -- ---- after each part of the calls
 
   -- each heap is the image of what its site has, a closed set
   pub images : (s : ℕ) (before after : List Event) → events ≡ before ++ after →
       AreImagesOf rule K (made_of events) (has_at (made_of events) s before)
-      (books_at rule K s before)
+      (books_at limits rule K s before)
   -- which is of that world
   pub within : (s : ℕ) (before after : List Event) → events ≡ before ++ after → (o : Operation) →
       IsIn o (has_at (made_of events) s before) → IsIn o (made_of events)
@@ -39,7 +41,7 @@ pub record IsLinked (rule : Rule) (K : ℕ) (events : List Event) : Type 0 where
   pub converges : (s t : ℕ) (before after past later : List Event) → events ≡ before ++ after →
       events ≡ past ++ later →
       AreSame (has_at (made_of events) s before) (has_at (made_of events) t past) →
-      HoldSame rule K (books_at rule K s before) (books_at rule K t past)
+      HoldSame rule K (books_at limits rule K s before) (books_at limits rule K t past)
   -- ---- what a site has
 
   -- what it made by then

@@ -26,6 +26,8 @@ pub data Asked : Type 0 where
   ToCopy : (heap : ℕ) → Asked
   -- to show which operations of a heap it has
   ToShow : (heap : ℕ) → Asked
+  -- to give a log of this vector what it lacks of a heap, at most so many operations
+  ToDrain : (heap : ℕ) → (vector : List ℕ) → (most : ℕ) → Asked
 
 -- and what it answers
 pub data Answer : Type 0 where

@@ -5,7 +5,7 @@ use Rattle.zq_model.specs.Image.{image_of}
 use Rattle.zq_model.specs.Operation.{Operation}
 use Rattle.zq_model.specs.Rule.{Rule}
 use Rattle.zq_model.specs.Sets.{AreSame}
-use Rattle.zq_notes.specs.Notes.{Answer, Asked, Handed, Joined, Replied, ToCopy, ToMerge, ToRun, ToShow, ToTake, ToTell}
+use Rattle.zq_notes.specs.Notes.{Answer, Asked, Handed, Joined, Replied, ToCopy, ToDrain, ToMerge, ToRun, ToShow, ToTake, ToTell}
 use Rattle.zq_notes.specs.Sites.{Event, has_at, made_of}
 use Rattle.zq_semantics.specs.Plan.{is_there}
 use Rattle.zq_semantics.specs.Doing.{drawn}
@@ -55,11 +55,12 @@ abbrev pub IsPlayed : Rule → ℕ → Run → Event → runs.Event → Type 0
 IsPlayed rule K r e event =
     IsPlayedAs rule K r e.site e.call.note.heaps e.call.note.asked e.call.note.answer event
 
--- a call that only reads books is no event
+-- a call that only reads books is no event, nor is one that tells a book what was handed on
 abbrev pub IsNone : Asked → Type 0
 IsNone (ToTell heap vector) = Unit {0}
 IsNone (ToCopy heap) = Unit {0}
 IsNone (ToShow heap) = Unit {0}
+IsNone (ToDrain heap vector most) = Unit {0}
 IsNone asked = ⊥
 
 -- ---- several calls

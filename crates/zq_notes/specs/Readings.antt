@@ -12,6 +12,7 @@ use Rattle.zq_journal.specs.declared.faults.MergeFault.TheVariants as unmerged
 use Rattle.zq_journal.specs.declared.faults.TakeFault.{TakeFault}
 use Rattle.zq_journal.specs.declared.faults.TakeFault.TheVariants as untaken
 use Rattle.zq_journal.specs.declared.since.Since.{Since}
+use Rattle.zq_journal.specs.declared.since.Since.TheVariants.{Ops, TooOld}
 use Rattle.zq_model.specs.Heaps.{heap_of}
 use Rattle.zq_model.specs.Image.{image_of}
 use Rattle.zq_model.specs.Operation.{Operation, operation_over}
@@ -19,7 +20,7 @@ use Rattle.zq_model.specs.Rule.{Rule}
 use Rattle.zq_model.specs.Sets.{AreSame, IsIn, New, in_heap, taken_of, vector_of}
 use Rattle.zq_model.specs.Tail.{lacking}
 use Rattle.zq_model.specs.Moves.{Move, Queues}
-use Rattle.zq_notes.specs.Notes.{Answer, Asked, Copied, Handed, Joined, Note, Replied, Shown, ToCopy, ToMerge, ToRun, ToShow, ToTake, ToTell, Told}
+use Rattle.zq_notes.specs.Notes.{Answer, Asked, Copied, Handed, Joined, Note, Replied, Shown, ToCopy, ToDrain, ToMerge, ToRun, ToShow, ToTake, ToTell, Told}
 use Rattle.zq_semantics.specs.Doing.{drawn}
 use Rattle.zq_semantics.specs.Plan.{is_there, plan_of}
 use Rattle.zq_semantics.specs.Ranges.{ranged, turned_if}
@@ -83,6 +84,19 @@ pub record AreLacked (K : ℕ) (S : List Operation) (heap : ℕ) (vector : List 
   pub placed : ops ≡ map (placed_at K) told
   pub same : AreSame told (lacking vector (in_heap heap S))
 
+-- the operations are the first of those, in their order, at most so many
+pub record AreFirstLacked (K : ℕ) (S : List Operation) (heap : ℕ) (vector : List ℕ) (most : ℕ)
+    (ops : List Placed) : Type 0 where
+  pub told : List Operation
+  pub placed : ops ≡ map (placed_at K) (take most told)
+  pub same : AreSame told (lacking vector (in_heap heap S))
+
+-- no step was made, or the book was told what was handed on: how much that is, by the count of its
+-- steps, a set does not say
+abbrev pub MayHandOn : ℕ → List (List Step) → Type 0
+MayHandOn stamp steps = (steps ≡ [] ∷ [])
+    ⊎ ((handed : ℕ) × (steps ≡ (book.HandedOn stamp handed ∷ []) ∷ []))
+
 -- ---- each kind of call: what it answers and does, read off the set that the site has
 
 -- a command of a site of this number: all that it makes lies in the heaps that it held, and these
@@ -120,6 +134,16 @@ IsToldOff K S heap vector (Ok since) steps =
     IfOps since (AreLacked K S heap vector) × (steps ≡ [] ∷ [])
 IsToldOff K S heap vector (Err fault) steps = (fault ≡ unread.NoMemory) × (steps ≡ [] ∷ [])
 
+-- the first that a log of this vector lacks of a heap, as what a peer lacks is told; then its book
+-- may be told what was handed on
+abbrev pub IsDrainedOff : ℕ → List Operation → ℕ → List ℕ → ℕ → ℕ → Result Since ReadFault →
+    List (List Step) → Type 0
+IsDrainedOff K S heap vector most stamp (Ok (Ops ops)) steps =
+    AreFirstLacked K S heap vector most ops.items × MayHandOn stamp steps
+IsDrainedOff K S heap vector most stamp (Ok TooOld) steps = steps ≡ [] ∷ []
+IsDrainedOff K S heap vector most stamp (Err fault) steps = (fault ≡ unread.NoMemory)
+    × (steps ≡ [] ∷ [])
+
 -- a copy of a heap, or there was no memory
 abbrev pub IsCopiedOff : Rule → ℕ → List Operation → ℕ → Result HeapImage ReadFault →
     List (List Step) → Type 0
@@ -143,6 +167,8 @@ IsAnswerOf rule K site S (ToMerge other) stamp heaps (Joined result) steps =
     IsMergedOff other stamp result steps
 IsAnswerOf rule K site S (ToTell heap vector) stamp heaps (Told result) steps =
     IsToldOff K S heap vector result steps
+IsAnswerOf rule K site S (ToDrain heap vector most) stamp heaps (Told result) steps =
+    IsDrainedOff K S heap vector most stamp result steps
 IsAnswerOf rule K site S (ToCopy heap) stamp heaps (Copied result) steps =
     IsCopiedOff rule K S heap result steps
 IsAnswerOf rule K site S (ToShow heap) stamp heaps (Shown vector) steps =

@@ -3,9 +3,8 @@
 
 use Rattle.std.specs.Prelude.{List, [], if◌then◌else◌, ℕ, ◌++◌, ◌==◌, ◌∷◌, ◌≡◌}
 use Rattle.zq_dots.specs.Rule.{rule_of}
-use Rattle.zq_model.specs.Books.{Change, Made, Merged, Recorded, Step, Took}
-use Rattle.zq_journal.specs.Books.{opened}
-use Rattle.zq_model.specs.Image.{empty_image}
+use Rattle.zq_model.specs.Books.{Change, HandedOn, Made, Merged, Recorded, Step, Took}
+use Rattle.zq_model.specs.Limits.{TailLimits}
 use Rattle.zq_model.specs.Operation.{Operation}
 use Rattle.zq_model.specs.Rule.{Rule}
 use Rattle.zq_model.specs.Sets.{IsIn}
@@ -14,6 +13,7 @@ use Rattle.zq_notes.specs.Gathered.{gathered}
 use Rattle.zq_notes.specs.Notes.{Books, Note}
 use Rattle.zq_notes.specs.Thread.{left_by_all}
 use Rattle.zq_spread.specs.Calls.{heaps_of}
+use Rattle.zq_spread.specs.Makers.{empty_book}
 use Rattle.zq_spread.specs.declared.site.Site.{Site}
 
 -- a call of the site of this number
@@ -29,14 +29,13 @@ calls_of s (e ∷ events) = if e.site == s then e.call ∷ calls_of s events els
 abbrev pub notes_at : ℕ → List Event → List Note
 notes_at s events = notes_of (calls_of s events)
 
--- the books of a new site
-abbrev pub empty_books : Rule → ℕ → Books
-empty_books rule K = λ h.
-    opened (record { heap = h; heaps = K; rule = rule; image = empty_image }) 0 0
+-- the books of a new site, with these limits
+abbrev pub empty_books : TailLimits → Rule → ℕ → Books
+empty_books limits rule K = λ h. empty_book limits rule K h
 
--- the books of a site that was new, after these events
-abbrev pub books_at : Rule → ℕ → ℕ → List Event → Books
-books_at rule K s events = left_by_all (notes_at s events) (empty_books rule K)
+-- the books of a site that was new, after these events; each site has limits of its own
+abbrev pub books_at : (ℕ → TailLimits) → Rule → ℕ → ℕ → List Event → Books
+books_at limits rule K s events = left_by_all (notes_at s events) (empty_books (limits s) rule K)
 
 -- ---- what the sites made
 
@@ -49,6 +48,7 @@ abbrev pub made_in : List Step → List Operation → List Operation
 made_in [] W = W
 made_in (Recorded r ∷ steps) W = made_in steps (made_by r.change ++ W)
 made_in (Merged stamp other ∷ steps) W = made_in steps W
+made_in (HandedOn stamp handed ∷ steps) W = made_in steps W
 
 abbrev pub made_in_all : List (List Step) → List Operation → List Operation
 made_in_all [] W = W
@@ -75,33 +75,36 @@ IsSent before (Made o) = Unit {0}
 IsSent before (Took o) = IsIn o (made_of before)
 
 -- and an image that is merged in the heap h is what some site had there, now or before
-abbrev pub IsBrought : Rule → ℕ → List Event → ℕ → Step → Type 0
-IsBrought rule K before h (Recorded r) = IsSent before r.change
-IsBrought rule K before h (Merged stamp other) = (t : ℕ) × (past : List Event)
-    × (later : List Event) × (before ≡ past ++ later) × (other ≡ (books_at rule K t past h).state)
+abbrev pub IsBrought : (ℕ → TailLimits) → Rule → ℕ → List Event → ℕ → Step → Type 0
+IsBrought limits rule K before h (Recorded r) = IsSent before r.change
+IsBrought limits rule K before h (Merged stamp other) = (t : ℕ) × (past : List Event)
+    × (later : List Event) × (before ≡ past ++ later)
+    × (other ≡ (books_at limits rule K t past h).state)
+IsBrought limits rule K before h (HandedOn stamp handed) = Unit {0}
 
-abbrev pub AreBrought : Rule → ℕ → List Event → ℕ → List Step → Type 0
-AreBrought rule K before h [] = Unit {0}
-AreBrought rule K before h (s ∷ steps) = IsBrought rule K before h s
-    × AreBrought rule K before h steps
+abbrev pub AreBrought : (ℕ → TailLimits) → Rule → ℕ → List Event → ℕ → List Step → Type 0
+AreBrought limits rule K before h [] = Unit {0}
+AreBrought limits rule K before h (s ∷ steps) = IsBrought limits rule K before h s
+    × AreBrought limits rule K before h steps
 
-abbrev pub AreBroughtIn : Rule → ℕ → List Event → List ℕ → List (List Step) → Type 0
-AreBroughtIn rule K before [] steps = Unit {0}
-AreBroughtIn rule K before (h ∷ heaps) [] = Unit {0}
-AreBroughtIn rule K before (h ∷ heaps) (ss ∷ steps) = AreBrought rule K before h ss
-    × AreBroughtIn rule K before heaps steps
+abbrev pub AreBroughtIn : (ℕ → TailLimits) → Rule → ℕ → List Event → List ℕ → List (List Step) →
+    Type 0
+AreBroughtIn limits rule K before [] steps = Unit {0}
+AreBroughtIn limits rule K before (h ∷ heaps) [] = Unit {0}
+AreBroughtIn limits rule K before (h ∷ heaps) (ss ∷ steps) = AreBrought limits rule K before h ss
+    × AreBroughtIn limits rule K before heaps steps
 
 -- the event is a call of the site of its number, over what that site's calls before it left, and
 -- what it takes and merges reached it
-pub record IsEventAfter (rule : Rule) (K : ℕ) (sites : ℕ →
-    Site) (before : List Event) (e : Event) : Type 0 where
+pub record IsEventAfter (limits : ℕ → TailLimits) (rule : Rule) (K : ℕ) (sites : ℕ → Site)
+    (before : List Event) (e : Event) : Type 0 where
   pub number : (sites e.site).number ≡ e.site
   pub heaps : heaps_of (sites e.site) ≡ K
   pub ruled : rule_of (sites e.site).rule ≡ rule
-  pub call : IsCallOver (sites e.site) (books_at rule K e.site before) e.call
-  pub brought : AreBroughtIn rule K before e.call.note.heaps e.call.note.steps
+  pub call : IsCallOver (sites e.site) (books_at limits rule K e.site before) e.call
+  pub brought : AreBroughtIn limits rule K before e.call.note.heaps e.call.note.steps
 
--- such events, of sites that were new in the beginning
-abbrev pub AreEventsOf : Rule → ℕ → (ℕ → Site) → List Event → Type 0
-AreEventsOf rule K sites events = (before : List Event) (e : Event) (after : List Event) →
-    events ≡ before ++ e ∷ after → IsEventAfter rule K sites before e
+-- such events, of sites that were new in the beginning, each with its limits
+abbrev pub AreEventsOf : (ℕ → TailLimits) → Rule → ℕ → (ℕ → Site) → List Event → Type 0
+AreEventsOf limits rule K sites events = (before : List Event) (e : Event) (after : List Event) →
+    events ≡ before ++ e ∷ after → IsEventAfter limits rule K sites before e

@@ -2,6 +2,7 @@
 
 use Rattle.std.specs.Prelude.{Err, List, Ok, [], length, map, ℕ, ◌+◌, ◌++◌, ◌<◌, ◌∷◌, ◌≡◌, ◌≤◌}
 use Rattle.zq_model.specs.Books.{Book, Step}
+use Rattle.zq_model.specs.Limits.{TailLimits}
 use Rattle.zq_model.specs.Rule.{Rule}
 use Rattle.zq_model.specs.Sets.{IsIn, SITES}
 use Rattle.zq_model.specs.Lent.{queues_of}
@@ -50,18 +51,20 @@ IsThere K before (ToMerge other) = other.heap < K
 IsThere K before asked = Unit {0}
 
 -- the event is such a call, of one of so many sites
-pub record IsRunnable (rule : Rule) (K count : ℕ) (before : List Event) (e : Event) : Type 0 where
+pub record IsRunnable (limits : ℕ → TailLimits) (rule : Rule) (K count : ℕ) (before : List Event)
+    (e : Event) : Type 0 where
   pub site : e.site < count
   pub asked : IsThere K before e.call.note.asked
   pub uncut : IsUncut rule e.call.note.asked e.call.note.answer
-      (map (books_at rule K e.site before) e.call.note.heaps) e.call.note.steps
+      (map (books_at limits rule K e.site before) e.call.note.heaps) e.call.note.steps
 
 -- so are all of these, of sites of K heaps, and they have fewer steps than the last stamp: so in
 -- the run of a world no stamp and no count comes to its last value
-pub record AreRunnable (rule : Rule) (K count : ℕ) (events : List Event) : Type 0 where
+pub record AreRunnable (limits : ℕ → TailLimits) (rule : Rule) (K count : ℕ)
+    (events : List Event) : Type 0 where
   pub two : 2 ≤ K
   pub most : K ≤ 16
   pub few : count ≤ SITES
   pub unworn : steps_of events < LAST_COUNT
   pub each : (before : List Event) (e : Event) (after : List Event) → events ≡ before ++ e ∷ after →
-      IsRunnable rule K count before e
+      IsRunnable limits rule K count before e

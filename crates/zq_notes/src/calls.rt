@@ -6,10 +6,10 @@ ghost use Rattle.zq_journal.specs.declared.faults.MergeFault.{MergeFault};
 ghost use Rattle.zq_journal.specs.declared.faults.TakeFault.{TakeFault};
 ghost use Rattle.zq_journal.specs.declared.since.Since.{Since};
 ghost use Rattle.zq_notes.specs.Calls.{HasNote, HeldNone};
-ghost use Rattle.zq_notes.specs.Notes.{Copied, Handed, Joined, Replied, Shown, ToCopy, ToMerge, ToRun, ToShow, ToTake, ToTell, Told};
+ghost use Rattle.zq_notes.specs.Notes.{Copied, Handed, Joined, Replied, Shown, ToCopy, ToDrain, ToMerge, ToRun, ToShow, ToTake, ToTell, Told};
 ghost use Rattle.zq_shard.specs.Shard.{HeapImage};
 ghost use Rattle.zq_shard.specs.declared.taken.Taken.{Taken};
-ghost use Rattle.zq_spread.specs.Answers.{IsAsked, IsCopied, IsMerged, IsShown, IsSince, IsTaken};
+ghost use Rattle.zq_spread.specs.Answers.{IsAsked, IsCopied, IsDrained, IsMerged, IsShown, IsSince, IsTaken};
 ghost use Rattle.zq_spread.specs.Calls.{HasSeenBook, IsCall, IsLikeSite, IsOfSite};
 ghost use Rattle.zq_spread.specs.Dispatch.{IsCalled};
 ghost use Rattle.zq_spread.specs.declared.faults.ReadFault.{ReadFault};
@@ -19,9 +19,9 @@ ghost use Rattle.zq_words.specs.Command.{Command};
 ghost use Rattle.zq_words.specs.Words.{Word};
 
 /// Each call of a site that held a heap leaves a note: what [`zq_spread::Site::call`], `try_call`,
-/// `take`, `merge`, `since`, `state` and `vector` promise is that there is one. A command that held
-/// none needs none, or was refused before it held any. An operation or a heap that is not of the
-/// site's kind is refused with no lock taken.
+/// `take`, `merge`, `since`, `drain`, `state` and `vector` promise is that there is one. A command
+/// that held none needs none, or was refused before it held any. An operation or a heap that is not
+/// of the site's kind is refused with no lock taken.
 pub fn noting()
     ensures calls { (site : Site) (p : ℕ) (before after : Pass) (command : Command) (w1 w2 : ℕ)
         (reply : Word) → IsCalled site command w1 w2 reply before after →
@@ -39,6 +39,10 @@ pub fn noting()
         (result : Results Since ReadFault) → IsCall (IsAsked result) before after (heap ∷ []) →
         IfOk result (λ since. HasSeenBook after heap (IsSince vector since)) →
         HasNote site p before after (ToTell heap vector) (Told result) }
+    ensures drains { (site : Site) (p : ℕ) (before after : Pass) (heap : ℕ) (vector : List ℕ)
+        (most : ℕ) (result : Results Since ReadFault) →
+        IsCall (IsDrained after.stamp vector most result) before after (heap ∷ []) →
+        HasNote site p before after (ToDrain heap vector most) (Told result) }
     ensures copies { (site : Site) (p : ℕ) (before after : Pass) (heap : ℕ)
         (result : Results HeapImage ReadFault) → IsCall (IsCopied result) before after (heap ∷ []) →
         HasNote site p before after (ToCopy heap) (Copied result) }

@@ -1,6 +1,7 @@
 //! What the calls of several sites come to as the run of a world.
 
 ghost use Rattle.std.specs.Prelude.{List, Option, ℕ};
+ghost use Rattle.zq_model.specs.Limits.{TailLimits};
 ghost use Rattle.zq_model.specs.Rule.{Rule as Rules};
 ghost use Rattle.zq_notes.specs.Played.{IsPlay};
 ghost use Rattle.zq_notes.specs.Sites.{AreEventsOf, Event};
@@ -12,7 +13,8 @@ use zq_model::naming;
 
 /// The calls of running sites, as [`crate::linking`] has them, are the run of a world, where none
 /// was cut: each command did all that it plans, and nothing was refused. For each call there is the
-/// event of the run that it is, answered as the call was; a call that only reads books is none.
+/// event of the run that it is, answered as the call was; a call that only reads books, or tells one
+/// what was handed on, is none.
 /// After each of them the sites have what the run's sites have.
 ///
 /// Beside that it is asked that each command is that of a request's words, each operation that is
@@ -25,8 +27,9 @@ use zq_model::naming;
 /// A ZPOPNEAR that held all heaps, though one of the two that it drew has a member by then, is the
 /// run's ZPOPMIN with count 1.
 pub fn playing()
-    ensures plays { (rule : Rules) (K count : ℕ) (sites : ℕ → Sites) (events : List Event) →
-        AreEventsOf rule K sites events → AreRunnable rule K count events →
+    ensures plays { (limits : ℕ → TailLimits) (rule : Rules) (K count : ℕ) (sites : ℕ → Sites)
+        (events : List Event) → AreEventsOf limits rule K sites events →
+        AreRunnable limits rule K count events →
         (plays : List (Option RunEvent)) × IsPlay rule K count events plays }
 {
     // A member's score over books is the one that their set means.

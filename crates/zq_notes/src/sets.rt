@@ -2,8 +2,7 @@
 
 ghost use Rattle.std.specs.Prelude.{List, Ok, [], true, ℕ, ◌++◌, ◌∷◌, ◌≡◌, ◌≤◌};
 ghost use Rattle.zq_dots.specs.Rule.{rule_of};
-ghost use Rattle.zq_journal.specs.Books.{opened};
-ghost use Rattle.zq_model.specs.Image.{empty_image};
+ghost use Rattle.zq_model.specs.Limits.{TailLimits};
 ghost use Rattle.zq_model.specs.Meaning.{IsQueue, IsWholeQueue};
 ghost use Rattle.zq_model.specs.Operation.{Operation};
 ghost use Rattle.zq_model.specs.Rule.{Rule as Rules};
@@ -13,6 +12,7 @@ ghost use Rattle.zq_notes.specs.Calls.{AreCallsFrom, Call, notes_of};
 ghost use Rattle.zq_notes.specs.Gathered.{AreImagesOf, AreOfWorld, gathered};
 ghost use Rattle.zq_notes.specs.Notes.{Books, Note};
 ghost use Rattle.zq_notes.specs.Readings.{IsOrShort, IsReadOff, IsRunOf, is_list};
+ghost use Rattle.zq_notes.specs.Sites.{empty_books};
 ghost use Rattle.zq_notes.specs.Thread.{IsOneThread, left_by_all};
 ghost use Rattle.zq_semantics.specs.Plan.{plan_of};
 ghost use Rattle.zq_semantics.specs.Replies.{bytes_of};
@@ -26,11 +26,10 @@ use zq_model::naming;
 
 /// Where what the calls make, take and merge is of one world, each heap is the image of the
 /// operations gathered, which are a closed set of that world. A new site's heaps are the images of
-/// none.
+/// none, whatever its limits.
 pub fn gathering_notes()
-    ensures opens { (rule : Rules) (K : ℕ) (W : List Operation) →
-        AreImagesOf rule K W []
-        (λ h. opened (record { heap = h; heaps = K; rule = rule; image = empty_image }) 0 0) }
+    ensures opens { (limits : TailLimits) (rule : Rules) (K : ℕ) (W : List Operation) →
+        AreImagesOf rule K W [] (empty_books limits rule K) }
     ensures gathers { (rule : Rules) (K site : ℕ) (W : List Operation) → 2 ≤ K → IsWorld K W →
         (S : List Operation) (opening : Books) (notes : List Note) →
         AreImagesOf rule K W S opening → IsOneThread rule K site opening notes →

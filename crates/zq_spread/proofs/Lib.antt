@@ -5,6 +5,7 @@ pub mod OneHeap
 pub mod Twins
 pub mod Commanded
 pub mod Readings
+pub mod Drained
 pub mod Alone
 pub mod Places
 pub mod Settled

@@ -1,10 +1,10 @@
 -- What calls answer and do, over the books that they hold, and their own steps in each.
 
 use Rattle.std.specs.List.{All}
-use Rattle.std.specs.Prelude.{Err, List, Ok, Result, [], map, not, ℕ, ◌∷◌, ◌≡◌, ◌≢◌}
+use Rattle.std.specs.Prelude.{Err, List, Ok, Result, Some, [], map, not, take, ℕ, ◌+◌, ◌-◌, ◌∷◌, ◌≡◌, ◌≢◌, ◌⊎◌}
 use Rattle.zq_dots.specs.Placed.{Placed}
-use Rattle.zq_model.specs.Books.{Book, Merged, Step, operations_of}
-use Rattle.zq_model.specs.Reach.{IsWorked}
+use Rattle.zq_model.specs.Books.{Book, HandedOn, Merged, Step, operations_of}
+use Rattle.zq_model.specs.Reach.{IsWorked, begun}
 use Rattle.zq_journal.specs.Answers.{IfOps, is_too_old}
 use Rattle.zq_journal.specs.Books.{IsPeer, LAST_STAMP, base_of, state_of, steps_taken}
 use Rattle.zq_journal.specs.Records.{placed_at}
@@ -13,10 +13,11 @@ use Rattle.zq_journal.specs.declared.faults.MergeFault.TheVariants as unmerged
 use Rattle.zq_journal.specs.declared.faults.TakeFault.{TakeFault}
 use Rattle.zq_journal.specs.declared.faults.TakeFault.TheVariants.{NoMemory, WrongHeap, Worn}
 use Rattle.zq_journal.specs.declared.since.Since.{Since}
+use Rattle.zq_journal.specs.declared.since.Since.TheVariants.{Ops, TooOld}
 use Rattle.zq_model.specs.Image.{image_of, join}
 use Rattle.zq_model.specs.Operation.{Operation}
 use Rattle.zq_model.specs.Sets as sets
-use Rattle.zq_model.specs.Tail.{AreNew, image_after_all, lacking}
+use Rattle.zq_model.specs.Tail.{AreNew, image_after_all, lacking, lacking_from}
 use Rattle.zq_shard.specs.Shard.{HeapImage, IsOfHeap}
 use Rattle.zq_shard.specs.Taken.{answer_of}
 use Rattle.zq_shard.specs.declared.taken.Taken.{Taken}
@@ -93,3 +94,48 @@ pub record IsSince (v : List ℕ) (since : Since) (b : Book) : Type 0 where
   pub merges : IfOps since (λ ops. (S T : List Operation) → IsPeer b S T v →
       image_after_all (map (λ p. p.operation) ops) (image_of T b.heap)
       ≡ join (image_of T b.heap) b.state)
+
+-- the oldest that a log of the vector v lacks of the book, at most so many: it is too old exactly
+-- where v does not cover the base's vector
+pub record IsFirstSince (v : List ℕ) (most : ℕ) (since : Since) (b : Book) : Type 0 where
+  pub too_old : is_too_old since ≡ not (sets.covers v b.base.vector)
+  pub ops : IfOps since
+      (λ ops. ops ≡ map (placed_at b.heaps) (take most (lacking v (operations_of b.tail))))
+  pub placed : IfOps since (λ ops. All (IsOfHeap (base_of b)) ops)
+
+-- how many of the book's newest records were not handed on to a log of the vector v: those from the
+-- oldest on that it lacks
+abbrev pub unhanded_of : List ℕ → Book → ℕ
+unhanded_of v b = lacking_from v (operations_of b.tail)
+
+-- the book has been told that all its steps were handed on but those that made its newest records, so
+-- many
+abbrev pub KnowsHanded : ℕ → Book → Type 0
+KnowsHanded newest b = b.handed ≡ Some (b.count - newest)
+
+-- it is told that, unless it knows, or its count is at its last value
+abbrev pub AreHandings : ℕ → ℕ → Book → List Step → Type 0
+AreHandings stamp newest b steps =
+    ((steps ≡ []) × (KnowsHanded newest b ⊎ (b.count ≡ LAST_STAMP)))
+    ⊎ ((steps ≡ HandedOn stamp (b.count + 1 - newest) ∷ []) × (KnowsHanded newest b → ⊥)
+    × (b.count ≢ LAST_STAMP))
+
+-- the book b, at which a call of this stamp over the book a has made no step, became new so
+abbrev pub IsHandedOn : ℕ → ℕ → Book → Book → Book → Type 0
+IsHandedOn stamp newest b new a = (steps : List Step) × IsWorked new a stamp steps
+    × AreHandings stamp newest b steps
+
+-- the book is told what was handed on to a log of the vector v, where that is not too old
+abbrev pub AreDrainSteps : ℕ → List ℕ → Result Since ReadFault → Book → List Step → Type 0
+AreDrainSteps stamp v (Ok (Ops ops)) b steps = AreHandings stamp (unhanded_of v b) b steps
+AreDrainSteps stamp v (Ok TooOld) b steps = steps ≡ []
+AreDrainSteps stamp v (Err fault) b steps = steps ≡ []
+
+-- a log of the vector v was given the oldest that it lacks, at most so many, of the book as a call
+-- of this stamp begins with it, and the book was told what had been handed on
+abbrev pub IsDrained : ℕ → List ℕ → ℕ → Result Since ReadFault → List Book → List (List Step) →
+    Type 0
+IsDrained stamp v most result (b ∷ []) (steps ∷ []) =
+    read_of (λ (since : Since) (book : Book). IsFirstSince v most since (begun stamp book)) result b
+    × AreDrainSteps stamp v result (begun stamp b) steps
+IsDrained stamp v most result books steps = ⊥

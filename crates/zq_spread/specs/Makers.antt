@@ -5,6 +5,7 @@ use Rattle.zq_dots.specs.Rule.{rule_of}
 use Rattle.zq_model.specs.Books.{Book}
 use Rattle.zq_journal.specs.Books.{opened}
 use Rattle.zq_model.specs.Image.{empty_image}
+use Rattle.zq_model.specs.Limits.{TailLimits, standard}
 use Rattle.zq_model.specs.Rule.{Rule}
 use Rattle.zq_spread.specs.Companies.{AreAllPasses, opening_at}
 use Rattle.zq_spread.specs.Passes.{seen_at, steps_at}
@@ -24,11 +25,23 @@ pub record AreOfHeaps (books : List Book) : Type 0 where
   pub rule : (h k : ℕ) (one other : Book) → slice_get books h ≡ Some one →
       slice_get books k ≡ Some other → one.rule ≡ other.rule
 
--- the books of as many heaps, of this rule, in which nothing was done
-pub record AreEmptyBooks (heaps : ℕ) (rule : Rule) (books : List Book) : Type 0 where
+-- the book of a heap of so many, of this rule and with these limits, in which nothing was done
+abbrev pub empty_book : TailLimits → Rule → ℕ → ℕ → Book
+empty_book limits rule heaps h =
+    record (opened (record { heap = h; heaps = heaps; rule = rule; image = empty_image }) 0 0) {
+      limits = limits;
+    }
+
+-- such books, of as many heaps
+pub record AreEmptyWithin (limits : TailLimits) (heaps : ℕ) (rule : Rule)
+    (books : List Book) : Type 0 where
   pub number : length books ≡ heaps
   pub empty : (h : ℕ) (book : Book) → slice_get books h ≡ Some book →
-      book ≡ opened (record { heap = h; heaps = heaps; rule = rule; image = empty_image }) 0 0
+      book ≡ empty_book limits rule heaps h
+
+-- such books with the standard limits
+abbrev pub AreEmptyBooks : ℕ → Rule → List Book → Type 0
+AreEmptyBooks heaps rule books = AreEmptyWithin standard heaps rule books
 
 -- the pass has made no call, and has seen these books
 pub record IsNewPass (books : List Book) (pass : Pass) : Type 0 where

@@ -1,20 +1,20 @@
 //! What the lock of a heap keeps.
-ghost use Rattle.std.specs.Prelude.{◌≡◌, ◌≤◌, []};
+ghost use Rattle.std.specs.Prelude.{◌≡◌, ◌≤◌, [], length};
 ghost use Rattle.zq_model.specs.Books.{Book as Books};
 ghost use Rattle.zq_model.specs.Reach.{IsWorked};
 ghost use Rattle.zq_journal.specs.Books.{LAST_STAMP, state_of};
 ghost use Rattle.zq_shard.specs.Shard.{IsOfHeap, IsSameHeap};
-ghost use Rattle.zq_spread.specs.Answers.{HasWorked, IsCopyOf, IsMerged, IsSince, IsTaken, read_of};
+ghost use Rattle.zq_spread.specs.Answers.{HasWorked, IsCopyOf, IsDrained, IsHandedOn, IsMerged, IsSince, IsTaken, read_of};
 
 use crate::faults::ReadFault;
 use std::alloc::Global;
 use zq_dots::{Op, Vector};
-use zq_journal::{Book, MergeFault, Since, TakeFault};
+use zq_journal::{Book, LAST_COUNT, MergeFault, Since, TakeFault};
 use zq_shard::{Shard, Taken};
 use zq_tally::Total;
 use zq_ticketlock::Keeps;
 
-/// The book of a heap, and how many records and merges the passes have made in it.
+/// The book of a heap, and how many steps the passes have made in it.
 // The total lies beside the front of the book, which every call reads and writes.
 #[derive(Drop)]
 pub struct LockedHeap {
@@ -89,5 +89,42 @@ impl LockedHeap {
         ensures { read_of (IsSince vector.now) result self.now.book }
     {
         Ok(self.book.since(alloc, vector)?)
+    }
+
+    /// Gives a log of this vector the oldest that it lacks, at most so many, and tells the book that
+    /// all before the oldest of them was handed on.
+    pub(crate) fn drain(
+        &mut self,
+        alloc: Global,
+        stamp: u64,
+        vector: &Vector,
+        most: usize,
+    ) -> Result<Since, ReadFault>
+        requires stamp { self.old.book.stamp ≤ stamp }
+        requires bounded { stamp ≤ LAST_STAMP }
+        ensures total { self.new.total ≡ self.old.total }
+        ensures worked { (a : Books) → IsWorked self.old.book a stamp [] →
+            HasWorked (IsDrained stamp vector.now most result) self.new.book a stamp }
+    {
+        let first = self.book.first_since(alloc, vector, most)?;
+        if let Since::Ops(_) = &first.since {
+            self.hand_on(stamp, first.newest);
+        }
+        Ok(first.since)
+    }
+
+    /// Tells the book that all its steps were handed on but those that made its newest records, so
+    /// many, unless it knows that, or counts no further.
+    fn hand_on(&mut self, stamp: u64, newest: usize)
+        requires stamp { self.old.book.stamp ≤ stamp }
+        requires bounded { stamp ≤ LAST_STAMP }
+        requires newest { newest ≤ length self.old.book.tail }
+        ensures total { self.new.total ≡ self.old.total }
+        ensures worked { (a : Books) → IsWorked self.old.book a stamp [] →
+            IsHandedOn stamp newest self.old.book self.new.book a }
+    {
+        if self.book.count() < LAST_COUNT && !self.book.knows_handed(newest) {
+            self.book.hand_on(stamp, newest);
+        }
     }
 }

@@ -1,10 +1,12 @@
 //! How a site is made.
 ghost use Rattle.std.specs.Prelude.{◌≡◌, ◌↔◌, List, IfErr, IfOk, IsErrAnd, IsErrOf, IsTrue, length};
 ghost use Rattle.zq_dots.specs.Rule.{rule_of};
+ghost use Rattle.zq_journal.specs.Books.{opened};
+ghost use Rattle.zq_journal.specs.Limits.{limits_of};
 ghost use Rattle.zq_model.specs.Books.{Book as Books};
 ghost use Rattle.zq_model.specs.Rule.{Greatest};
 ghost use Rattle.zq_model.specs.Sets.{IsHeaps};
-ghost use Rattle.zq_spread.specs.Makers.{AreEmptyBooks, AreOfHeaps, IsInBounds, IsMade};
+ghost use Rattle.zq_spread.specs.Makers.{AreEmptyBooks, AreEmptyWithin, AreOfHeaps, IsInBounds, IsMade};
 
 use crate::faults::SiteFault;
 use crate::pass::Pass;
@@ -12,7 +14,7 @@ use crate::site::Site;
 use crate::site_builder::SiteBuilder;
 use std::alloc::{AllocError, Global};
 use zq_dots::{Rule, SiteNo};
-use zq_journal::Book;
+use zq_journal::{Book, TailLimits};
 use zq_posheap::Seeded;
 use zq_shard::Shard;
 
@@ -29,23 +31,34 @@ fn are_in_bounds(heaps: usize, passes: usize) -> bool
     LEAST_HEAPS <= heaps && heaps <= MOST_HEAPS && 1 <= passes && passes <= MOST_PASSES
 }
 
-/// The books of so many heaps in which nothing was done.
+/// The books of so many heaps in which nothing was done, whose tails have these limits.
 fn empty_books(
     alloc: Global,
     heaps: u8,
     rule: Rule,
     hasher: Seeded,
+    limits: TailLimits,
 ) -> Result<Vec<Book>, AllocError>
     requires heaps { IsHeaps heaps }
-    ensures { IfOk result (λ books. AreEmptyBooks heaps (rule_of rule) books.items) }
+    ensures { IfOk result
+        (λ books. AreEmptyWithin (limits_of limits) heaps (rule_of rule) books.items) }
 {
     let mut books = Vec::new(alloc);
     for heap in 0..heaps {
         let shard = Shard::new_ruled(alloc, heap, heaps, rule, hasher);
-        let book = Book::new(alloc, shard);
+        let book = empty_book(alloc, shard, limits);
         books.push(book)?;
     }
     Ok(books)
+}
+
+/// The book of this heap, with no records, whose tail has these limits.
+fn empty_book(alloc: Global, shard: Shard, limits: TailLimits) -> Book
+    ensures { result ≡ record (opened shard 0 0) { limits = limits_of limits } }
+{
+    let mut book = Book::new(alloc, shard);
+    book.set_limits(limits);
+    book
 }
 
 impl Site {
@@ -82,10 +95,31 @@ impl Site {
             × AreEmptyBooks heaps (rule_of rule) books
             × IsMade number books passes made.0 made.1.items) }
     {
+        let limits = TailLimits::standard();
+        Site::new_within(alloc, number, heaps, passes, rule, hasher, limits)
+    }
+
+    /// The same, with these limits for the tails of its heaps, in place of the standard ones. They
+    /// decide what is cut from a tail, and so how much a peer may lack that is told the operations
+    /// one by one.
+    pub fn new_within(
+        alloc: Global,
+        number: SiteNo,
+        heaps: u8,
+        passes: usize,
+        rule: Rule,
+        hasher: Seeded,
+        limits: TailLimits,
+    ) -> Result<(Site, Vec<Pass>), SiteFault>
+        ensures bounds { IsErrOf result SiteFault.Bounds ↔ (IsInBounds heaps passes → ⊥) }
+        ensures made { IfOk result (λ made. (books : List Books)
+            × AreEmptyWithin (limits_of limits) heaps (rule_of rule) books
+            × IsMade number books passes made.0 made.1.items) }
+    {
         if !are_in_bounds(usize::from(heaps), passes) {
             return Err(SiteFault::Bounds);
         }
-        let Ok(books) = empty_books(alloc, heaps, rule, hasher) else {
+        let Ok(books) = empty_books(alloc, heaps, rule, hasher, limits) else {
             return Err(SiteFault::NoMemory);
         };
         match Site::of_books(alloc, number, books, passes) {

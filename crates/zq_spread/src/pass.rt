@@ -6,8 +6,8 @@ use crate::locked_heap::LockedHeap;
 use zq_tally::Count;
 use zq_ticketlock::Seat;
 
-/// A thread's seat at the lock of each heap of a site, how many records and merges it has made in
-/// each, and the stamp of its latest call. It is used with the site that made it.
+/// A thread's seat at the lock of each heap of a site, how many steps it has made in each, and the
+/// stamp of its latest call. It is used with the site that made it.
 #[derive(Drop)]
 pub struct Pass {
     // A seat and a count are out while a call works in their heap.
@@ -17,7 +17,7 @@ pub struct Pass {
 }
 
 impl Pass {
-    /// How many records and merges its calls have made in a heap.
+    /// How many steps its calls have made in a heap.
     pub fn steps(&self, heap: u8) -> u64
         ensures { result ≡ steps_at self.now heap }
     {

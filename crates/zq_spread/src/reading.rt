@@ -1,7 +1,7 @@
 //! What a site shows of a heap.
 ghost use Rattle.std.specs.Prelude.{◌≡◌, ◌<◌, ◌⊎◌, ◌∷◌, [], IfOk, IsErrOf, OnErr};
 ghost use Rattle.zq_model.specs.Sets.{IsHeaps};
-ghost use Rattle.zq_spread.specs.Answers.{IsAsked, IsCopied, IsShown, IsSince};
+ghost use Rattle.zq_spread.specs.Answers.{IsAsked, IsCopied, IsDrained, IsShown, IsSince};
 ghost use Rattle.zq_spread.specs.Calls.{HasSeenBook, IsCall, heaps_of};
 ghost use Rattle.zq_spread.specs.Passes.{IsPassOf};
 ghost use Rattle.zq_spread.specs.Worn.{IsWornIn};
@@ -112,6 +112,39 @@ impl Site {
             return Err(ReadFault::Worn);
         };
         let since = held.value().since(alloc, vector);
+        self.end_in(pass, heap, held, stamp);
+        since
+    }
+
+    /// Gives a log of this vector the oldest operations that it lacks of a heap, at most so many, and
+    /// tells the heap's book that all before the oldest of them was handed on: a cut takes that alone.
+    /// `TooOld` exactly where the vector does not cover that of the book's base: then the book is told
+    /// nothing.
+    ///
+    /// `Worn` where the heap's lock or the stamp is at its last value, and then no image, book or
+    /// stamp has changed. Else `NoMemory` where a growth was refused: then the call stands at its
+    /// stamp, and has made no step.
+    pub fn drain<R: Wait>(
+        &self,
+        rt: &R,
+        alloc: Global,
+        pass: &mut Pass,
+        heap: u8,
+        vector: &Vector,
+        most: usize,
+    ) -> Result<Since, ReadFault>
+        requires pass { IsPassOf self.now pass.old }
+        requires heap { heap < heaps_of self.now }
+        ensures pass { IsPassOf self.now pass.new }
+        ensures called { IsCall (IsDrained pass.new.stamp vector.now most result) pass.old pass.new
+            (heap ∷ [])
+            ⊎ (IsErrOf result ReadFault.Worn × IsWornIn (heap ∷ []) pass.old pass.new) }
+    {
+        let heap = usize::from(heap);
+        let Ok((mut held, stamp)) = self.begin_in(rt, pass, heap) else {
+            return Err(ReadFault::Worn);
+        };
+        let since = held.value_mut().drain(alloc, stamp, vector, most);
         self.end_in(pass, heap, held, stamp);
         since
     }

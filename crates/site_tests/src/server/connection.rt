@@ -6,7 +6,7 @@ use std::alloc::{AllocError, Global};
 use std::sync::Wait;
 use std::test::Fail;
 use zq_resp::{Reply, Request, Text};
-use zq_session::{Answers, Connection, Passing};
+use zq_session::{Answers, Connection, Passing, SitePass};
 use zq_spread::Draws;
 
 // Answers PONG to every request.
@@ -273,7 +273,8 @@ fn written_by_a_pass<R: Wait>(rt: &R, alloc: Global) -> Result<(Vec<u8>, Vec<u8>
     let (site, passes) = opened(alloc, 1)?;
     let mut written = (Vec::new(alloc), Vec::new(alloc));
     for pass in passes {
-        let mut server = Passing::new(rt, &site, pass, Draws::new(1));
+        let mut own = SitePass::new(&site, pass);
+        let mut server = Passing::new(rt, &mut own, Draws::new(1));
         written = written_in_turn(alloc, &mut server)?;
     }
     Ok(written)

@@ -6,7 +6,7 @@ use std::alloc::Global;
 use std::process::Abort;
 use std::sync::Wait;
 use std::test::Fail;
-use zq_session::{Answers, Passing, Plain};
+use zq_session::{Answers, Passing, Plain, SitePass};
 use zq_spread::Draws;
 
 /// A request, and its reply. The member stands in the place of each `@`, as a bulk string in a
@@ -86,7 +86,8 @@ fn follow<A: Answers>(
 fn follow_site<R: Wait + Abort>(rt: &R, alloc: Global) -> Result<(), Fail> {
     let (site, passes) = opened(alloc, 1)?;
     for pass in passes {
-        let mut server = Passing::new(rt, &site, pass, Draws::new(1));
+        let mut own = SitePass::new(&site, pass);
+        let mut server = Passing::new(rt, &mut own, Draws::new(1));
         follow(rt, alloc, &mut server, &LENGTHS, &LINES)?;
     }
     Ok(())

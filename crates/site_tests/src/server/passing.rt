@@ -8,7 +8,7 @@ use std::alloc::Global;
 use std::sync::Wait;
 use std::test::Fail;
 use zq_dots::SiteNo;
-use zq_session::Passing;
+use zq_session::{Passing, SitePass};
 use zq_spread::{Draws, Pass, Site};
 
 /// Site 0 of two heaps, with so many passes.
@@ -35,7 +35,8 @@ fn answered_by_two<R: Wait>(rt: &R, alloc: Global, requests: [&[u8]; 2]) -> Resu
         let [request, others @ ..] = rest else {
             break;
         };
-        let mut server = Passing::new(rt, &site, pass, Draws::new(1));
+        let mut own = SitePass::new(&site, pass);
+        let mut server = Passing::new(rt, &mut own, Draws::new(1));
         all.extend_from_slice(&answered(alloc, &mut server, request)?)?;
         rest = others;
     }

@@ -13,7 +13,13 @@ use zq_journal::Since;
 use zq_spread::{Pass, Site};
 
 /// Puts the member a at this score.
-fn put<R: Wait>(rt: &R, alloc: Global, site: &Site, pass: &mut Pass, score: u64) -> Option<Vec<u8>>
+pub(super) fn put<R: Wait>(
+    rt: &R,
+    alloc: Global,
+    site: &Site,
+    pass: &mut Pass,
+    score: u64,
+) -> Option<Vec<u8>>
     requires { IsPassOf site.now pass.old }
     ensures { IsPassOf site.now pass.new }
 {
@@ -53,7 +59,7 @@ fn tail_of(alloc: Global, site: &Site, pass: Pass) -> Option<(usize, bool, Pass)
 
 /// The vector of a peer that has so many operations of site 0.
 #[tactic(auto, unfolding(zq_model::specs::Sets::LAST))]
-fn peer(operations: u64) -> Option<Vector> {
+pub(super) fn peer(operations: u64) -> Option<Vector> {
     if operations > 9999 {
         return None;
     }

@@ -21,7 +21,7 @@ use zq_spread::{Pass, Site};
 const LAST: u64 = 4_611_686_018_427_387_904;
 
 /// A site of this number over this book of heap 0, with two passes. Heap 1 is empty.
-fn opened_over(alloc: Global, number: u8, even: Book) -> Option<(Site, Pass, Pass)>
+pub(super) fn opened_over(alloc: Global, number: u8, even: Book) -> Option<(Site, Pass, Pass)>
     requires { (even.heap ≡ 0) × (even.heaps ≡ 2) × (even.rule ≡ Greatest) }
     ensures heaps { IfSome result (λ made. length made.0.slots.items ≡ 2) }
     ensures first { IfSome result (λ made. IsPassOf made.0 made.1) }

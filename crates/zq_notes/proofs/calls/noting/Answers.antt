@@ -1,4 +1,4 @@
-use Rattle.zq_notes.proofs.Noted.{calls, copies, merges, shows, takes, tells}
+use Rattle.zq_notes.proofs.Noted.{calls, copies, drains, merges, shows, takes, tells}
 use Rattle.zq_notes.proofs.calls.noting.Goals as goal
 
 pub returns-clause-calls : goal.returns-clause-calls
@@ -12,6 +12,9 @@ returns-clause-merges c = merges
 
 pub returns-clause-tells : goal.returns-clause-tells
 returns-clause-tells c = tells
+
+pub returns-clause-drains : goal.returns-clause-drains
+returns-clause-drains c = drains
 
 pub returns-clause-copies : goal.returns-clause-copies
 returns-clause-copies c = copies

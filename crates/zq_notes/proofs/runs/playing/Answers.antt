@@ -3,5 +3,5 @@ use Rattle.zq_notes.proofs.runs.playing.Goals as goal
 
 pub returns : goal.returns
 returns c = record {
-  plays = λ rule K count sites events are runnable. plays rule K count runnable.two c.naming.ensures.score sites events are runnable;
+  plays = λ limits rule K count sites events are runnable. plays limits rule K count runnable.two c.naming.ensures.score sites events are runnable;
 }
