@@ -1,6 +1,9 @@
-//! Tests of frames: their parts, operations, states, the frames of links, and links that fail.
+//! Tests of frames: their parts, operations, states, the frames of links, control frames, and links
+//! that fail.
 #![tactic(auto)]
 
+#[cfg(test)]
+mod controls;
 #[cfg(test)]
 mod delta;
 #[cfg(test)]

@@ -1,19 +1,20 @@
-//! Site 1 of four heaps and the rule Low hears what others say.
+//! Site 1 of four heaps and the rule Low hears what others say in the old form.
 
+use crate::greeting_side::{KEY, NONCE_1, PROVED_1, old_side, site};
 use std::alloc::Global;
 use std::io;
 use std::io::Read;
 use std::test::Fail;
-use zq_dots::{Rule, SiteNo};
+use zq_dots::SiteNo;
 use zq_wire::{
-    NONCE, Opening, Refusal, Secret, Side, Unopened, hear_opening, open_over, write_greeting,
+    Form, Opening, Refusal, Secret, Side, Unopened, Versions, accept_over, dial_over, hear_opening,
+    write_greeting,
 };
 
-const KEY: &[u8] = b"sixteen letters!";
+// What sites 1 and 2 greet with, of whom site 2 has the nonce f0 to ff, and the answers that they
+// then owe.
+const PLAIN_1: &[u8] = b"zq-peer\n\x01\x01\x04\x01\x00";
 
-const NONCE_1: [u8; NONCE] = [0, 1, 2, 3, 4, 5, 6, 7, 8, 9, 10, 11, 12, 13, 14, 15];
-
-// What site 2 greets with, whose nonce is f0 to ff, and the answers that sites 1 and 2 then owe.
 const PLAIN_2: &[u8] = b"zq-peer\n\x01\x02\x04\x01\x00";
 
 const PROVED_2: &[u8] =
@@ -25,10 +26,6 @@ const OWED_1: &[u8; 32] =
 const OWED_2: &[u8; 32] =
     b"\x5a\xcc\xd1\xdf\xc3\x69\x37\xc4\x34\xec\x06\x72\xea\x51\x70\x74\x69\x90\x7e\x03\x60\xdc\x14\x5c\xfc\x20\x4f\x5c\xa7\xfc\x99\xaa";
 
-fn site(number: u8) -> Result<SiteNo, &'static str> {
-    SiteNo::new(number).ok_or("a site")
-}
-
 /// Hears with this secret, as a site that expects these peers.
 fn hear_closed<'a>(
     own: SiteNo,
@@ -36,36 +33,21 @@ fn hear_closed<'a>(
     key: &'a [u8],
     heard: &[u8],
 ) -> Result<Opening, Refusal> {
-    let side = Side {
-        site: own,
-        heaps: 4,
-        rule: Rule::Low,
-        peers,
-        secret: Some(Secret {
-            key,
-            nonce: NONCE_1,
-        }),
+    let secret = Secret {
+        key,
+        nonce: NONCE_1,
     };
-    hear_opening(&side, heard)
+    hear_opening(&old_side(own, peers, Some(secret)), PROVED_1, heard)
 }
 
 #[test]
 fn greetings_are_written(rt: HostRuntime) -> Result<(), Fail> {
-    let key = *b"sixteen letters!";
-    let open = Side {
-        site: site(1)?,
-        heaps: 4,
-        rule: Rule::Low,
-        peers: &[],
-        secret: None,
+    let open = old_side(site(1)?, &[], None);
+    let secret = Secret {
+        key: KEY,
+        nonce: NONCE_1,
     };
-    let closed = Side {
-        secret: Some(Secret {
-            key: &key,
-            nonce: NONCE_1,
-        }),
-        ..open
-    };
+    let closed = old_side(site(1)?, &[], Some(secret));
     let mut out = Vec::new(rt.alloc());
     write_greeting(&mut out, &open)?;
     assert_eq!(rt; out.as_slice(), b"zq-peer\n\x01\x01\x04\x01\x00".as_slice());
@@ -80,25 +62,21 @@ fn greetings_are_written(rt: HostRuntime) -> Result<(), Fail> {
 #[test]
 fn a_peer_without_a_secret_is_welcome(rt: HostRuntime) -> Result<(), Fail> {
     let peers = [site(5)?, site(2)?];
-    let side = Side {
-        site: site(1)?,
-        heaps: 4,
-        rule: Rule::Low,
-        peers: &peers,
-        secret: None,
-    };
+    let side = old_side(site(1)?, &peers, None);
     for len in 0..PLAIN_2.len() {
         let heard = &PLAIN_2[..len];
-        assert_eq!(rt; hear_opening(&side, heard), Ok(Opening::Waits));
+        assert_eq!(rt; hear_opening(&side, PLAIN_1, heard), Ok(Opening::Waits));
     }
     let welcome = Opening::Welcome {
         peer: site(2)?,
+        version: 1,
+        run: None,
         answer: None,
         used: 13,
     };
-    assert_eq!(rt; hear_opening(&side, PLAIN_2), Ok(welcome));
+    assert_eq!(rt; hear_opening(&side, PLAIN_1, PLAIN_2), Ok(welcome));
     let with_frames = b"zq-peer\n\x01\x02\x04\x01\x00frames";
-    assert_eq!(rt; hear_opening(&side, with_frames), Ok(welcome));
+    assert_eq!(rt; hear_opening(&side, PLAIN_1, with_frames), Ok(welcome));
     Ok(())
 }
 
@@ -116,6 +94,8 @@ fn a_peer_with_the_secret_is_welcome(rt: HostRuntime) -> Result<(), Fail> {
     }
     let welcome = Opening::Welcome {
         peer: site(2)?,
+        version: 1,
+        run: None,
         answer: Some(*OWED_1),
         used: 61,
     };
@@ -139,7 +119,7 @@ fn an_answer_that_is_sent_back_is_wrong(rt: HostRuntime) -> Result<(), Fail> {
 
 #[test]
 fn the_first_thing_that_does_not_agree_is_named(rt: HostRuntime) -> Result<(), Fail> {
-    let refusals: [(&[u8], Refusal, &str); 8] = [
+    let refusals: [(&[u8], Refusal, &str); 10] = [
         (
             b"GET / HTTP/1.1\r\n",
             Refusal::Magic,
@@ -147,8 +127,36 @@ fn the_first_thing_that_does_not_agree_is_named(rt: HostRuntime) -> Result<(), F
         ),
         (
             b"zq-peer\n\x02\x01",
-            Refusal::Version(2),
-            "it speaks version 2 of the protocol",
+            Refusal::Version {
+                heard: Versions {
+                    lowest: 2,
+                    highest: 2,
+                },
+                own: Versions {
+                    lowest: 1,
+                    highest: 2,
+                },
+            },
+            "it speaks version 2 of the protocol, and this site versions 1 to 2",
+        ),
+        (
+            b"zq-peer\n\x00\x03\x05",
+            Refusal::Version {
+                heard: Versions {
+                    lowest: 3,
+                    highest: 5,
+                },
+                own: Versions {
+                    lowest: 1,
+                    highest: 2,
+                },
+            },
+            "it speaks versions 3 to 5 of the protocol, and this site versions 1 to 2",
+        ),
+        (
+            b"zq-peer\n\x00\x01\x02",
+            Refusal::Form(Form::New),
+            "it greets in the new form",
         ),
         (
             b"zq-peer\n\x01\x01",
@@ -182,15 +190,9 @@ fn the_first_thing_that_does_not_agree_is_named(rt: HostRuntime) -> Result<(), F
         ),
     ];
     let peers = [site(2)?];
-    let side = Side {
-        site: site(1)?,
-        heaps: 4,
-        rule: Rule::Low,
-        peers: &peers,
-        secret: None,
-    };
+    let side = old_side(site(1)?, &peers, None);
     for (heard, refusal, words) in &refusals {
-        assert_eq!(rt; hear_opening(&side, heard), Err(*refusal));
+        assert_eq!(rt; hear_opening(&side, PLAIN_1, heard), Err(*refusal));
         let said = format!(in rt.alloc(); "{refusal}")?;
         assert_eq!(rt; said.as_str(), *words);
     }
@@ -228,28 +230,31 @@ impl Read for Drip<'_> {
     }
 }
 
-/// What site 1 of this secret makes of a peer whose bytes come so many at once, and what it writes.
+/// What site 1 makes of a peer whose bytes come so many at once, and what it writes.
 fn opened_by(
     alloc: Global,
+    dials: bool,
     key: &[u8],
     rest: &[u8],
     most: usize,
 ) -> Result<(Result<Vec<u8>, Unopened>, Vec<u8>), Fail> {
     let peers = [site(2)?];
-    let side = Side {
-        site: site(1)?,
-        heaps: 4,
-        rule: Rule::Low,
-        peers: &peers,
-        secret: Some(Secret {
-            key,
-            nonce: NONCE_1,
-        }),
+    let secret = Secret {
+        key,
+        nonce: NONCE_1,
     };
+    let side = old_side(site(1)?, &peers, Some(secret));
     let mut written = Vec::new(alloc);
     let mut drip = Drip { rest, most };
-    match open_over(alloc, &side, &mut drip, &mut written) {
-        Ok(opened) if opened.peer == site(2)? => Ok((Ok(opened.first), written)),
+    let opened = if dials {
+        dial_over(alloc, &side, &mut drip, &mut written)
+    } else {
+        accept_over(alloc, &side, &mut drip, &mut written)
+    };
+    match opened {
+        Ok(opened) if opened.peer == site(2)? && opened.version == 1 && opened.run.is_none() => {
+            Ok((Ok(opened.first), written))
+        }
         Ok(_) => Err("another peer".into()),
         Err(why) => Ok((Err(why), written)),
     }
@@ -281,12 +286,14 @@ fn the_answer_is_written_once_however_the_peer_is_cut(rt: HostRuntime) -> Result
         ),
     ];
     for (rest, most, want, write) in rows {
-        let (opened, written) = opened_by(rt.alloc(), KEY, rest, most)?;
-        assert_eq!(rt; written.as_slice(), write);
-        match (opened, want) {
-            (Ok(first), Ok(left)) => assert_eq!(rt; first.as_slice(), left),
-            (Err(why), Err(wanted)) => assert_eq!(rt; why, wanted),
-            _ => return Err("welcome, and not".into()),
+        for dials in [true, false] {
+            let (opened, written) = opened_by(rt.alloc(), dials, KEY, rest, most)?;
+            assert_eq!(rt; written.as_slice(), write);
+            match (opened, want) {
+                (Ok(first), Ok(left)) => assert_eq!(rt; first.as_slice(), left),
+                (Err(why), Err(wanted)) => assert_eq!(rt; why, wanted),
+                _ => return Err("welcome, and not".into()),
+            }
         }
     }
     Ok(())

@@ -7,6 +7,10 @@ mod fields;
 #[cfg(test)]
 mod greet;
 #[cfg(test)]
+mod greet_new;
+#[cfg(test)]
+mod greeting_side;
+#[cfg(test)]
 mod mac;
 #[cfg(test)]
 mod outbox;

@@ -6,3 +6,4 @@ mod Repeated
 mod Taken
 mod Same
 mod Topics
+mod ControlAgain

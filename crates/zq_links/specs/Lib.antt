@@ -10,3 +10,8 @@ pub mod Have
 pub mod Reading
 pub mod Answer
 pub mod About
+pub mod Control
+pub mod ControlKind
+pub mod ControlSpelling
+pub mod ControlParts
+pub mod ControlReading

@@ -9,7 +9,7 @@ use Rattle.toml.specs.View.{items_of}
 use Rattle.zq_settings.specs.Breaks.{HasUnknown, IsOfOtherKind, IsOutOfRange, IsOutside}
 use Rattle.zq_settings.specs.Keys.{is_known}
 use Rattle.zq_settings.specs.Numbers.{within}
-use Rattle.zq_settings.specs.Settings.{◌>>=◌, whole_of, number_of, required_of, limit_of, connections_of, rule_of, rule_named, client_limits_of, common_of, count_of, known_keys, unless_unknown}
+use Rattle.zq_settings.specs.Settings.{◌>>=◌, whole_of, number_of, required_of, limit_of, connections_of, rule_of, rule_named, seed_of, client_limits_of, common_of, count_of, known_keys, unless_unknown}
 use Rattle.zq_settings.specs.Tables.{names_in, value_at, first_unknown}
 use Rattle.zq_settings.specs.declared.form.Form.{Form}
 use Rattle.zq_settings.specs.declared.key.Key.{Key}
@@ -64,6 +64,9 @@ pub required_fault : (table : Members) (key : Key) (least most : ℕ) (kind : (d
 required_fault table key least most kind range why None seen h = let same : why ≡ Missing key = cc in inl (same, seen)
 required_fault table key least most kind range why (Some d) seen h = inr (value_fault table key least most kind range why d seen h)
 
+pub seed_fault : (table : Members) (why : Why) → seed_of (value_at key.Seed table) ≡ Err why → HasFault key.Seed table why
+seed_fault table why h = number_fault table key.Seed 0 9223372036854775807 1 (λ d none. none) (λ d out. out) why _ refl h
+
 limit_fault : (table : Members) (why : Why) → connections_of (value_at key.Connections table) ≡ Err why → HasFault key.Connections table why
 limit_fault table why h =
     elim (both_err (number_of key.Connections 0 1000000 0 (value_at key.Connections table)) (λ count. Ok (limit_of count)) why h) [
@@ -71,7 +74,7 @@ limit_fault table why h =
       | inr none ↦ let (count, is, wrong) = none in let never : Ok (limit_of count) ≡ Err why = wrong in cc
     ]
 
-rule_fault : (table : Members) (why : Why) (value : Option Data) → value_at key.Rule table ≡ value → rule_of value ≡ Err why → HasFault key.Rule table why
+pub rule_fault : (table : Members) (why : Why) (value : Option Data) → value_at key.Rule table ≡ value → rule_of value ≡ Err why → HasFault key.Rule table why
 rule_fault table why None seen h = cc
 rule_fault table why (Some d) seen h =
     elim (both_err (ok_or (as_str d) (Kind key.Rule)) (λ word. ok_or (rule_named word) (Range key.Rule)) why h) [
@@ -94,17 +97,14 @@ client_limits_fault table why P of_clients of_timeout of_write_timeout of_output
     by_steps (number_of key.Output 1048576 1099511627776 268435456 (value_at key.Output table)) _ why P
     (λ h. of_output (number_fault table key.Output 1048576 1099511627776 268435456 (λ d none. none) (λ d out. out) why _ refl h)) (λ output _ wrong. cc))))
 
--- what all settings have
+-- what all settings have, from heaps to output
 pub common_fault : (table : Members) (why : Why) (P : Type 0) → (HasFault key.Heaps table why → P) → (HasFault key.Workers table why → P) → (HasFault key.Connections table why → P)
-    → (HasFault key.Clients table why → P) → (HasFault key.Timeout table why → P) → (HasFault key.WriteTimeout table why → P) → (HasFault key.Output table why → P)
-    → (HasFault key.Seed table why → P) → (HasFault key.Rule table why → P) → common_of table ≡ Err why → P
-common_fault table why P of_heaps of_workers of_connections of_clients of_timeout of_write_timeout of_output of_seed of_rule =
+    → (HasFault key.Clients table why → P) → (HasFault key.Timeout table why → P) → (HasFault key.WriteTimeout table why → P) → (HasFault key.Output table why → P) → common_of table ≡ Err why → P
+common_fault table why P of_heaps of_workers of_connections of_clients of_timeout of_write_timeout of_output =
     by_steps (number_of key.Heaps 2 16 4 (value_at key.Heaps table)) _ why P (λ h. of_heaps (number_fault table key.Heaps 2 16 4 (λ d none. none) (λ d out. out) why _ refl h)) (λ heaps _.
     by_steps (number_of key.Workers 1 64 4 (value_at key.Workers table)) _ why P (λ h. of_workers (number_fault table key.Workers 1 64 4 (λ d none. none) (λ d out. out) why _ refl h)) (λ workers _.
     by_steps (connections_of (value_at key.Connections table)) _ why P (λ h. of_connections (limit_fault table why h)) (λ connections _.
-    by_steps (client_limits_of table) _ why P (client_limits_fault table why P of_clients of_timeout of_write_timeout of_output) (λ limits _.
-    by_steps (number_of key.Seed 0 9223372036854775807 1 (value_at key.Seed table)) _ why P (λ h. of_seed (number_fault table key.Seed 0 9223372036854775807 1 (λ d none. none) (λ d out. out) why _ refl h)) (λ seed _.
-    by_steps (rule_of (value_at key.Rule table)) _ why P (λ h. of_rule (rule_fault table why _ refl h)) (λ rule _ wrong. cc))))))
+    by_steps (client_limits_of table) _ why P (client_limits_fault table why P of_clients of_timeout of_write_timeout of_output) (λ limits _ wrong. cc))))
 
 -- an unknown key
 unknown_at : (form : Form) (names : List (List ℕ)) (name : List ℕ) → find (λ n. not (is_known form n)) names ≡ Some name → (before : List (List ℕ)) × (others : List (List ℕ)) × (names ≡ before ++ name ∷ others) × (is_known form name ≡ false)

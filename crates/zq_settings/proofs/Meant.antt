@@ -8,8 +8,8 @@ use Rattle.std.proofs.lemmas.List.Elements.{All-nil, All-cons, All-head, All-tai
 use Rattle.std.specs.List.{All, find}
 use Rattle.toml.specs.Data.{Members}
 use Rattle.zq_settings.specs.Keys.{is_known}
-use Rattle.zq_settings.specs.Rules.{AreClientLimits, IsLimit, IsNumber, IsRule, IsSettings, SettingsAreOfTheTable}
-use Rattle.zq_settings.specs.Settings.{number_of, connections_of, rule_of, client_limits_of, common_of, ports_of, known_keys, unless_unknown, settings_of}
+use Rattle.zq_settings.specs.Rules.{AreClientLimits, IsLimit, IsNumber, IsSettings, SettingsAreOfTheTable}
+use Rattle.zq_settings.specs.Settings.{number_of, connections_of, rule_of, seed_of, client_limits_of, common_of, ports_of, known_keys, unless_unknown, settings_of}
 use Rattle.zq_settings.specs.Tables.{names_in, value_at, first_unknown}
 use Rattle.zq_settings.specs.declared.form.Form.{Form}
 use Rattle.zq_settings.specs.declared.form.Form.TheVariants as form
@@ -65,14 +65,12 @@ client_limits_from table limits are =
       number_from key.Output 1048576 1099511627776 268435456 limits.output _ are.output,
     )
 
--- what all settings have
+-- what all settings have, from heaps to output
 pub record IsCommon (table : Members) (common : Common) : Type 0 where
   pub heaps : IsNumber 2 16 4 (value_at key.Heaps table) common.heaps
   pub workers : IsNumber 1 64 4 (value_at key.Workers table) common.workers
   pub connections : IsLimit (value_at key.Connections table) common.connections
   pub limits : AreClientLimits table common.limits
-  pub seed : IsNumber 0 9223372036854775807 1 (value_at key.Seed table) common.seed
-  pub rule : IsRule (value_at key.Rule table) common.rule
 
 pub common_since : (table : Members) (common : Common) → common_of table ≡ Ok common → IsCommon table common
 common_since table common h =
@@ -80,16 +78,12 @@ common_since table common h =
     let (workers, workers_read, h3) = both_ok (number_of _ 1 64 4 (value_at key.Workers table)) _ common h2 in
     let (limit, limit_read, h4) = both_ok (connections_of (value_at key.Connections table)) _ common h3 in
     let (limits, limits_read, h5) = both_ok (client_limits_of table) _ common h4 in
-    let (seed, seed_read, h6) = both_ok (number_of _ 0 9223372036854775807 1 (value_at key.Seed table)) _ common h5 in
-    let (rule, rule_read, h7) = both_ok (rule_of (value_at key.Rule table)) _ common h6 in
-    let whole : record { heaps = heaps; workers = workers; connections = limit; limits = limits; seed = seed; rule = rule } ≡ common = cc in
+    let whole : record { heaps = heaps; workers = workers; connections = limit; limits = limits } ≡ common = cc in
     rw (← whole) (record {
       heaps = number_since _ 2 16 4 heaps _ heaps_read;
       workers = number_since _ 1 64 4 workers _ workers_read;
       connections = limit_since limit _ limit_read;
       limits = client_limits_since table limits limits_read;
-      seed = number_since _ 0 9223372036854775807 1 seed _ seed_read;
-      rule = rule_since rule _ rule_read;
     })
 
 pub common_from : (table : Members) (common : Common) → IsCommon table common → common_of table ≡ Ok common
@@ -99,8 +93,6 @@ common_from table common is =
       number_from key.Workers 1 64 4 common.workers _ is.workers,
       limit_from common.connections _ is.connections,
       client_limits_from table common.limits is.limits,
-      number_from key.Seed 0 9223372036854775807 1 common.seed _ is.seed,
-      rule_from common.rule _ is.rule,
     )
 
 pub settings_since : (table : Members) (settings : Settings) → settings_of table ≡ Ok settings → IsSettings table settings
@@ -108,7 +100,9 @@ settings_since table settings h =
     let (known, is_known_read, h1) = both_ok (known_keys form.Sites table) _ settings h in
     let (ports, ports_read, h2) = both_ok (ports_of (value_at key.Ports table)) _ settings h1 in
     let (common, common_read, h3) = both_ok (common_of table) _ settings h2 in
-    let whole : record { ports = ports; heaps = common.heaps; workers = common.workers; connections = common.connections; limits = common.limits; seed = common.seed; rule = common.rule } ≡ settings = cc in
+    let (seed, seed_read, h4) = both_ok (seed_of (value_at key.Seed table)) _ settings h3 in
+    let (rule, rule_read, h5) = both_ok (rule_of (value_at key.Rule table)) _ settings h4 in
+    let whole : record { ports = ports; heaps = common.heaps; workers = common.workers; connections = common.connections; limits = common.limits; seed = seed; rule = rule } ≡ settings = cc in
     let is = common_since table common common_read in
     rw (← whole) (record {
       known = known_since form.Sites table known is_known_read;
@@ -117,15 +111,21 @@ settings_since table settings h =
       workers = is.workers;
       connections = is.connections;
       limits = is.limits;
-      seed = is.seed;
-      rule = is.rule;
+      seed = number_since _ 0 9223372036854775807 1 seed _ seed_read;
+      rule = rule_since rule _ rule_read;
     })
 
 pub settings_from : (table : Members) (settings : Settings) → IsSettings table settings → settings_of table ≡ Ok settings
 settings_from table settings is =
-    let common : Common = record { heaps = settings.heaps; workers = settings.workers; connections = settings.connections; limits = settings.limits; seed = settings.seed; rule = settings.rule } in
-    let is_common : IsCommon table common = record { heaps = is.heaps; workers = is.workers; connections = is.connections; limits = is.limits; seed = is.seed; rule = is.rule } in
-    rw (known_from form.Sites table is.known, ports_from settings.ports _ is.ports, common_from table common is_common)
+    let common : Common = record { heaps = settings.heaps; workers = settings.workers; connections = settings.connections; limits = settings.limits } in
+    let is_common : IsCommon table common = record { heaps = is.heaps; workers = is.workers; connections = is.connections; limits = is.limits } in
+    rw (
+      known_from form.Sites table is.known,
+      ports_from settings.ports _ is.ports,
+      common_from table common is_common,
+      number_from key.Seed 0 9223372036854775807 1 settings.seed _ is.seed,
+      rule_from settings.rule _ is.rule,
+    )
 
 pub settings_are_of_the_table : SettingsAreOfTheTable
 settings_are_of_the_table table settings = (settings_since table settings, settings_from table settings)

@@ -1,6 +1,6 @@
 -- A table is refused as the settings of one site for a rule that it breaks.
 use Rattle.zq_settings.proofs.Broken.{repeated}
-use Rattle.zq_settings.proofs.Faults.{HasFault, by_steps, common_fault, count_listed, listed, required_fault, unknown_fault}
+use Rattle.zq_settings.proofs.Faults.{HasFault, by_steps, common_fault, count_listed, listed, number_fault, required_fault, rule_fault, seed_fault, unknown_fault}
 use Rattle.zq_settings.proofs.MeantAddresses.{secret_since}
 use Rattle.zq_settings.proofs.MeantNumbers.{required_since}
 use Rattle.zq_settings.proofs.MeantPeers.{each_since, peer_since}
@@ -16,8 +16,8 @@ use Rattle.zq_settings.specs.Addresses.{address_of, ip_of, is_local}
 use Rattle.zq_settings.specs.Breaks.{HasUnknown, IsNoAddress, IsOfOtherKind, IsOutOfRange, IsText}
 use Rattle.zq_settings.specs.Peers.{sites_of}
 use Rattle.zq_settings.specs.Ports.{first_twice}
-use Rattle.zq_settings.specs.Settings.{common_of, count_of, each, known_keys, required_of, site_of}
-use Rattle.zq_settings.specs.Site.{address_at, apart, bind_of, peer_at, peer_of, peers_in, peers_of, secret_of, unless_exposed, unless_met, unless_own, unless_short}
+use Rattle.zq_settings.specs.Settings.{common_of, count_of, each, known_keys, required_of, rule_of, seed_of, site_of}
+use Rattle.zq_settings.specs.Site.{address_at, apart, bind_of, link_backlog_of, peer_at, peer_of, peers_in, peers_of, secret_of, unless_exposed, unless_met, unless_own, unless_short}
 use Rattle.zq_settings.specs.SiteBreaks.{EachRefusalOfASiteIsOfABrokenRule, HasKey, HasPeer, HasTwice, IsExposed, SiteBreaks}
 use Rattle.zq_settings.specs.SiteRules.{AreEach, IsLoopback, IsPeer}
 use Rattle.zq_settings.specs.Tables.{value_at}
@@ -248,5 +248,8 @@ each_refusal_of_a_site_is_of_a_broken_rule table why =
     by_steps (common_of table) _ why P
     (common_fault table why P (fault_breaks table table key.Heaps (λ Q q. q) why) (fault_breaks table table key.Workers (λ Q q. q) why) (fault_breaks table table key.Connections (λ Q q. q) why)
     (fault_breaks table table key.Clients (λ Q q. q) why) (fault_breaks table table key.Timeout (λ Q q. q) why) (fault_breaks table table key.WriteTimeout (λ Q q. q) why)
-    (fault_breaks table table key.Output (λ Q q. q) why) (fault_breaks table table key.Seed (λ Q q. q) why) (fault_breaks table table key.Rule (λ Q q. q) why))
-    (λ common _ wrong. cc))))))))
+    (fault_breaks table table key.Output (λ Q q. q) why)) (λ common _.
+    by_steps (link_backlog_of (value_at key.LinkBacklog table)) _ why P
+    (λ h. fault_breaks table table key.LinkBacklog (λ Q q. q) why (number_fault table key.LinkBacklog 1048576 1099511627776 67108864 (λ d none. none) (λ d out. out) why _ refl h)) (λ link_backlog _.
+    by_steps (seed_of (value_at key.Seed table)) _ why P (λ h. fault_breaks table table key.Seed (λ Q q. q) why (seed_fault table why h)) (λ seed _.
+    by_steps (rule_of (value_at key.Rule table)) _ why P (λ h. fault_breaks table table key.Rule (λ Q q. q) why (rule_fault table why _ refl h)) (λ rule _ wrong. cc)))))))))))

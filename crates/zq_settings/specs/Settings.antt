@@ -57,6 +57,10 @@ abbrev pub rule_named : List ℕ → Option Rule
 rule_named word = if bytes_eq word (codes "HIGH") then Some High else if bytes_eq word
     (codes "LOW") then Some Low else None
 
+-- what draws are made with, and 1 where there is no value
+abbrev pub seed_of : Option Data → Result ℕ Why
+seed_of value = number_of key.Seed 0 9223372036854775807 1 value
+
 -- a rule by its name, and High where there is no value
 abbrev pub rule_of : Option Data → Result Rule Why
 rule_of None = Ok High
@@ -72,16 +76,14 @@ client_limits_of table =
     number_of key.Output 1048576 1099511627776 268435456 (value_at key.Output table) >>= (λ output.
     Ok (record { clients = clients; timeout = timeout; write_timeout = write_timeout; output = output })))))
 
--- what all settings have
+-- what all settings have, from heaps to output
 abbrev pub common_of : Members → Result Common Why
 common_of table =
     number_of key.Heaps 2 16 4 (value_at key.Heaps table) >>= (λ heaps.
     number_of key.Workers 1 64 4 (value_at key.Workers table) >>= (λ workers.
     connections_of (value_at key.Connections table) >>= (λ connections.
     client_limits_of table >>= (λ limits.
-    number_of key.Seed 0 9223372036854775807 1 (value_at key.Seed table) >>= (λ seed.
-    rule_of (value_at key.Rule table) >>= (λ rule.
-    Ok (record { heaps = heaps; workers = workers; connections = connections; limits = limits; seed = seed; rule = rule })))))))
+    Ok (record { heaps = heaps; workers = workers; connections = connections; limits = limits })))))
 
 -- the number of entries of an array
 abbrev pub count_of : Items → ℕ
@@ -133,4 +135,14 @@ settings_of table =
     known_keys form.Sites table >>= (λ known.
     ports_of (value_at key.Ports table) >>= (λ ports.
     common_of table >>= (λ common.
-    Ok (record { ports = ports; heaps = common.heaps; workers = common.workers; connections = common.connections; limits = common.limits; seed = common.seed; rule = common.rule }))))
+    seed_of (value_at key.Seed table) >>= (λ seed.
+    rule_of (value_at key.Rule table) >>= (λ rule.
+    Ok (record {
+      ports = ports;
+      heaps = common.heaps;
+      workers = common.workers;
+      connections = common.connections;
+      limits = common.limits;
+      seed = seed;
+      rule = rule;
+    }))))))

@@ -7,7 +7,7 @@ use Rattle.toml.specs.Data.{Data, Items, Members, as_array, as_str, as_table}
 use Rattle.zq_settings.specs.Addresses.{address_of, ip_of, is_local, localhost}
 use Rattle.zq_settings.specs.Peers.{sites_of}
 use Rattle.zq_settings.specs.Ports.{first_twice}
-use Rattle.zq_settings.specs.Settings.{◌>>=◌, common_of, count_of, each, known_keys, required_of, site_of}
+use Rattle.zq_settings.specs.Settings.{◌>>=◌, common_of, count_of, each, known_keys, number_of, required_of, rule_of, seed_of, site_of}
 use Rattle.zq_settings.specs.Tables.{value_at}
 use Rattle.zq_settings.specs.declared.form.Form.TheVariants as form
 use Rattle.zq_settings.specs.declared.key.Key.{Key}
@@ -84,6 +84,10 @@ peers_of own secured (Some value) = ok_or (as_array value) (Kind key.Peers) >>= 
 abbrev pub if_given : ℕ → Option Data → Option ℕ
 if_given n value = option_map (λ _. n) value
 
+-- how many bytes of operations are kept for peers, and 64 MiB where there is no value
+abbrev pub link_backlog_of : Option Data → Result ℕ Why
+link_backlog_of value = number_of key.LinkBacklog 1048576 1099511627776 67108864 value
+
 -- the values of the keys in turn, in a table with no other key
 abbrev pub site_values_of : Members → Result SiteSettings Why
 site_values_of table =
@@ -94,6 +98,9 @@ site_values_of table =
     address_at (is_some secret) key.Listen (value_at key.Listen table) >>= (λ listen.
     peers_of site (is_some secret) (value_at key.Peers table) >>= (λ peers.
     common_of table >>= (λ common.
+    link_backlog_of (value_at key.LinkBacklog table) >>= (λ link_backlog.
+    seed_of (value_at key.Seed table) >>= (λ seed.
+    rule_of (value_at key.Rule table) >>= (λ rule.
     Ok (record {
       site = site;
       port = port;
@@ -101,13 +108,14 @@ site_values_of table =
       listen = listen;
       peers = peers;
       heaps = common.heaps;
-      rule = common.rule;
+      rule = rule;
       workers = if_given common.workers (value_at key.Workers table);
       connections = common.connections;
       limits = common.limits;
-      seed = common.seed;
+      link_backlog = link_backlog;
+      seed = seed;
       secret = secret;
-    }))))))))
+    })))))))))))
 
 -- the settings that a table has, or the first rule that it breaks
 abbrev pub site_settings_of : Members → Result SiteSettings Why

@@ -83,6 +83,8 @@ pub record IsSiteSettings (table : Members) (settings : SiteSettings) : Type 0 w
   pub workers : AreWorkers (value_at key.Workers table) settings.workers
   pub connections : IsLimit (value_at key.Connections table) settings.connections
   pub limits : AreClientLimits table settings.limits
+  pub link_backlog : IsNumber 1048576 1099511627776 67108864 (value_at key.LinkBacklog table)
+      settings.link_backlog
   pub seed : IsNumber 0 9223372036854775807 1 (value_at key.Seed table) settings.seed
   pub rule : IsRule (value_at key.Rule table) settings.rule
 

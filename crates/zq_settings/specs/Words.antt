@@ -28,6 +28,7 @@ takes_of key.Clients = codes "a whole number from 1 to 1000000"
 takes_of key.Timeout = codes "a whole number from 0 to 1000000"
 takes_of key.WriteTimeout = codes "a whole number from 0 to 1000000"
 takes_of key.Output = codes "a whole number from 1048576 to 1099511627776"
+takes_of key.LinkBacklog = codes "a whole number from 1048576 to 1099511627776"
 takes_of key.Seed = codes "a whole number from 0 to 9223372036854775807"
 takes_of key.Rule = codes "\"HIGH\" or \"LOW\""
 takes_of key.Site = codes "a whole number from 0 to 63"
@@ -44,7 +45,7 @@ abbrev pub keys_text : Form → List ℕ
 keys_text form.Sites =
     codes "settings, which are ports, heaps, workers, connections, clients, timeout, write_timeout, output, seed and rule"
 keys_text form.Site =
-    codes "a site's settings, which are site, port, bind, secret, listen, peers, heaps, workers, connections, clients, timeout, write_timeout, output, seed and rule"
+    codes "a site's settings, which are site, port, bind, secret, listen, peers, heaps, workers, connections, clients, timeout, write_timeout, output, link_backlog, seed and rule"
 keys_text form.Peer = codes "a peer, which are site and address"
 
 -- what is wrong with a key's value, and what the key takes

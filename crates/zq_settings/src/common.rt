@@ -2,13 +2,13 @@
 
 ghost use Rattle.std.specs.Prelude.{◌≡◌};
 ghost use Rattle.toml.specs.View.{table_view};
-ghost use Rattle.zq_settings.specs.Settings.{client_limits_of, common_of, rule_of};
+ghost use Rattle.zq_settings.specs.Settings.{client_limits_of, common_of, rule_of, seed_of};
 ghost use Rattle.zq_settings.specs.Tables.{value_at as value_in};
 
 use crate::key::Key;
 use crate::lookup::value_at;
 use crate::number::{read_connections, read_number};
-use crate::values::{ClientLimits, Common};
+use crate::values::{ClientLimits, Common, Seed};
 use crate::why::Why;
 use crate::within::Within;
 use toml::Table;
@@ -23,8 +23,6 @@ pub fn read_common(table: &Table) -> Result<Common, Why>
         workers: read_number(table, Key::Workers, Within::of(4))?,
         connections: read_connections(table)?,
         limits: read_client_limits(table)?,
-        seed: read_number(table, Key::Seed, Within::of(1))?,
-        rule: read_rule(table)?,
     })
 }
 
@@ -40,8 +38,15 @@ fn read_client_limits(table: &Table) -> Result<ClientLimits, Why>
     })
 }
 
+/// What draws are made with, and 1 where the table does not have the key.
+pub fn read_seed(table: &Table) -> Result<Seed, Why>
+    ensures { result ≡ seed_of (value_in Key.Seed (table_view table.now)) }
+{
+    read_number(table, Key::Seed, Within::of(1))
+}
+
 /// The rule of scores: `"HIGH"` or `"LOW"`, and High where the table does not have the key.
-fn read_rule(table: &Table) -> Result<Rule, Why>
+pub fn read_rule(table: &Table) -> Result<Rule, Why>
     ensures { result ≡ rule_of (value_in Key.Rule (table_view table.now)) }
 {
     let Some(value) = value_at(table, Key::Rule) else {

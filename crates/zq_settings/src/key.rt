@@ -23,6 +23,8 @@ pub enum Key {
     WriteTimeout,
     /// How many bytes of replies may wait at a port.
     Output,
+    /// How many bytes of operations the one site keeps written for its peers.
+    LinkBacklog,
     /// What draws are made with.
     Seed,
     /// Which of a member's values is its score.
@@ -59,6 +61,7 @@ impl Key {
             Key::Timeout => "timeout",
             Key::WriteTimeout => "write_timeout",
             Key::Output => "output",
+            Key::LinkBacklog => "link_backlog",
             Key::Seed => "seed",
             Key::Rule => "rule",
             Key::Site | Key::PeerSite => "site",
@@ -93,7 +96,7 @@ impl Key {
                 "a whole number from 0 to 1000000"
             }
             Key::Clients => "a whole number from 1 to 1000000",
-            Key::Output => "a whole number from 1048576 to 1099511627776",
+            Key::Output | Key::LinkBacklog => "a whole number from 1048576 to 1099511627776",
             Key::Seed => "a whole number from 0 to 9223372036854775807",
             Key::Rule => "\"HIGH\" or \"LOW\"",
             Key::Site | Key::PeerSite => "a whole number from 0 to 63",

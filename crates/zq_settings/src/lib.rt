@@ -34,8 +34,8 @@ pub use ports::{MOST_PORTS, Port, Ports};
 pub use read::{settings, site_settings};
 pub use secret::{LEAST_SECRET, Secret};
 pub use values::{
-    ClientCount, ClientLimits, ConnectionCount, HeapCount, OutputSize, Seconds, Seed, Settings,
-    SiteSettings, WorkerCount,
+    BacklogSize, ClientCount, ClientLimits, ConnectionCount, HeapCount, OutputSize, Seconds, Seed,
+    Settings, SiteSettings, WorkerCount,
 };
 pub use why::Why;
 pub use within::Within;

@@ -55,6 +55,7 @@ pub fn settings(alloc: Global, text: &str) -> Result<Settings, SettingsFault>
 /// | `listen` | where it listens for its peers: an IP address with a port that is not 0, as `"127.0.0.1:7101"` | refused |
 /// | `peers` | an array of at most 63 tables, each with the keys `site` and `address` and no other: the number of another site, and where it listens | there are none |
 /// | `workers` | 1 to 64 | as many as there are processors, 4 at most |
+/// | `link_backlog` | 1048576 to 1099511627776 | 67108864 |
 /// | `heaps`, `connections`, `clients`, `timeout`, `write_timeout`, `output`, `seed`, `rule` | as of [`settings`] | as of [`settings`] |
 ///
 /// No two peers have the same number. Where there is no `secret`, `listen` and each peer's

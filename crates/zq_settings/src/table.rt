@@ -9,17 +9,18 @@ ghost use Rattle.zq_settings.specs.Tables.{value_at as value_in};
 ghost use Rattle.zq_settings.specs.Texts.{Reads};
 
 use crate::address::{read_address, read_bind};
-use crate::common::read_common;
+use crate::common::{read_common, read_rule, read_seed};
 use crate::entries::read_ports;
 use crate::fault::SettingsFault;
 use crate::form::Form;
 use crate::key::Key;
 use crate::lookup::value_at;
-use crate::number::{read_required, read_site};
+use crate::number::{read_number, read_required, read_site};
 use crate::peering::read_peers;
 use crate::secret::read_secret;
 use crate::unknown::refuse_unknown;
 use crate::values::{Settings, SiteSettings, WorkerCount};
+use crate::within::Within;
 use std::alloc::Global;
 use toml::Table;
 
@@ -31,14 +32,16 @@ pub fn read_table(alloc: Global, table: &Table) -> Result<Settings, SettingsFaul
     refuse_unknown(alloc, table, Form::Sites)?;
     let ports = read_ports(alloc, table)?;
     let common = read_common(table)?;
+    let seed = read_seed(table)?;
+    let rule = read_rule(table)?;
     Ok(Settings {
         ports,
         heaps: common.heaps,
         workers: common.workers,
         connections: common.connections,
         limits: common.limits,
-        seed: common.seed,
-        rule: common.rule,
+        seed,
+        rule,
     })
 }
 
@@ -64,6 +67,9 @@ fn read_site_values(alloc: Global, table: &Table) -> Result<SiteSettings, Settin
     let listen = read_address(table, Key::Listen, secured)?;
     let peers = read_peers(alloc, table, site, secured)?;
     let common = read_common(table)?;
+    let link_backlog = read_number(table, Key::LinkBacklog, Within::of(67_108_864))?;
+    let seed = read_seed(table)?;
+    let rule = read_rule(table)?;
     Ok(SiteSettings {
         site,
         port,
@@ -71,11 +77,12 @@ fn read_site_values(alloc: Global, table: &Table) -> Result<SiteSettings, Settin
         listen,
         peers,
         heaps: common.heaps,
-        rule: common.rule,
+        rule,
         workers: given_workers(table, common.workers),
         connections: common.connections,
         limits: common.limits,
-        seed: common.seed,
+        link_backlog,
+        seed,
         secret,
     })
 }

@@ -25,6 +25,9 @@ pub type Seconds = Within<0, 1_000_000>;
 /// A number of bytes of replies that wait at a port, 1,048,576 to 1,099,511,627,776.
 pub type OutputSize = Within<1_048_576, 1_099_511_627_776>;
 
+/// A number of bytes of operations that are kept for peers, 1,048,576 to 1,099,511,627,776.
+pub type BacklogSize = Within<1_048_576, 1_099_511_627_776>;
+
 /// What draws are made with: a number that an `i64` holds, not below 0.
 pub type Seed = Within<0, 9_223_372_036_854_775_807>;
 
@@ -85,19 +88,19 @@ pub struct SiteSettings {
     pub connections: Option<ConnectionCount>,
     /// What limits its clients.
     pub limits: ClientLimits,
+    /// How many bytes of operations it keeps written for its peers, over all its heaps.
+    pub link_backlog: BacklogSize,
     /// What each worker's draws are made with.
     pub seed: Seed,
     /// What it shares with its peers, to know them by. With `None` whoever comes is believed.
     pub secret: Option<Secret>,
 }
 
-/// What both kinds of settings have.
+/// What both kinds of settings have, from `heaps` to `output`.
 #[derive(Debug, Drop)]
 pub(crate) struct Common {
     pub(crate) heaps: HeapCount,
     pub(crate) workers: WorkerCount,
     pub(crate) connections: Option<ConnectionCount>,
     pub(crate) limits: ClientLimits,
-    pub(crate) seed: Seed,
-    pub(crate) rule: Rule,
 }

@@ -17,8 +17,9 @@ use zq_dots::SiteNo;
 /// other keys, and then the rules of its keys. Of several sites these are `ports`, `heaps`,
 /// `workers`, `connections`, `clients`, `timeout`, `write_timeout`, `output`, `seed` and `rule`, in
 /// this order. Of one site they are `site`, `port`, `bind`, `secret`, `listen`, `peers`, and then
-/// `heaps` and the others. The entries of `peers` come one by one: that it is a table, that it has
-/// no other keys, then the rules of its `site` and of its `address`.
+/// `heaps` and the others, with `link_backlog` after `output`. The entries of `peers` come one by
+/// one: that it is a table, that it has no other keys, then the rules of its `site` and of its
+/// `address`.
 #[derive(Debug, Drop)]
 pub enum Why {
     /// The text is not TOML.

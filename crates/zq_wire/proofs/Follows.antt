@@ -1,6 +1,6 @@
 -- Where more bytes are heard, what was read is read again, and they stand behind the rest.
 
-use Rattle.std.proofs.Common.{arith, Bool, Err, false, length, List, Ok, Result, true, refl, inl, inr, ℕ, [], ◌∷◌, ◌++◌, ◌≡◌, cond}
+use Rattle.std.proofs.Common.{arith, Bool, Err, false, length, List, Ok, Result, true, refl, inl, inr, ℕ, [], ◌∷◌, ◌++◌, ◌*◌, ◌≡◌, cond}
 use Rattle.std.proofs.lemmas.Bool.{cases_Bool}
 use Rattle.std.proofs.lemmas.Bool.Decides.{nat_tests}
 use Rattle.std.proofs.lemmas.List.{drop-append-le, length-append, take-append-le}
@@ -8,13 +8,19 @@ use Rattle.std.specs.Prelude.{nat_lt, ◌==◌}
 use Rattle.std.specs.Str.{bytes_eq}
 use Rattle.zq_dots.specs.Rule.{rule_of}
 use Rattle.zq_dots.specs.declared.rule.Rule.{Rule}
-use Rattle.zq_wire.specs.Reading.{answer_at, byte_at, bytes_at, expected, heaps_at, magic_at, nonce_at, open_at, peer_at, rule_at, site_at, version_at, ◌>>=◌}
-use Rattle.zq_wire.specs.Said.{magic, version}
+use Rattle.zq_wire.specs.Ranges.{agreed_at, new_at, old_at, only, same_form, version_at}
+use Rattle.zq_wire.specs.Reading.{answer_at, expected, heaps_at, magic_at, nonce_at, open_at, peer_at, rule_at, site_at}
+use Rattle.zq_wire.specs.Said.{magic}
+use Rattle.zq_wire.specs.Steps.{byte_at, bytes_at, ◌>>=◌}
+use Rattle.zq_wire.specs.Told.{run_at}
+use Rattle.zq_wire.specs.declared.form.Form.{Form}
+use Rattle.zq_wire.specs.declared.form.Form.TheVariants.{New, Old}
 use Rattle.zq_wire.specs.declared.refusal.Refusal.{Refusal}
 use Rattle.zq_wire.specs.declared.refusal.Refusal.TheVariants as refusal
 use Rattle.zq_wire.specs.declared.side.Side.{Side}
 use Rattle.zq_wire.specs.declared.stop.Stop.{Stop}
 use Rattle.zq_wire.specs.declared.stop.Stop.TheVariants.{Refused, Short}
+use Rattle.zq_wire.specs.declared.versions.Versions.{Versions}
 use Rattle.zq_fields.specs.Spelling.{rule_byte}
 
 -- what is read again, once more bytes stand behind the rest
@@ -29,10 +35,11 @@ then behind behind_next (Ok x) again next h each = rw h (each x)
 then behind behind_next (Err Short) again next h each = tt
 then behind behind_next (Err (Refused why)) again next h each = rw h refl
 
-same : {X : Type 0} (r : Result X Stop) → Follows (λ x. x) r r
-same (Ok x) = refl
-same (Err Short) = tt
-same (Err (Refused why)) = refl
+-- a step that reads nothing
+kept : {X Y : Type 0} (behind : Y → Y) (r : Result X Stop) (next again : X → Result Y Stop) → ((x : X) → Follows behind (next x) (again x)) → Follows behind (r >>= next) (r >>= again)
+kept behind (Ok x) next again each = each x
+kept behind (Err Short) next again each = tt
+kept behind (Err (Refused why)) next again each = refl
 
 -- a test of what was read, which says nothing of the rest
 tested : (b : Bool) (rest more : List ℕ) (why : Refusal)
@@ -59,9 +66,33 @@ pub magic_follows : (bytes more : List ℕ) → Follows (λ r. r ++ more) (magic
 unfolding magic_at
 magic_follows bytes more = then (λ p. (p.0, p.1 ++ more)) (λ r. r ++ more) (bytes_at 8 bytes) (bytes_at 8 (bytes ++ more)) _ (bytes_follow 8 bytes more) (λ word. tested (bytes_eq word.0 magic) word.1 more refusal.Magic)
 
-pub version_follows : (bytes more : List ℕ) → Follows (λ r. r ++ more) (version_at bytes) (version_at (bytes ++ more))
+pub new_follows : (own : Versions) (form : Form) (bytes more : List ℕ) → Follows (λ p. (p.0, p.1 ++ more)) (new_at own form bytes) (new_at own form (bytes ++ more))
+unfolding new_at
+new_follows own form bytes more =
+    then (λ p. (p.0, p.1 ++ more)) (λ p. (p.0, p.1 ++ more)) (byte_at bytes) (byte_at (bytes ++ more)) _ (byte_follows bytes more) (λ lowest.
+    then (λ p. (p.0, p.1 ++ more)) (λ p. (p.0, p.1 ++ more)) (byte_at lowest.1) (byte_at (lowest.1 ++ more)) _ (byte_follows lowest.1 more) (λ highest.
+    kept (λ p. (p.0, p.1 ++ more)) (agreed_at own (record { lowest = lowest.0; highest = highest.0 })) _ _ (λ version.
+    kept (λ p. (p.0, p.1 ++ more)) (same_form form New) _ _ (λ same. refl))))
+
+-- which form follows
+marked : (zeroth one : Bool) (own : Versions) (form : Form) (byte : ℕ) (rest more : List ℕ) → Follows (λ p. (p.0, p.1 ++ more))
+    (cond zeroth (new_at own form rest) (cond one (old_at own form >>= λ version. Ok (version, rest)) (Err (Refused (refusal.Version (only byte) own)))))
+    (cond zeroth (new_at own form (rest ++ more)) (cond one (old_at own form >>= λ version. Ok (version, rest ++ more)) (Err (Refused (refusal.Version (only byte) own)))))
+marked true one own form byte rest more = new_follows own form rest more
+marked false true own form byte rest more = kept (λ p. (p.0, p.1 ++ more)) (old_at own form) _ _ (λ version. refl)
+marked false false own form byte rest more = refl
+
+pub version_follows : (own : Versions) (form : Form) (bytes more : List ℕ) → Follows (λ p. (p.0, p.1 ++ more)) (version_at own form bytes) (version_at own form (bytes ++ more))
 unfolding version_at
-version_follows bytes more = then (λ p. (p.0, p.1 ++ more)) (λ r. r ++ more) (byte_at bytes) (byte_at (bytes ++ more)) _ (byte_follows bytes more) (λ byte. tested (byte.0 == version) byte.1 more (refusal.Version byte.0))
+version_follows own form bytes more = then (λ p. (p.0, p.1 ++ more)) (λ p. (p.0, p.1 ++ more)) (byte_at bytes) (byte_at (bytes ++ more)) _ (byte_follows bytes more) (λ mark. marked (mark.0 == 0) (mark.0 == 1) own form mark.0 mark.1 more)
+
+pub run_follows : (form : Form) (heaps : ℕ) (bytes more : List ℕ) → Follows (λ p. (p.0, p.1 ++ more)) (run_at form heaps bytes) (run_at form heaps (bytes ++ more))
+unfolding run_at
+run_follows Old heaps bytes more = refl
+run_follows New heaps bytes more =
+    then (λ p. (p.0, p.1 ++ more)) (λ p. (p.0, p.1 ++ more)) (bytes_at 16 bytes) (bytes_at 16 (bytes ++ more)) _ (bytes_follow 16 bytes more) (λ name.
+    then (λ p. (p.0, p.1 ++ more)) (λ p. (p.0, p.1 ++ more)) (bytes_at 8 name.1) (bytes_at 8 (name.1 ++ more)) _ (bytes_follow 8 name.1 more) (λ start.
+    then (λ p. (p.0, p.1 ++ more)) (λ p. (p.0, p.1 ++ more)) (bytes_at (8 * heaps) start.1) (bytes_at (8 * heaps) (start.1 ++ more)) _ (bytes_follow (8 * heaps) start.1 more) (λ counters. refl)))
 
 pub heaps_follow : (heaps : ℕ) (bytes more : List ℕ) → Follows (λ r. r ++ more) (heaps_at heaps bytes) (heaps_at heaps (bytes ++ more))
 unfolding heaps_at
@@ -87,10 +118,11 @@ pub peer_follows : (side : Side) (bytes more : List ℕ) → Follows (λ p. (p.0
 unfolding peer_at
 peer_follows side bytes more =
     then (λ r. r ++ more) (λ p. (p.0, p.1 ++ more)) (magic_at bytes) (magic_at (bytes ++ more)) _ (magic_follows bytes more) (λ after_magic.
-    then (λ r. r ++ more) (λ p. (p.0, p.1 ++ more)) (version_at after_magic) (version_at (after_magic ++ more)) _ (version_follows after_magic more) (λ after_version.
-    then (λ p. (p.0, p.1 ++ more)) (λ p. (p.0, p.1 ++ more)) (site_at side.site side.peers.now after_version) (site_at side.site side.peers.now (after_version ++ more)) _ (site_follows side.site side.peers.now after_version more) (λ peer.
+    then (λ p. (p.0, p.1 ++ more)) (λ p. (p.0, p.1 ++ more)) (version_at side.versions side.form after_magic) (version_at side.versions side.form (after_magic ++ more)) _ (version_follows side.versions side.form after_magic more) (λ version.
+    then (λ p. (p.0, p.1 ++ more)) (λ p. (p.0, p.1 ++ more)) (site_at side.site side.peers.now version.1) (site_at side.site side.peers.now (version.1 ++ more)) _ (site_follows side.site side.peers.now version.1 more) (λ peer.
     then (λ r. r ++ more) (λ p. (p.0, p.1 ++ more)) (heaps_at side.heaps peer.1) (heaps_at side.heaps (peer.1 ++ more)) _ (heaps_follow side.heaps peer.1 more) (λ after_heaps.
-    then (λ r. r ++ more) (λ p. (p.0, p.1 ++ more)) (rule_at side.rule after_heaps) (rule_at side.rule (after_heaps ++ more)) _ (rule_follows side.rule after_heaps more) (λ after_rule. refl)))))
+    then (λ r. r ++ more) (λ p. (p.0, p.1 ++ more)) (rule_at side.rule after_heaps) (rule_at side.rule (after_heaps ++ more)) _ (rule_follows side.rule after_heaps more) (λ after_rule.
+    then (λ p. (p.0, p.1 ++ more)) (λ p. (p.0, p.1 ++ more)) (run_at side.form side.heaps after_rule) (run_at side.form side.heaps (after_rule ++ more)) _ (run_follows side.form side.heaps after_rule more) (λ run. refl))))))
 
 pub open_follows : (bytes more : List ℕ) → Follows (λ r. r ++ more) (open_at bytes) (open_at (bytes ++ more))
 unfolding open_at

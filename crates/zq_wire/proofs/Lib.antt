@@ -13,6 +13,9 @@ pub mod Long
 mod Follows
 mod Stays
 mod Parts
+mod Numbers
 mod Exactly
+mod Changed
 mod Known
+mod Answering
 mod Paid

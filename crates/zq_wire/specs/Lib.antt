@@ -8,6 +8,9 @@ pub mod Outbox
 pub mod Inside
 pub mod Runs
 pub mod Hmac
+pub mod Steps
+pub mod Ranges
+pub mod Told
 pub mod Said
 pub mod Reading
 pub mod Opened

@@ -1,13 +1,18 @@
 //! Opening a link over what is read of a peer and what is written to it.
 
 ghost use Rattle.std.specs.Io.KnownBytes.{Appends, Consumes};
-ghost use Rattle.std.specs.Prelude.{IfOk, List, OnOk, drop, ℕ, ◌++◌, ◌≡◌};
-ghost use Rattle.zq_wire.specs.Links.{Hears, Opens, Pays, answer_in};
+ghost use Rattle.std.specs.Prelude.{IfOk, List, OnOk, drop, vec_len, ℕ, ◌++◌, ◌<◌, ◌≡◌};
+ghost use Rattle.zq_wire.specs.Links.{Accepts, Greets, Hears, Opens, Pays, answer_in};
+ghost use Rattle.zq_wire.specs.Links as links;
 
+use crate::form::Form;
 use crate::greeting::write_greeting;
+use crate::mark::{ONE, RANGE};
 use crate::opening::{Opening, hear_opening};
 use crate::refusal::Refusal;
-use crate::side::Side;
+use crate::run::Run;
+use crate::side::{MAGIC, Side};
+use crate::versions::Versions;
 use std::alloc::{AllocError, Global};
 use std::io;
 use std::io::{Read, Write};
@@ -18,6 +23,9 @@ use zq_dots::SiteNo;
 pub enum Unopened {
     /// The peer is not welcome.
     Refused(Refusal),
+    /// The peer greets in the old form, and was greeted in the new one, which it refuses: it has to
+    /// be greeted in the old form when it is dialled next.
+    Old,
     /// A read or a write failed, what is read ended or came in too many pieces, or there was no
     /// memory.
     Lost,
@@ -50,6 +58,10 @@ impl From<io::Error> for Unopened {
 pub struct Opened {
     /// The peer.
     pub peer: SiteNo,
+    /// The version that is spoken: the greatest that both sites speak.
+    pub version: u8,
+    /// What the peer said of its run, where it greeted in the new form.
+    pub run: Option<Run>,
     /// The bytes of frames that came with the last bytes of the opening.
     pub first: Vec<u8>,
 }
@@ -57,17 +69,22 @@ pub struct Opened {
 /// How many bytes an opening is read by at once.
 const SOME: usize = 64;
 
-/// How many reads an opening takes at most: each brings a byte, and a greeting and an answer have
-/// fewer.
-const MOST_READS: usize = 64;
+/// How many bytes are heard before it is known in which form a peer greets.
+const MARKED: usize = 9;
 
-/// Opens a link: writes the greeting of this site, and hears the peer until it is welcome. The
-/// answer that the peer is owed is written once, as soon as it is due.
+/// How often it is looked at what was heard, at most: each read between two looks brings a byte,
+/// and a greeting and an answer have 215 at most.
+const MOST_LOOKS: usize = 216;
+
+/// Opens a link that this site dialled: writes the greeting of this site, in its form, and hears
+/// the peer until it is welcome. The answer that the peer is owed is written once, as soon as it is
+/// due.
 ///
 /// # Errors
 ///
-/// `Refused` as [`hear_opening`] says of all that was read, and `Lost`.
-pub fn open_over<R: Read, W: Write>(
+/// `Refused` as [`hear_opening`] says of all that was read, `Old` where that is a greeting in the
+/// old form and this site greeted in the new one, and `Lost`.
+pub fn dial_over<R: Read, W: Write>(
     alloc: Global,
     side: &Side<'_>,
     reader: &mut R,
@@ -76,36 +93,116 @@ pub fn open_over<R: Read, W: Write>(
     ensures { Opens side.now (R.remaining reader.old) (R.remaining reader.new)
         (W.contents writer.old) (W.contents writer.new) result }
 {
-    let mut greeting = Vec::new(alloc);
-    write_greeting(&mut greeting, side)?;
-    writer.write_all(&greeting)?;
-    hear_peer(alloc, side, reader, writer)
+    greet(alloc, side, Vec::new(alloc), reader, writer)
 }
 
-/// Hears the peer until it is welcome, and writes the answer that it is owed.
-fn hear_peer<R: Read, W: Write>(
+/// Opens a link that this site accepted: hears in which form the peer greets, and goes on in that
+/// form as a site that dialled does. The old form is answered in the new one where this site does
+/// not speak version 1; the peer is then refused.
+///
+/// # Errors
+///
+/// `Refused` as [`hear_opening`] says of all that was read, and `Lost`.
+pub fn accept_over<R: Read, W: Write>(
     alloc: Global,
     side: &Side<'_>,
     reader: &mut R,
     writer: &mut W,
 ) -> Result<Opened, Unopened>
-    ensures { Hears side.now (R.remaining reader.old) (R.remaining reader.new)
+    ensures { Accepts side.now (R.remaining reader.old) (R.remaining reader.new)
         (W.contents writer.old) (W.contents writer.new) result }
 {
     let mut heard = Vec::new(alloc);
-    let mut owed = true;
-    for _ in 0..MOST_READS {
+    while heard.len() < MARKED {
         read_some(reader, &mut heard)?;
-        let opening = match hear_opening(side, &heard) {
+    }
+    let answering = Side {
+        form: form_heard(side.versions, &heard),
+        ..*side
+    };
+    greet(alloc, &answering, heard, reader, writer)
+}
+
+/// The form in which a site of these versions answers a greeting that begins so.
+fn form_heard(versions: Versions, heard: &[u8]) -> Form
+    ensures { result ≡ links.form_heard versions heard.now }
+{
+    let mark = heard.get(MAGIC.len()).copied().unwrap_or(RANGE);
+    if mark == ONE && versions.lowest <= ONE {
+        Form::Old
+    } else {
+        Form::New
+    }
+}
+
+/// Writes the greeting of this site, and hears the peer, of whom these bytes were heard, until it
+/// is welcome.
+fn greet<R: Read, W: Write>(
+    alloc: Global,
+    side: &Side<'_>,
+    heard: Vec<u8>,
+    reader: &mut R,
+    writer: &mut W,
+) -> Result<Opened, Unopened>
+    ensures { Greets side.now heard.items (R.remaining reader.old) (R.remaining reader.new)
+        (W.contents writer.old) (W.contents writer.new) result }
+{
+    let mut said = Vec::new(alloc);
+    write_greeting(&mut said, side)?;
+    writer.write_all(&said)?;
+    hear_peer(alloc, side, &said, heard, reader, writer)
+}
+
+/// Hears the peer, of whom these bytes were heard, until it is welcome, and writes the answer that
+/// it is owed.
+fn hear_peer<R: Read, W: Write>(
+    alloc: Global,
+    side: &Side<'_>,
+    said: &[u8],
+    heard: Vec<u8>,
+    reader: &mut R,
+    writer: &mut W,
+) -> Result<Opened, Unopened>
+    ensures { Hears side.now said.now heard.items (R.remaining reader.old) (R.remaining reader.new)
+        (W.contents writer.old) (W.contents writer.new) result }
+{
+    let mut heard = heard;
+    let mut owed = true;
+    for _ in 0..MOST_LOOKS {
+        let opening = match hear_opening(side, said, &heard) {
             Ok(opening) => opening,
-            Err(refusal) => return Err(Unopened::Refused(refusal)),
+            Err(refusal) => return Err(reason_of(refusal)),
         };
         owed = write_owed(writer, owed, answer_of(&opening))?;
-        if let Opening::Welcome { peer, used, .. } = opening {
-            return open(alloc, peer, &heard, used);
+        if let Opening::Welcome {
+            peer,
+            version,
+            run,
+            used,
+            ..
+        } = opening
+        {
+            let first = frames_after(alloc, &heard, used)?;
+            return Ok(Opened {
+                peer,
+                version,
+                run,
+                first,
+            });
         }
+        read_some(reader, &mut heard)?;
     }
     Err(Unopened::Lost)
+}
+
+/// Why a link is not opened to a peer that is refused.
+fn reason_of(refusal: Refusal) -> Unopened
+    ensures { result ≡ links.reason_of refusal }
+{
+    match refusal {
+        Refusal::Form(Form::Old) => Unopened::Old,
+        other => Unopened::Refused(other),
+    }
 }
 
 /// Appends what comes next, at least a byte.
@@ -113,6 +210,7 @@ fn read_some<R: Read>(reader: &mut R, heard: &mut Vec<u8>) -> Result<(), Unopene
     ensures read { OnOk result ((piece : List ℕ)
         × Consumes (R.remaining reader.old) (R.remaining reader.new) piece
         × (heard.new.items ≡ heard.old.items ++ piece)) }
+    ensures some { OnOk result (vec_len heard.old < vec_len heard.new) }
     ensures lost { (why : Unopened) → result ≡ Err why → why ≡ Unopened.Lost }
 {
     let mut piece = [0u8; SOME];
@@ -154,12 +252,11 @@ fn write_owed<W: Write>(
     }
 }
 
-/// The link to a peer whose opening has so many of the bytes that were heard.
-fn open(alloc: Global, peer: SiteNo, heard: &[u8], used: usize) -> Result<Opened, Unopened>
-    ensures peer { IfOk result (λ opened. opened.peer ≡ peer) }
-    ensures first { IfOk result (λ opened. opened.first.items ≡ drop used heard.now) }
+/// The bytes of frames that came behind an opening of so many bytes.
+fn frames_after(alloc: Global, heard: &[u8], used: usize) -> Result<Vec<u8>, Unopened>
+    ensures first { IfOk result (λ first. first.items ≡ drop used heard.now) }
     ensures lost { (why : Unopened) → result ≡ Err why → why ≡ Unopened.Lost }
 {
     let first = Vec::from_slice(alloc, heard.get(used..).unwrap_or(&[]))?;
-    Ok(Opened { peer, first })
+    Ok(first)
 }

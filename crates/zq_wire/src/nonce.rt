@@ -1,7 +1,8 @@
 //! Whether a peer has a secret, and its nonce.
 
 ghost use Rattle.std.specs.Prelude.{◌≡◌};
-ghost use Rattle.zq_wire.specs.Reading.{Gives, nonce_at, open_at};
+ghost use Rattle.zq_wire.specs.Reading.{nonce_at, open_at};
+ghost use Rattle.zq_wire.specs.Steps.{Gives};
 
 use crate::peer::read_next;
 use crate::refusal::Refusal;

@@ -2,26 +2,33 @@
 
 ghost use Rattle.std.specs.List.{find};
 ghost use Rattle.std.specs.Prelude.{◌==◌, ◌≡◌};
-ghost use Rattle.zq_wire.specs.Reading.{Gives, byte_at, heaps_at, magic_at, peer_at, rule_at, site_at, version_at};
+ghost use Rattle.zq_wire.specs.Reading.{heaps_at, magic_at, peer_at, rule_at, site_at};
+ghost use Rattle.zq_wire.specs.Steps.{Gives, byte_at};
 
+use crate::met::Met;
+use crate::range::read_version;
 use crate::refusal::Refusal;
-use crate::side::{MAGIC, Side, VERSION};
+use crate::run_told::read_run;
+use crate::side::{MAGIC, Side};
 use crate::stop::Stop;
 use zq_dots::{Rule, SiteNo};
 use zq_fields::{read_byte, read_bytes, rule_byte};
 
-/// Takes the greeting of a peer that agrees, up to its rule. After a stop the bytes that are left
+/// Takes the greeting of a peer that agrees, up to the secret. After a stop the bytes that are left
 /// are of no use.
 #[tactic(auto, unfolding(crate::specs::Reading::peer_at))]
-pub(crate) fn read_peer(side: &Side<'_>, bytes: &mut &[u8]) -> Result<SiteNo, Stop>
-    ensures { Gives (λ peer. (peer, bytes.new.now)) result (peer_at side.now bytes.old.now) }
+pub(crate) fn read_peer(side: &Side<'_>, bytes: &mut &[u8]) -> Result<Met, Stop>
+    ensures { Gives (λ met. (met, bytes.new.now)) result (peer_at side.now bytes.old.now) }
 {
     let rest = read_magic(bytes)?;
-    *bytes = read_version(rest)?;
+    let (version, rest) = read_version(side.versions, side.form, rest)?;
+    *bytes = rest;
     let peer = read_site(side.site, side.peers, bytes)?;
     let rest = read_heaps(side.heaps, bytes)?;
-    *bytes = read_rule(side.rule, rest)?;
-    Ok(peer)
+    let rest = read_rule(side.rule, rest)?;
+    let (run, rest) = read_run(side.form, side.heaps, rest)?;
+    *bytes = rest;
+    Ok(Met { peer, version, run })
 }
 
 /// Takes a byte.
@@ -46,19 +53,6 @@ fn read_magic(bytes: &[u8]) -> Result<&[u8], Stop>
         Ok(rest)
     } else {
         Err(Stop::Refused(Refusal::Magic))
-    }
-}
-
-/// Takes the version.
-#[tactic(auto, unfolding(crate::specs::Reading::version_at))]
-fn read_version(bytes: &[u8]) -> Result<&[u8], Stop>
-    ensures { Gives (λ rest. rest.now) result (version_at bytes.now) }
-{
-    let (version, rest) = read_next(bytes)?;
-    if version == VERSION {
-        Ok(rest)
-    } else {
-        Err(Stop::Refused(Refusal::Version(version)))
     }
 }
 

@@ -1,5 +1,7 @@
 //! Why a peer is let go.
 
+use crate::form::Form;
+use crate::versions::Versions;
 use std::fmt;
 
 /// Why a peer is not welcome: the first thing, from the left, that does not agree.
@@ -7,8 +9,16 @@ use std::fmt;
 pub enum Refusal {
     /// The bytes do not begin as a greeting.
     Magic,
-    /// The peer speaks this version of the protocol.
-    Version(u8),
+    /// The peer speaks none of the versions that this site speaks, or no range of versions.
+    Version {
+        /// What the peer speaks, as it says. Of a greeting that is not in the new form both are the
+        /// byte that stands for the version.
+        heard: Versions,
+        /// What this site speaks.
+        own: Versions,
+    },
+    /// The peer greets in this form, and this site greeted it in the other.
+    Form(Form),
     /// The peer has the number of this site.
     SameSite,
     /// The peer has this number, and is not expected.
@@ -35,7 +45,11 @@ impl fmt::Display for Refusal {
     fn fmt<W: fmt::Write>(&self, f: &mut fmt::Formatter<W>) -> fmt::Result {
         match self {
             Refusal::Magic => f.write_str("it does not greet as a site does"),
-            Refusal::Version(version) => write!(f, "it speaks version {version} of the protocol"),
+            Refusal::Version { heard, own } => {
+                write!(f, "it speaks {heard} of the protocol, and this site {own}")
+            }
+            Refusal::Form(Form::Old) => f.write_str("it greets in the old form"),
+            Refusal::Form(Form::New) => f.write_str("it greets in the new form"),
             Refusal::SameSite => f.write_str("it has the number of this site"),
             Refusal::Unexpected(site) => write!(f, "site {site} is not expected"),
             Refusal::Heaps(heaps) => write!(f, "it has {heaps} heaps"),

@@ -4,7 +4,7 @@ use std::alloc::Global;
 use std::test::Fail;
 use zq_settings::{SettingsFault, settings};
 
-const REFUSALS: [(&str, &str); 70] = [
+const REFUSALS: [(&str, &str); 71] = [
     // No TOML.
     (
         "ports",
@@ -26,6 +26,10 @@ const REFUSALS: [(&str, &str); 70] = [
     (
         "ports = [7001]\nport = 1",
         "\"port\" is not a key of settings, which are ports, heaps, workers, connections, clients, timeout, write_timeout, output, seed and rule",
+    ),
+    (
+        "ports = [7001]\nlink_backlog = 67108864",
+        "\"link_backlog\" is not a key of settings, which are ports, heaps, workers, connections, clients, timeout, write_timeout, output, seed and rule",
     ),
     (
         "Ports = [7001]",

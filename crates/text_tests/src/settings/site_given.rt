@@ -17,10 +17,14 @@ struct Row {
     listen: Place,
     peers: &'static [(u8, Place)],
     heaps: u64,
+    link_backlog: u64,
     secret: Option<&'static str>,
 }
 
 const LOOPBACK: [u8; 4] = [127, 0, 0, 1];
+
+/// What `link_backlog` is where the key is missing.
+const BACKLOG: u64 = 67_108_864;
 
 const ROWS: [Row; 5] = [
     // The keys that have to be there, at their least.
@@ -32,17 +36,19 @@ const ROWS: [Row; 5] = [
         listen: (LOOPBACK, 1),
         peers: &[],
         heaps: 4,
+        link_backlog: BACKLOG,
         secret: None,
     },
     // At their greatest, with a secret of 16 bytes, and so at other addresses.
     Row {
-        text: "secret = \"0123456789abcdef\"\nlisten = \"0.0.0.0:65535\"\nport = 65535\nsite = 63\nheaps = 16\nbind = \"10.1.2.3\"\npeers = [{ site = 0, address = \"10.1.2.4:7101\" }]",
+        text: "secret = \"0123456789abcdef\"\nlisten = \"0.0.0.0:65535\"\nport = 65535\nsite = 63\nlink_backlog = 1099511627776\nheaps = 16\nbind = \"10.1.2.3\"\npeers = [{ site = 0, address = \"10.1.2.4:7101\" }]",
         site: 63,
         port: 65535,
         bind: [10, 1, 2, 3],
         listen: ([0, 0, 0, 0], 65535),
         peers: &[(0, ([10, 1, 2, 4], 7101))],
         heaps: 16,
+        link_backlog: 1_099_511_627_776,
         secret: Some("0123456789abcdef"),
     },
     // Tables of an array, in the other way to write them; a secret of 16 bytes in fewer letters.
@@ -54,17 +60,20 @@ const ROWS: [Row; 5] = [
         listen: (LOOPBACK, 7102),
         peers: &[(0, (LOOPBACK, 7101)), (2, ([127, 9, 9, 9], 7103))],
         heaps: 4,
+        link_backlog: BACKLOG,
         secret: Some("éééééééé"),
     },
-    // No peers, and no secret: the port of clients may be at any address.
+    // No peers, and no secret: the port of clients may be at any address. The least of
+    // `link_backlog`.
     Row {
-        text: "site = 5\nport = 7001\nlisten = \"127.255.0.1:7101\"\npeers = []\nbind = \"0.0.0.0\"",
+        text: "site = 5\nport = 7001\nlisten = \"127.255.0.1:7101\"\npeers = []\nlink_backlog = 1048576\nbind = \"0.0.0.0\"",
         site: 5,
         port: 7001,
         bind: [0, 0, 0, 0],
         listen: ([127, 255, 0, 1], 7101),
         peers: &[],
         heaps: 4,
+        link_backlog: 1_048_576,
         secret: None,
     },
     // Two peers at one address.
@@ -76,6 +85,7 @@ const ROWS: [Row; 5] = [
         listen: (LOOPBACK, 7101),
         peers: &[(63, (LOOPBACK, 7102)), (3, (LOOPBACK, 7102))],
         heaps: 4,
+        link_backlog: BACKLOG,
         secret: None,
     },
 ];
@@ -109,6 +119,7 @@ fn is_row(settings: &SiteSettings, row: &Row) -> bool {
         && settings.listen == address_of(row.listen)
         && are_peers(settings.peers.as_slice(), row.peers)
         && settings.heaps.value() == row.heaps
+        && settings.link_backlog.value() == row.link_backlog
         && has_secret(settings, row.secret)
 }
 

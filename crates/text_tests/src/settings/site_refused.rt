@@ -5,7 +5,7 @@ use std::test::Fail;
 use zq_settings::{SettingsFault, site_settings};
 
 const UNKNOWN: &str =
-    "is not a key of a site's settings, which are site, port, bind, secret, listen, peers, heaps, workers, connections, clients, timeout, write_timeout, output, seed and rule";
+    "is not a key of a site's settings, which are site, port, bind, secret, listen, peers, heaps, workers, connections, clients, timeout, write_timeout, output, link_backlog, seed and rule";
 
 const LISTEN: &str = "it takes an IP address with a port from 1 to 65535, as \"127.0.0.1:7101\"";
 
@@ -21,7 +21,7 @@ const HEARD: &str = "site = 3\nport = 7001\nlisten = \"127.0.0.1:7101\"\n";
 /// The text in two parts, and the words in two parts.
 type Row = (&'static str, &'static str, &'static str, &'static str);
 
-const REFUSALS: [Row; 54] = [
+const REFUSALS: [Row; 59] = [
     // Other keys.
     ("", "heap = 4", "\"heap\" ", UNKNOWN),
     ("", "ports = [7001]", "\"ports\" ", UNKNOWN),
@@ -243,6 +243,25 @@ const REFUSALS: [Row; 54] = [
         "peers has site 2 twice: ",
         PEERS,
     ),
+    // What it keeps for its peers.
+    (
+        HEARD,
+        "link_backlog = 1048575",
+        "link_backlog has a value out of range: ",
+        "it takes a whole number from 1048576 to 1099511627776",
+    ),
+    (
+        HEARD,
+        "link_backlog = 1099511627777",
+        "link_backlog has a value out of range: ",
+        "it takes a whole number from 1048576 to 1099511627776",
+    ),
+    (
+        HEARD,
+        "link_backlog = \"67108864\"",
+        "link_backlog has a value of another kind: ",
+        "it takes a whole number from 1048576 to 1099511627776",
+    ),
     // The keys of several sites.
     (
         HEARD,
@@ -316,6 +335,18 @@ const REFUSALS: [Row; 54] = [
         "heaps = 1\npeers = [{ site = 2, address = \"127.0.0.1:7102\" }, { site = 2 }]",
         "a peer's address is missing: ",
         LISTEN,
+    ),
+    (
+        HEARD,
+        "link_backlog = 0\nseed = -1",
+        "link_backlog has a value out of range: ",
+        "it takes a whole number from 1048576 to 1099511627776",
+    ),
+    (
+        HEARD,
+        "link_backlog = 0\noutput = 0",
+        "output has a value out of range: ",
+        "it takes a whole number from 1048576 to 1099511627776",
     ),
     (HEARD, "site = 4", "line 4 is not TOML: ", "duplicate key"),
 ];

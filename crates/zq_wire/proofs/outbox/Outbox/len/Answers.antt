@@ -1,4 +1,4 @@
-use Rattle.std.proofs.Common.{ap, length, map, arith}
+use Rattle.std.proofs.Common.{ap, map, arith}
 use Rattle.std.proofs.lemmas.List.{length-map}
 use Rattle.zq_wire.specs.Outbox.{parcel_of}
 use Rattle.zq_wire.proofs.Parcels.{few}

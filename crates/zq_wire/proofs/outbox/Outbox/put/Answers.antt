@@ -1,4 +1,4 @@
-use Rattle.std.proofs.Common.{◌≡◌, [], ◌∷◌, ◌<◌, Some, None, length, map, refl, ap, subst, arith, ◌∙◌, sym}
+use Rattle.std.proofs.Common.{◌≡◌, [], ◌∷◌, ◌<◌, length, map, refl, ap, subst, arith, ◌∙◌, sym}
 use Rattle.std.proofs.lemmas.List.{length-append, length-map, map-append}
 use Rattle.zq_wire.specs.declared.parcel.Parcel.{Parcel}
 use Rattle.zq_wire.specs.Outbox.{AreParcels, parcel_of, put_in}

@@ -1,0 +1,13 @@
+pub mod Vectors
+pub mod Again
+pub mod Logs
+pub mod Trims
+pub mod Comes
+pub mod Picked
+pub mod Batches
+pub mod Looks
+pub mod Rings
+pub mod Kept
+pub mod Skips
+pub mod Frames
+pub mod Chosen

@@ -1,0 +1,10 @@
+use Rattle.std.proofs.Common.{false, get_or, length, ℕ, ◌<◌, ◌==◌, ◌≡◌}
+use Rattle.std.specs.Int.{bit_at}
+use Rattle.zq_model.specs.Sets.{SITES}
+use Rattle.zq_follow.proofs.site_set.SiteSet.from_bits.Given as goal
+
+abbrev pub invariant-loop-site : goal.invariant-loop-site
+invariant-loop-site l = record {
+  wide : length l.held ≡ SITES;
+  done : (t : ℕ) → t < l.site → get_or l.held t false ≡ (bit_at l.bits t == 1);
+}
