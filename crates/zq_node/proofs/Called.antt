@@ -19,7 +19,7 @@ use Rattle.zq_model.specs.Heaps.{heap_of}
 use Rattle.zq_model.specs.Image.{Image, image_after}
 use Rattle.zq_model.specs.Operation.{has}
 use Rattle.zq_model.specs.Sets as sets
-use Rattle.zq_node.specs.Calls.{AreCalled, Asked, Call, Copied, HadNoRoom, IsCalled, IsEarlyTo, IsKnownTo, MadeNoStep, Merged, Saw, Took, WasAtLast, WasTaken}
+use Rattle.zq_node.specs.Calls.{AreCalled, Asked, Call, Copied, Drained, HadNoRoom, IsCalled, IsEarlyTo, IsKnownTo, MadeNoStep, Merged, Saw, Took, WasAtLast, WasTaken}
 use Rattle.zq_node.specs.Faults.{untaken}
 use Rattle.zq_node.specs.Hearing.{IsStopOf}
 use Rattle.zq_node.specs.declared.faults.NodeFault.{NodeFault}
@@ -109,6 +109,7 @@ seen_on P stays site before after k (Merged shard) is had = seen_by _ P stays be
 seen_on P stays site before after k (Saw heap vector) is had = seen_by _ P stays before after heap k is had
 seen_on P stays site before after k (Asked heap vector answer) is had = seen_by _ P stays before after heap k is.0 had
 seen_on P stays site before after k (Copied heap shard) is had = seen_by _ P stays before after heap k is had
+seen_on P stays site before after k (Drained heap vector most answer) is had = seen_by _ P stays before after heap k is had
 
 pub seen_after : (P : Book → Type 0) → Stays P → (site : Site) (before after : Pass) (k : ℕ) (calls : List Call) → AreCalled site before after calls → HasSeenBook before k P → HasSeenBook after k P
 seen_after P stays site before after k [] are had = subst (λ p. HasSeenBook p k P) (sym are) had

@@ -1,7 +1,7 @@
 -- What is parked after a change at one place.
 
 use Rattle.std.proofs.Common.{ap, arith, cond, false, get_or, inl, inr, length, refl, slice_index_or, set, subst, sym, true, Bool, List, None, Option, Some, ℕ, ◌+◌, ◌<◌, ◌≤◌, ◌≡◌, ◌∙◌, ◌⊎◌}
-use Rattle.std.proofs.lemmas.Bool.{cases_Bool, cases_eq, cond-false, cond-true}
+use Rattle.std.proofs.lemmas.Bool.{cases_Bool, cases_eq, cases_lt, cond-false, cond-true}
 use Rattle.std.proofs.lemmas.Bool.Decides.{nat_tests}
 use Rattle.std.proofs.lemmas.List.{get_or-set_other, get_or-set_same}
 use Rattle.std.specs.BTreeMap.{is_at}
@@ -9,7 +9,6 @@ use Rattle.std.specs.Option.{IfSome}
 use Rattle.std.specs.Prelude.{IsSome, IsTrue, is_some, ◌↔◌}
 use Rattle.zq_dots.specs.Placed.{Placed}
 use Rattle.zq_node.proofs.Ready.{IsPlacedAt, some_place}
-use Rattle.zq_node.specs.Limits.{MOST_PARKED}
 use Rattle.zq_node.specs.Parked.{ArePlaced, Entries, HasPlaceOf, IsNext, IsParked, IsPutAway, IsUpdated, Place, parked_at, place_cmp, place_of}
 
 at_same : (p q : Place) → is_at (place_cmp p) q ≡ true → p ≡ q
@@ -109,33 +108,40 @@ none_more old o q (Some p) m at is count there = let all : m ≡ length old + 0 
 
 -- ---- one is put away
 
+-- where it is not full there is room
+pub room_left : (full : Bool) (most count : ℕ) → IsTrue full ↔ (most ≤ count) → full ≡ false → count < most
+room_left full most count is not = elim (cases_lt count most) [
+  | inl few ↦ few
+  | inr many ↦ absurd (let here : full ≡ true = is.1 many in cc)
+]
+
 -- what was parked stays
-pub put_keeps : (o : Placed) (old new : Entries) (p : Placed) → IsPutAway o old new → IsParked old p → IsParked new p
-put_keeps o old new p (inl again) here = subst (λ e. IsParked e p) (sym again.1) here
-put_keeps o old new p (inr (inl full)) here = subst (λ e. IsParked e p) (sym full.2) here
-put_keeps o old new p (inr (inr put)) here = elim (changed_at old new (place_of o) (Some o) (place_of p) put.2) [
+pub put_keeps : (most : ℕ) (o : Placed) (old new : Entries) (p : Placed) → IsPutAway most o old new → IsParked old p → IsParked new p
+put_keeps most o old new p (inl again) here = subst (λ e. IsParked e p) (sym again.1) here
+put_keeps most o old new p (inr (inl full)) here = subst (λ e. IsParked e p) (sym full.2) here
+put_keeps most o old new p (inr (inr put)) here = elim (changed_at old new (place_of o) (Some o) (place_of p) put.2) [
   | inl at ↦ absurd (put.0 (p, here, sym at.0))
   | inr same ↦ same ∙ here
 ]
 
 -- and nothing else comes
-pub put_found : (o : Placed) (old new : Entries) (p : Placed) → IsPutAway o old new → IsParked new p → IsParked old p ⊎ (o ≡ p)
-put_found o old new p (inl again) there = inl (subst (λ e. IsParked e p) again.1 there)
-put_found o old new p (inr (inl full)) there = inl (subst (λ e. IsParked e p) full.2 there)
-put_found o old new p (inr (inr put)) there = elim (changed_at old new (place_of o) (Some o) (place_of p) put.2) [
+pub put_found : (most : ℕ) (o : Placed) (old new : Entries) (p : Placed) → IsPutAway most o old new → IsParked new p → IsParked old p ⊎ (o ≡ p)
+put_found most o old new p (inl again) there = inl (subst (λ e. IsParked e p) again.1 there)
+put_found most o old new p (inr (inl full)) there = inl (subst (λ e. IsParked e p) full.2 there)
+put_found most o old new p (inr (inr put)) there = elim (changed_at old new (place_of o) (Some o) (place_of p) put.2) [
   | inl at ↦ inr (let both : Some o ≡ Some p = sym at.1 ∙ there in cc)
   | inr same ↦ inl (sym same ∙ there)
 ]
 
 -- it is parked, or as many were as may be
-pub put_heard : (o : Placed) (old new : Entries) → IsPutAway o old new → HasPlaceOf new o ⊎ (MOST_PARKED ≤ length old)
-put_heard o old new (inl again) = inl (subst (λ e. HasPlaceOf e o) (sym again.1) again.0)
-put_heard o old new (inr (inl full)) = inr full.1
-put_heard o old new (inr (inr put)) = inl (o, parked_here old new o put.2, refl)
+pub put_heard : (most : ℕ) (o : Placed) (old new : Entries) → IsPutAway most o old new → HasPlaceOf new o ⊎ (most ≤ length old)
+put_heard most o old new (inl again) = inl (subst (λ e. HasPlaceOf e o) (sym again.1) again.0)
+put_heard most o old new (inr (inl full)) = inr full.1
+put_heard most o old new (inr (inr put)) = inl (o, parked_here old new o put.2, refl)
 
 -- where it was to be parked it is
-pub put_here : (old new : Entries) (op copy : Placed) (kept : Bool) → (HasPlaceOf old op → ⊥) → length old < MOST_PARKED → copy ≡ op → IsTrue kept ↔ (length old < MOST_PARKED) → (IsTrue kept → IsUpdated old new (place_of copy) (Some copy)) →
-    (IsTrue kept → (HasPlaceOf old copy → ⊥) → length new ≡ length old + 1) → IsPutAway op old new
-put_here old new op copy kept apart few same full is more =
+pub put_here : (most : ℕ) (old new : Entries) (op copy : Placed) (kept : Bool) → (HasPlaceOf old op → ⊥) → length old < most → copy ≡ op → IsTrue kept ↔ (length old < most) → (IsTrue kept → IsUpdated old new (place_of copy) (Some copy)) →
+    (IsTrue kept → (HasPlaceOf old copy → ⊥) → length new ≡ length old + 1) → IsPutAway most op old new
+put_here most old new op copy kept apart few same full is more =
     let here : IsTrue kept = full.1 few in
     inr (inr (apart, few, subst (λ o. IsUpdated old new (place_of o) (Some o)) same (is here), more here (subst (λ o. HasPlaceOf old o → ⊥) (sym same) apart)))

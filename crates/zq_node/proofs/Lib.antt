@@ -1,6 +1,7 @@
 pub mod Ready
 pub mod Changed
 pub mod Called
+pub mod Drains
 pub mod Works
 pub mod Nodes
 pub mod Told

@@ -14,9 +14,8 @@ use Rattle.zq_node.proofs.Works.{further, idle, of_more, parked_more, stays_hear
 use Rattle.zq_node.specs.Calls.{IsCalled, IsEarlyTo, IsKnownTo, MadeNoStep, Took}
 use Rattle.zq_node.specs.Faults.{IsOwnFault}
 use Rattle.zq_node.specs.Hearing.{AreOpsStopped, IsStopOf}
-use Rattle.zq_node.specs.Limits.{MOST_PARKED}
-use Rattle.zq_node.specs.Node.{IsNode, IsSameHome, parked_of, pass_of, site_of}
-use Rattle.zq_node.specs.Parked.{Entries, HasPlaceOf, IsParked, IsPutAway, place_of}
+use Rattle.zq_node.specs.Node.{IsNode, IsSameHome, home_of, most_of, parked_of, pass_of, site_of}
+use Rattle.zq_node.specs.Parked.{Entries, HasPlaceOf, IsParked, IsPutAway, Parking, place_of}
 use Rattle.zq_node.specs.Work.{AreTurns, DoesAfter, HasWorked, IsHeard, IsTurn, IsWork, WaitIn, WasShort, WasStopped, WasWorn}
 use Rattle.zq_node.specs.declared.faults.NodeFault.{NodeFault}
 use Rattle.zq_node.specs.declared.faults.NodeFault.TheVariants as node
@@ -30,7 +29,11 @@ use Rattle.zq_spread.specs.declared.site.Site.{Site}
 
 -- the same site
 pub home_site : (a b : Node) → IsSameHome a b → site_of b ≡ site_of a
-home_site a b same = ap (λ h. h.site.now) same
+home_site a b same = ap (λ h. h.0.site.now) same
+
+-- as many operations may be parked
+pub home_most : (a b : Node) → IsSameHome a b → most_of b ≡ most_of a
+home_most a b same = ap (λ h. h.1) same
 
 pub then_worked : (ops : List Placed) (a b c : Node) → IsSameHome a b → HasWorked ops a b → HasWorked ops b c → HasWorked ops a c
 then_worked ops a b c home one other =
@@ -72,18 +75,18 @@ handed_work a b o answer same is =
     subst (λ e. IsWork (site_of a) (o ∷ []) (parked_of a) e (pass_of a) (pass_of b)) (sym same) (took (site_of a) (o ∷ []) (parked_of a) (pass_of a) (pass_of b) o answer (inl (inl refl)) is)
 
 -- the node with this parked
-abbrev pub keeping : Node → Entries → Node
+abbrev pub keeping : Node → Parking → Node
 keeping mid parked = record { home = mid.home; pass = mid.pass; parked = parked }
 
 -- where it was put away what is parked is the site's
-pub put_node : (old mid : Node) (parked : Entries) (o : Placed) → IsNode mid → IsSameHome old mid → IsOfSite (site_of old) o → o.operation.heap < heaps_of (site_of old) → IsPutAway o (parked_of mid) parked →
+pub put_node : (old mid : Node) (parked : Parking) (o : Placed) → IsNode mid → IsSameHome old mid → IsOfSite (site_of old) o → o.operation.heap < heaps_of (site_of old) → IsPutAway (most_of mid) o (parked_of mid) parked.entries →
     IsNode (keeping mid parked)
 put_node old mid parked o node same of within put =
     let there : IsOfSite (site_of mid) o × (o.operation.heap < heaps_of (site_of mid)) = subst (λ s. IsOfSite s o × (o.operation.heap < heaps_of s)) (sym (home_site old mid same)) (of, within) in
     record {
       home = node.home;
       pass = node.pass;
-      parked = λ p here. elim (put_found o (parked_of mid) parked p put here) [
+      parked = λ p here. elim (put_found (most_of mid) o (parked_of mid) parked.entries p put here) [
         | inl before ↦ node.parked p before
         | inr e ↦ subst (λ q. IsOfSite (site_of mid) q × (q.operation.heap < heaps_of (site_of mid))) e there
       ];
@@ -117,7 +120,7 @@ does_work : (answer : Taken) (asked new : Node) (o : Placed) → DoesAfter answe
 does_work New asked new o does = worked_more [] (o ∷ []) asked new (none_in (o ∷ [])) does.0
 does_work Known asked new o does = subst (HasWorked (o ∷ []) asked) (sym does) (idle (site_of asked) (o ∷ []) (parked_of asked) (pass_of asked))
 does_work Early asked new o does =
-    parked_work asked new o does.0 (λ p. put_keeps o (parked_of asked) (parked_of new) p does.1) (λ p. put_found o (parked_of asked) (parked_of new) p does.1)
+    parked_work asked new o does.0 (λ p. put_keeps (most_of asked) o (parked_of asked) (parked_of new) p does.1) (λ p. put_found (most_of asked) o (parked_of asked) (parked_of new) p does.1)
 
 -- what a turn does is work with the operation
 pub turn_work : (a b : Node) (o : Placed) → IsTurn o a b → HasWorked (o ∷ []) a b
@@ -125,7 +128,7 @@ turn_work a b o t =
     then_worked (o ∷ []) a t.asked b t.home (handed_work a t.asked o t.answer t.parked t.called) (does_work t.answer t.asked b o t.does)
 
 pub turns_home : (ops : List Placed) (a b : Node) → AreTurns ops a b → IsSameHome a b
-turns_home [] a b are = ap (λ n. n.home) are
+turns_home [] a b are = ap home_of are
 turns_home (o ∷ ops) a b are = turns_home ops are.0 b are.2 ∙ are.1.stays
 
 pub turns_work : (ops : List Placed) (a b : Node) → AreTurns ops a b → HasWorked ops a b
@@ -171,25 +174,25 @@ stays_there ops a b o is (inr had) = elim (stays_heard (site_of a) ops (parked_o
 
 -- or it was Early, and as many were parked as may be
 abbrev IsTooMany : Node → Placed → Type 0
-IsTooMany old o = (asked : Pass) × IsCalled (site_of old) (pass_of old) asked (Took o Early) × (MOST_PARKED ≤ length (parked_of old))
+IsTooMany old o = (asked : Pass) × IsCalled (site_of old) (pass_of old) asked (Took o Early) × (most_of old ≤ length (parked_of old))
 
-does_heard : (answer : Taken) (a asked new : Node) (o : Placed) → parked_of asked ≡ parked_of a → IsCalled (site_of a) (pass_of a) (pass_of asked) (Took o answer) → DoesAfter answer o asked new → IsThere new o ⊎ IsTooMany a o
-does_heard New a asked new o same called does =
+does_heard : (answer : Taken) (a asked new : Node) (o : Placed) → IsSameHome a asked → parked_of asked ≡ parked_of a → IsCalled (site_of a) (pass_of a) (pass_of asked) (Took o answer) → DoesAfter answer o asked new → IsThere new o ⊎ IsTooMany a o
+does_heard New a asked new o home same called does =
     let late : New ≢ Early = λ e. absurd (cc) in
     inl (stays_there [] asked new o does.0 (inl (known_call (site_of a) (pass_of a) (pass_of asked) o New late called)))
-does_heard Known a asked new o same called does =
+does_heard Known a asked new o home same called does =
     let late : Known ≢ Early = λ e. absurd (cc) in
     inl (inl (subst (λ n. IsKnownTo (pass_of n) o) (sym does) (known_call (site_of a) (pass_of a) (pass_of asked) o Known late called)))
-does_heard Early a asked new o same called does = elim (put_heard o (parked_of asked) (parked_of new) does.1) [
+does_heard Early a asked new o home same called does = elim (put_heard (most_of asked) o (parked_of asked) (parked_of new) does.1) [
   | inl there ↦ inl (inr there)
-  | inr many ↦ inr (pass_of asked, called, subst (λ e. MOST_PARKED ≤ length e) same many)
+  | inr many ↦ inr (pass_of asked, called, subst (λ most. most ≤ length (parked_of a)) (home_most a asked home) (subst (λ (e : Entries). most_of asked ≤ length e) same many))
 ]
 
 -- each that had its turn is heard
 pub each_heard : (first ops : List Placed) (start old new : Node) → AreTurns first start old → AreTurns ops old new → (o : Placed) → IsIn o ops → IsHeard (first ++ ops) start new o
 each_heard first [] start old new before are o here = absurd here
 each_heard first (x ∷ ops) start old new before are o here = elim here [
-  | inl same ↦ subst (IsHeard (first ++ x ∷ ops) start new) same (elim (does_heard are.1.answer old are.1.asked are.0 x are.1.parked are.1.called are.1.does) [
+  | inl same ↦ subst (IsHeard (first ++ x ∷ ops) start new) same (elim (does_heard are.1.answer old are.1.asked are.0 x are.1.home are.1.parked are.1.called are.1.does) [
     | inl there ↦ (elim (stays_there ops are.0 new x (turns_work ops are.0 new are.2) there) [ inl known ↦ inl known | inr parked ↦ inr (inl parked) ])
     | inr many ↦ inr (inr (record {
       first = first;

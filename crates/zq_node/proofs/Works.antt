@@ -7,7 +7,7 @@ use Rattle.zq_model.proofs.Membership.{in_left, in_right, in_union}
 use Rattle.zq_model.specs.Sets.{IsIn}
 use Rattle.zq_node.proofs.Called.{HasOperation, called_on, in_stays, known_by, seen_after}
 use Rattle.zq_node.proofs.Changed.{parked_before, parked_still}
-use Rattle.zq_node.specs.Calls.{Asked, Call, Copied, IsCalled, IsKnownTo, Merged, Saw, Took}
+use Rattle.zq_node.specs.Calls.{Asked, Call, Copied, Drained, IsCalled, IsKnownTo, Merged, Saw, Took}
 use Rattle.zq_node.specs.Parked.{Entries, IsParked, IsUpdated, place_of}
 use Rattle.zq_node.specs.Work.{IsOwed, IsWork}
 use Rattle.zq_shard.specs.declared.taken.Taken.{Taken}
@@ -68,6 +68,7 @@ module _ (site : Site) (ops : List Placed) where
   owed_before x y found (Saw heap vector) owed = tt
   owed_before x y found (Asked heap vector answer) owed = absurd owed
   owed_before x y found (Copied heap shard) owed = absurd owed
+  owed_before x y found (Drained heap vector most answer) owed = absurd owed
 
   -- and what was done after it
   pub further : (x y z : Entries) (a b c : Pass) → IsWork site ops x y a b → IsWork site ops y z b c → IsWork site ops x z a c
@@ -104,6 +105,7 @@ module _ (site : Site) (ops : List Placed) where
       owed_more all x within (Saw heap vector) owed = tt
       owed_more all x within (Asked heap vector answer) owed = absurd owed
       owed_more all x within (Copied heap shard) owed = absurd owed
+      owed_more all x within (Drained heap vector most answer) owed = absurd owed
 
   -- what is known or parked stays so
   pub stays_heard : (x y : Entries) (a b : Pass) (o : Placed) → IsWork site ops x y a b → IsKnownTo a o ⊎ IsParked x o → IsKnownTo b o ⊎ IsParked y o

@@ -9,7 +9,7 @@ use Rattle.zq_model.specs.Sets as sets
 use Rattle.zq_shard.specs.Shard.{HeapImage}
 use Rattle.zq_shard.specs.declared.taken.Taken.{Taken}
 use Rattle.zq_shard.specs.declared.taken.Taken.TheVariants as taken
-use Rattle.zq_spread.specs.Answers.{IsAsked, IsCopied, IsMerged, IsShown, IsSince, IsTaken}
+use Rattle.zq_spread.specs.Answers.{IsAsked, IsCopied, IsDrained, IsMerged, IsShown, IsSince, IsTaken}
 use Rattle.zq_spread.specs.Calls.{HasSeenBook, IsCall, IsLikeSite, IsOfSite}
 use Rattle.zq_spread.specs.Passes.{steps_at}
 use Rattle.zq_spread.specs.Worn.{IsWornIn}
@@ -17,13 +17,15 @@ use Rattle.zq_spread.specs.declared.pass.Pass.{Pass}
 use Rattle.zq_spread.specs.declared.site.Site.{Site}
 
 -- a call that the site answered: it took an operation, merged a heap, showed the vector of a heap,
--- said what a peer of a vector lacks, or copied a heap
+-- said what a peer of a vector lacks, copied a heap, or gave a log of a vector what it lacks, at most
+-- so many operations
 pub data Call : Type 0 where
   Took : (op : Placed) (answer : Taken) → Call
   Merged : (shard : HeapImage) → Call
   Saw : (heap : ℕ) (vector : List ℕ) → Call
   Asked : (heap : ℕ) (vector : List ℕ) (answer : Since) → Call
   Copied : (heap : ℕ) (shard : HeapImage) → Call
+  Drained : (heap : ℕ) (vector : List ℕ) (most : ℕ) (answer : Since) → Call
 
 -- the pass made this call of the site, and it was answered so
 abbrev pub IsCalled : Site → Pass → Pass → Call → Type 0
@@ -37,6 +39,8 @@ IsCalled site before after (Asked heap vector answer) =
     × HasSeenBook after heap (IsSince vector answer)
 IsCalled site before after (Copied heap shard) =
     IsCall (IsCopied (Ok shard)) before after (heap ∷ [])
+IsCalled site before after (Drained heap vector most answer) =
+    IsCall (IsDrained after.stamp vector most (Ok answer)) before after (heap ∷ [])
 
 -- the site had no memory to take the operation, which was New to it
 abbrev pub HadNoRoom : Site → Pass → Pass → Placed → Type 0
@@ -60,7 +64,7 @@ AreCalled site before after (c ∷ calls) = (next : Pass) × IsCalled site befor
 abbrev pub WasTaken : List Call → Placed → Type 0
 WasTaken calls o = (answer : Taken) × (answer ≢ taken.Early) × sets.IsIn (Took o answer) calls
 
--- nothing was recorded and nothing merged by the pass
+-- nothing was recorded and nothing merged by the pass, and no book was told what was handed on
 abbrev pub MadeNoStep : Pass → Pass → Type 0
 MadeNoStep before after = (h : ℕ) → steps_at after h ≡ steps_at before h
 

@@ -2,6 +2,7 @@ pub mod Limits
 pub mod Parked
 pub mod Inside
 pub mod Calls
+pub mod Gained
 pub mod Node
 pub mod Work
 pub mod Faults

@@ -2,7 +2,7 @@
 
 use Rattle.std.specs.Prelude.{ℕ}
 
--- the most operations that are parked
+-- the most operations that are parked, where no other number is given
 abbrev pub MOST_PARKED : ℕ
 MOST_PARKED = 1024
 

@@ -1,6 +1,6 @@
 -- A node: its site, its pass, and what it has parked.
 
-use Rattle.std.specs.Prelude.{◌<◌, ◌≡◌}
+use Rattle.std.specs.Prelude.{ℕ, ◌<◌, ◌≡◌}
 use Rattle.zq_dots.specs.Placed.{Placed}
 use Rattle.zq_model.specs.Sets.{IsHeaps, SITES}
 use Rattle.zq_node.specs.Parked.{Entries, IsParked}
@@ -18,7 +18,11 @@ abbrev pub pass_of : Node → Pass
 pass_of node = node.pass
 
 abbrev pub parked_of : Node → Entries
-parked_of node = node.parked
+parked_of node = node.parked.entries
+
+-- how many operations may be parked
+abbrev pub most_of : Node → ℕ
+most_of node = node.parked.most
 
 -- the numbers are the site's
 pub record IsHome (home : Home) : Type 0 where
@@ -35,6 +39,10 @@ pub record IsNode (node : Node) : Type 0 where
   pub parked : (o : Placed) → IsParked (parked_of node) o → IsOfSite (site_of node) o
       × (o.operation.heap < heaps_of (site_of node))
 
--- it is the node of the same site
+-- where it is at home, and how many operations may be parked there
+abbrev pub home_of : Node → Home × ℕ
+home_of node = (node.home, most_of node)
+
+-- it is the node of the same site, and as many operations may be parked
 abbrev pub IsSameHome : Node → Node → Type 0
-IsSameHome old new = new.home ≡ old.home
+IsSameHome old new = home_of new ≡ home_of old

@@ -8,7 +8,6 @@ use Rattle.std.specs.Prelude.{List, Option, Some, cond, length, slice_index, ℕ
 use Rattle.std.specs.declared.cmp.Ordering.{Ordering}
 use Rattle.zq_dots.specs.Placed.{Placed}
 use Rattle.zq_model.specs.Sets.{Early, SITES, taken_of}
-use Rattle.zq_node.specs.Limits.{MOST_PARKED}
 
 -- a heap, a site and a counter
 abbrev pub Place : Type 0
@@ -23,6 +22,11 @@ place_of o = (o.operation.heap, o.operation.site, o.operation.n)
 -- the operations by place
 abbrev pub Entries : Type 0
 Entries = List (Place × Placed)
+
+-- a place for operations that came early: those that are there, and how many there may be
+pub record Parking : Type 0 where
+  pub entries : Entries
+  pub most : ℕ
 
 -- the operation that is parked at a place
 abbrev pub parked_at : Entries → Place → Option Placed
@@ -61,11 +65,11 @@ IsSiteEarly parked heap vector site =
     (o : Placed) → IsParked parked o → o.operation.heap ≡ heap → o.operation.site ≡ site →
     taken_of vector o.operation ≡ Early
 
--- an operation is put away: where one of its heap and dot is parked, or as many as may be are,
--- nothing changes, and else it is parked
-abbrev pub IsPutAway : Placed → Entries → Entries → Type 0
-IsPutAway o old new =
+-- an operation is put away where there may be so many: where one of its heap and dot is parked, or
+-- as many as may be are, nothing changes, and else it is parked
+abbrev pub IsPutAway : ℕ → Placed → Entries → Entries → Type 0
+IsPutAway most o old new =
     (HasPlaceOf old o × (new ≡ old))
-    ⊎ ((HasPlaceOf old o → ⊥) × (MOST_PARKED ≤ length old) × (new ≡ old))
-    ⊎ ((HasPlaceOf old o → ⊥) × (length old < MOST_PARKED) × IsUpdated old new (place_of o) (Some o)
+    ⊎ ((HasPlaceOf old o → ⊥) × (most ≤ length old) × (new ≡ old))
+    ⊎ ((HasPlaceOf old o → ⊥) × (length old < most) × IsUpdated old new (place_of o) (Some o)
     × (length new ≡ length old + 1))

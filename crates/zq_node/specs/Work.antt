@@ -3,9 +3,8 @@
 use Rattle.std.specs.Prelude.{List, [], length, ℕ, ◌++◌, ◌<◌, ◌≡◌, ◌≤◌, ◌∷◌, ◌⊎◌}
 use Rattle.zq_dots.specs.Placed.{Placed}
 use Rattle.zq_model.specs.Sets.{IsIn}
-use Rattle.zq_node.specs.Calls.{AreCalled, Asked, Call, Copied, HadNoRoom, IsCalled, IsEarlyTo, IsKnownTo, MadeNoStep, Merged, Saw, Took, WasAtLast, WasTaken}
-use Rattle.zq_node.specs.Limits.{MOST_PARKED}
-use Rattle.zq_node.specs.Node.{IsSameHome, parked_of, pass_of, site_of}
+use Rattle.zq_node.specs.Calls.{AreCalled, Asked, Call, Copied, Drained, HadNoRoom, IsCalled, IsEarlyTo, IsKnownTo, MadeNoStep, Merged, Saw, Took, WasAtLast, WasTaken}
+use Rattle.zq_node.specs.Node.{IsSameHome, most_of, parked_of, pass_of, site_of}
 use Rattle.zq_node.specs.Parked.{Entries, HasPlaceOf, IsParked, IsPutAway}
 use Rattle.zq_node.specs.declared.node.Node.{Node}
 use Rattle.zq_shard.specs.declared.taken.Taken.{Taken}
@@ -20,6 +19,7 @@ IsOwed ops parked (Saw heap vector) = Unit {0}
 IsOwed ops parked (Merged shard) = ⊥
 IsOwed ops parked (Asked heap vector answer) = ⊥
 IsOwed ops parked (Copied heap shard) = ⊥
+IsOwed ops parked (Drained heap vector most answer) = ⊥
 
 -- these calls alone were made: by them these operations and those that were parked were handed to
 -- the site; what was parked stays unless it was taken, and what is parked then was parked before or
@@ -62,7 +62,7 @@ DoesAfter New o asked new = HasWorked [] asked new × WaitIn new o.operation.hea
     × (length (parked_of new) ≤ length (parked_of asked))
 DoesAfter Known o asked new = new ≡ asked
 DoesAfter Early o asked new = (pass_of new ≡ pass_of asked)
-    × IsPutAway o (parked_of asked) (parked_of new)
+    × IsPutAway (most_of asked) o (parked_of asked) (parked_of new)
 
 -- the site was handed an operation, and the node did what follows
 pub record IsTurn (o : Placed) (old new : Node) : Type 0 where
@@ -81,7 +81,7 @@ pub data WasShort (o : Placed) (old new : Node) : Type 0 where
   taking : HadNoRoom (site_of old) (pass_of old) (pass_of new) o → WasShort o old new
   copying : (asked : Pass) → IsCalled (site_of old) (pass_of old) asked (Took o Early) →
       (HasPlaceOf (parked_of old) o → ⊥) →
-      length (parked_of old) < MOST_PARKED → WasShort o old new
+      length (parked_of old) < most_of old → WasShort o old new
   settling : (asked : Pass) → IsCalled (site_of old) (pass_of old) asked (Took o New) →
       WasShort o old new
 
@@ -107,7 +107,7 @@ pub record WasDropped (ops : List Placed) (old : Node) (o : Placed) : Type 0 whe
   pub turns : AreTurns first old found
   pub asked : Pass
   pub called : IsCalled (site_of old) (pass_of found) asked (Took o Early)
-  pub full : MOST_PARKED ≤ length (parked_of found)
+  pub full : most_of found ≤ length (parked_of found)
 
 -- one of the operations that were heard is in the vector that the pass has then seen, or it is
 -- parked, or one of its heap and dot is, or it was dropped. No honest site makes two of one heap

@@ -4,6 +4,7 @@ ghost use Rattle.zq_links.specs.Frame.{IsWritable, frame_of, have_of};
 ghost use Rattle.zq_links.specs.declared.frame.Frame.TheVariants as heard;
 ghost use Rattle.zq_node.specs.Calls.{MadeNoStep};
 ghost use Rattle.zq_node.specs.Faults.{IsOwnFault};
+ghost use Rattle.zq_node.specs.Gained.{TookNothing};
 ghost use Rattle.zq_node.specs.Hearing.{AreHaves, HasHeard, HasSiteRule, HasStopped, IsFaultOf, IsForSite, IsHaveHeard, IsOfOneHeap, IsStateHeard, IsStateStopped, sent_of};
 ghost use Rattle.zq_node.specs.Node.{IsNode, IsSameHome, parked_of, pass_of, site_of};
 
@@ -118,6 +119,7 @@ impl Node<'_> {
             (map frame_of frames.items)) }
         ensures writable { IfOk result (λ frames. All IsWritable frames.items) }
         ensures no_step { MadeNoStep (pass_of self.old) (pass_of self.new) }
+        ensures took_nothing { TookNothing (pass_of self.old) (pass_of self.new) }
         ensures fault { IfErr result IsOwnFault }
     {
         let mut frames = Vec::new(alloc);

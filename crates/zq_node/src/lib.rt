@@ -11,6 +11,7 @@ mod job;
 mod node;
 mod parked;
 mod settling;
+mod showing;
 mod taking;
 mod telling;
 mod work_fault;

@@ -1,10 +1,11 @@
 //! A node, its type.
 ghost use Rattle.std.specs.Prelude.{◌≡◌, ◌≤◌, [], length};
-ghost use Rattle.zq_node.specs.Node.{IsNode, parked_of, pass_of, site_of};
+ghost use Rattle.zq_node.specs.Limits as limits;
+ghost use Rattle.zq_node.specs.Node.{IsNode, most_of, parked_of, pass_of, site_of};
 ghost use Rattle.zq_spread.specs.Passes.{IsPassOf};
 
 use crate::home::Home;
-use crate::parked::Parked;
+use crate::parked::{MOST_PARKED, Parked};
 use std::alloc::Global;
 use zq_spread::{Pass, Site};
 
@@ -18,14 +19,28 @@ pub struct Node<'a> {
 }
 
 impl<'a> Node<'a> {
-    /// The node of this site. It has parked nothing, and the pass, which is one of the site's, is
-    /// as it was. It takes no memory.
+    /// The node of this site. It has parked nothing, and parks at most
+    /// [`MOST_PARKED`](crate::MOST_PARKED) operations; the pass, which is one of the site's, is as
+    /// it was. It takes no memory.
     pub fn new(alloc: Global, site: &'a Site, pass: Pass) -> Node<'a>
         requires { IsPassOf site.now pass }
         ensures node { IsNode result }
         ensures site { site_of result ≡ site.now }
         ensures pass { pass_of result ≡ pass }
         ensures parked { parked_of result ≡ [] }
+        ensures most { most_of result ≡ limits.MOST_PARKED }
+    {
+        Node::new_up_to(alloc, site, pass, MOST_PARKED)
+    }
+
+    /// The same, where it parks at most so many operations.
+    pub fn new_up_to(alloc: Global, site: &'a Site, pass: Pass, most: usize) -> Node<'a>
+        requires { IsPassOf site.now pass }
+        ensures node { IsNode result }
+        ensures site { site_of result ≡ site.now }
+        ensures pass { pass_of result ≡ pass }
+        ensures parked { parked_of result ≡ [] }
+        ensures most { most_of result ≡ most }
     {
         let number = site.number();
         let heaps = site.heaps();
@@ -41,13 +56,14 @@ impl<'a> Node<'a> {
         Node {
             home,
             pass,
-            parked: Parked::new(alloc),
+            parked: Parked::up_to(alloc, most),
         }
     }
 
-    /// How many operations are parked, at most [`crate::MOST_PARKED`].
+    /// How many operations are parked, at most as many as may be.
     pub fn parked_len(&self) -> usize
-        ensures { result ≡ length (parked_of self.now) }
+        ensures exact { result ≡ length (parked_of self.now) }
+        ensures most { result ≤ most_of self.now }
     {
         self.parked.len()
     }

@@ -11,13 +11,13 @@ use std::collections::BTreeMap;
 use std::marker::Model;
 use zq_dots::{Dot, Op, SITES, SiteNo, Vector};
 
-/// The most operations that are parked.
+/// The most operations that are parked, where no other number is given.
 pub const MOST_PARKED: usize = 1024;
 
 /// Where an operation is parked: its heap, its site and its counter.
 type Place = (u8, u8, u64);
 
-/// Operations that came early, until what they follow has come, at most [`MOST_PARKED`]. One that
+/// Operations that came early, until what they follow has come. It is made for so many, and one that
 /// comes again takes no place of its own.
 ///
 /// A site's operations come in the order of their counters, so of those that are parked only the
@@ -27,55 +27,76 @@ type Place = (u8, u8, u64);
 #[derive(Drop)]
 pub struct Parked {
     ops: BTreeMap<Place, Op>,
+    /// How many there may be.
+    most: usize,
     /// Which sites may have operations here.
     sites: [bool; SITES],
 }
 
 impl Model for Parked {
-    ghost use Rattle.zq_node.specs.Parked.{Entries};
+    ghost use Rattle.zq_node.specs.Parked.{Parking};
     ghost use Rattle.zq_node.specs.Inside.{IsInside};
 
-    ghost Value = { Entries };
+    ghost Value = { Parking };
 
-    ghost view = { λ p. p.ops.entries };
+    ghost view = { λ p. record { entries = p.ops.entries; most = p.most } };
 
     ghost invariant = { IsInside };
 }
 
 impl Parked {
-    /// None. It takes no memory.
+    /// None, and a place for at most [`MOST_PARKED`]. It takes no memory.
     pub fn new(alloc: Global) -> Parked
-        ensures { result ≡ [] }
+        ensures none { result.entries ≡ [] }
+        ensures most { result.most ≡ limits.MOST_PARKED }
+    {
+        Parked::up_to(alloc, MOST_PARKED)
+    }
+
+    /// None, and a place for at most so many. It takes no memory.
+    pub fn up_to(alloc: Global, most: usize) -> Parked
+        ensures none { result.entries ≡ [] }
+        ensures most { result.most ≡ most }
     {
         Parked {
             ops: BTreeMap::new(alloc),
+            most,
             sites: [false; SITES],
         }
     }
 
     /// How many are parked.
     pub fn len(&self) -> usize
-        ensures exact { result ≡ length self.now }
-        ensures most { result ≤ limits.MOST_PARKED }
+        ensures exact { result ≡ length self.now.entries }
+        ensures most { result ≤ self.now.most }
     {
         self.ops.len()
+    }
+
+    /// Whether as many are parked as there may be.
+    pub fn is_full(&self) -> bool
+        ensures { IsTrue result ↔ (self.now.most ≤ length self.now.entries) }
+    {
+        self.ops.len() >= self.most
     }
 
     /// Parks an operation, in the place of one of its heap and dot. Answers whether it is parked:
     /// where as many are as there may be it is dropped, as if it had been lost, and so it is where
     /// memory is refused.
     pub fn park(&mut self, op: Op) -> Result<bool, AllocError>
-        ensures full { IfOk result (λ kept. IsTrue kept ↔ (length self.old < limits.MOST_PARKED)) }
+        ensures full { IfOk result
+            (λ kept. IsTrue kept ↔ (length self.old.entries < self.old.most)) }
         ensures parked { IfOk result (λ kept. IsTrue kept →
-            IsUpdated self.old self.new (parked.place_of op) (Some op)) }
+            IsUpdated self.old.entries self.new.entries (parked.place_of op) (Some op)) }
         ensures dropped { IfOk result (λ kept. kept ≡ false → self.new ≡ self.old) }
-        ensures more { IfOk result (λ kept. IsTrue kept → (HasPlaceOf self.old op → ⊥) →
-            length self.new ≡ length self.old + 1) }
-        ensures again { IfOk result (λ kept. IsTrue kept → HasPlaceOf self.old op →
-            length self.new ≡ length self.old) }
+        ensures more { IfOk result (λ kept. IsTrue kept → (HasPlaceOf self.old.entries op → ⊥) →
+            length self.new.entries ≡ length self.old.entries + 1) }
+        ensures again { IfOk result (λ kept. IsTrue kept → HasPlaceOf self.old.entries op →
+            length self.new.entries ≡ length self.old.entries) }
+        ensures most { self.new.most ≡ self.old.most }
         ensures refused { OnErr result (self.new ≡ self.old) }
     {
-        if self.ops.len() >= MOST_PARKED {
+        if self.is_full() {
             return Ok(false);
         }
         let place = place_of(&op);
@@ -86,17 +107,18 @@ impl Parked {
 
     /// Whether one of this operation's heap and dot is parked.
     pub fn has_place_of(&self, op: &Op) -> bool
-        ensures { (result ≡ true) ↔ HasPlaceOf self.now op.now }
+        ensures { (result ≡ true) ↔ HasPlaceOf self.now.entries op.now }
     {
         self.ops.contains_key(&place_of(op))
     }
 
     /// An operation of this heap that is not Early by this vector, if there is one.
     pub fn ready(&self, heap: u8, vector: &Vector) -> Option<&Op>
-        ensures ready { IfSome result (λ o. IsParked self.now o.now × (o.now.operation.heap ≡ heap)
+        ensures ready { IfSome result
+            (λ o. IsParked self.now.entries o.now × (o.now.operation.heap ≡ heap)
             × (sets.taken_of vector.now o.now.operation ≢ sets.Early)) }
-        ensures none { IfNone result ((o : Placed) → IsParked self.now o → o.operation.heap ≡ heap →
-            sets.taken_of vector.now o.operation ≡ sets.Early) }
+        ensures none { IfNone result ((o : Placed) → IsParked self.now.entries o →
+            o.operation.heap ≡ heap → sets.taken_of vector.now o.operation ≡ sets.Early) }
     {
         let place = self.ready_place(heap, vector)?;
         self.ops.get(&place)
@@ -104,11 +126,12 @@ impl Parked {
 
     /// Lets the operation of this heap and dot go, where one is parked. It takes no memory.
     pub fn leave(&mut self, heap: u8, dot: Dot)
-        ensures left { IsUpdated self.old self.new (heap, dot.site, dot.n) None }
-        ensures fewer { IsSome (parked.parked_at self.old (heap, dot.site, dot.n)) →
-            length self.new + 1 ≡ length self.old }
-        ensures none { parked.parked_at self.old (heap, dot.site, dot.n) ≡ None →
-            length self.new ≡ length self.old }
+        ensures left { IsUpdated self.old.entries self.new.entries (heap, dot.site, dot.n) None }
+        ensures fewer { IsSome (parked.parked_at self.old.entries (heap, dot.site, dot.n)) →
+            length self.new.entries + 1 ≡ length self.old.entries }
+        ensures none { parked.parked_at self.old.entries (heap, dot.site, dot.n) ≡ None →
+            length self.new.entries ≡ length self.old.entries }
+        ensures most { self.new.most ≡ self.old.most }
     {
         let site = dot.site.value();
         let _ = self.ops.remove(&(heap, site, dot.n));
@@ -126,9 +149,9 @@ impl Parked {
 
     /// Where an operation of this heap is parked that is not Early by this vector.
     fn ready_place(&self, heap: u8, vector: &Vector) -> Option<Place>
-        ensures ready { IfSome result (IsReadyAt self.now heap vector.now) }
-        ensures none { IfNone result ((o : Placed) → IsParked self.now o → o.operation.heap ≡ heap →
-            sets.taken_of vector.now o.operation ≡ sets.Early) }
+        ensures ready { IfSome result (IsReadyAt self.now.entries heap vector.now) }
+        ensures none { IfNone result ((o : Placed) → IsParked self.now.entries o →
+            o.operation.heap ≡ heap → sets.taken_of vector.now o.operation ≡ sets.Early) }
     {
         for number in 0..SITES as u8 {
             let may = self.sites[number as usize];

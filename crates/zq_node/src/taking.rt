@@ -4,7 +4,6 @@ ghost use Rattle.zq_dots.specs.Placed.{Placed};
 ghost use Rattle.zq_model.specs.Sets.{IsIn};
 ghost use Rattle.zq_node.specs.Calls.{HadNoRoom, IsCalled, MadeNoStep, Took, WasAtLast};
 ghost use Rattle.zq_node.specs.Hearing.{AreOpsHeard, AreOpsStopped, IsStopOf};
-ghost use Rattle.zq_node.specs.Limits as limits;
 ghost use Rattle.zq_node.specs.Node.{IsNode, IsSameHome, parked_of, pass_of, site_of};
 ghost use Rattle.zq_node.specs.Parked.{HasPlaceOf, IsPutAway};
 ghost use Rattle.zq_node.specs.Work.{AreTurns, IsTurn, WasShort, WasStopped, WasWorn};
@@ -12,7 +11,7 @@ ghost use Rattle.zq_spread.specs.Calls.{IsOfSite, heaps_of};
 
 use crate::faults::NodeFault;
 use crate::node::Node;
-use crate::parked::{MOST_PARKED, Parked};
+use crate::parked::Parked;
 use std::alloc::{AllocError, Global};
 use std::sync::Wait;
 use zq_dots::Op;
@@ -21,15 +20,17 @@ use zq_shard::Taken;
 /// Parks a copy of an operation, unless one of its heap and dot is parked. Where as many are parked
 /// as there may be, it is dropped, as if it had been lost.
 fn keep(parked: &mut Parked, alloc: Global, op: &Op) -> Result<(), AllocError>
-    ensures put { OnOk result (IsPutAway op.now parked.old parked.new) }
+    ensures put { OnOk result
+        (IsPutAway parked.old.most op.now parked.old.entries parked.new.entries) }
+    ensures most { parked.new.most ≡ parked.old.most }
     ensures refused { OnErr result (parked.new ≡ parked.old) }
-    ensures absent { OnErr result (HasPlaceOf parked.old op.now → ⊥) }
-    ensures room { OnErr result (length parked.old < limits.MOST_PARKED) }
+    ensures absent { OnErr result (HasPlaceOf parked.old.entries op.now → ⊥) }
+    ensures room { OnErr result (length parked.old.entries < parked.old.most) }
 {
     if parked.has_place_of(op) {
         return Ok(());
     }
-    if parked.len() >= MOST_PARKED {
+    if parked.is_full() {
         return Ok(());
     }
     let copy = op.copy(alloc)?;

@@ -1,7 +1,8 @@
 //! Operations that are parked, by a table of steps.
 
-use super::making::{drop_of, site_of};
-use crate::Parked;
+use super::making::{Heard, drop_of, frame_of, site_of};
+use super::nodes::{Has, hear, look_at, opened};
+use crate::{Node, Parked};
 use std::alloc::Global;
 use std::process::Abort;
 use zq_dots::{Op, Vector};
@@ -85,4 +86,27 @@ fn one_too_many_is_not_parked(rt: HostRuntime) {
     let op = op_of(&rt, rt.alloc(), 2, 2, 0);
     assert!(rt; !parked.park(op).expect(&rt, "memory"));
     assert!(rt; parked.len() == 1024);
+}
+
+#[test]
+fn a_place_for_two_holds_two(rt: HostRuntime) {
+    let mut parked = Parked::up_to(rt.alloc(), 2);
+    for n in 0..3 {
+        let op = op_of(&rt, rt.alloc(), 1, n + 2, 0);
+        let kept = parked.park(op).expect(&rt, "memory");
+        assert!(rt; kept == (n < 2));
+    }
+    assert!(rt; parked.len() == 2 && parked.is_full());
+}
+
+#[test]
+fn a_node_parks_as_many_as_it_is_made_for(rt: HostRuntime) {
+    let (site, pass) = opened(&rt, rt.alloc(), site_of(&rt, 1), 2);
+    let mut node = Node::new_up_to(rt.alloc(), &site, pass, 2);
+    let later = frame_of(&rt, rt.alloc(), Heard::Ops(1, 4, 1));
+    assert!(rt; hear(&rt, rt.alloc(), &mut node, &later).is_empty());
+    assert!(rt; look_at(&rt, rt.alloc(), &mut node) == Has(2, 0, 0));
+    let first = frame_of(&rt, rt.alloc(), Heard::Ops(0, 1, 1));
+    assert!(rt; hear(&rt, rt.alloc(), &mut node, &first).is_empty());
+    assert!(rt; look_at(&rt, rt.alloc(), &mut node) == Has(0, 2, 3));
 }

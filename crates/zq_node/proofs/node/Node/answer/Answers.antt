@@ -31,7 +31,7 @@ returns-clause-answered g c = record {
   told = option_map frame_of c.in_ok-told.told;
   told_is = c.in_ok-told.ensures.told;
   sent_is = c.in_ok-addressed.ensures.sent ∙ ap (λ l. sent_to c.args.have.now.from (option_to_list (option_map frame_of c.in_ok-told.told) ++ option_to_list l))
-      (c.have_if-own.ensures.own ∙ ap (λ h. own_have h.site.now c.args.have.now.heap c.args.have.now.vector c.in_ok-vector.vector) c.in_ok-told.ensures.home);
+      (c.have_if-own.ensures.own ∙ ap (λ h. own_have h.0.site.now c.args.have.now.heap c.args.have.now.vector c.in_ok-vector.vector) c.in_ok-told.ensures.home);
 }
 
 pub returns-clause-writable : goal.returns-clause-writable

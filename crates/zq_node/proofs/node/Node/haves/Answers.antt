@@ -4,6 +4,7 @@ use Rattle.std.proofs.lemmas.List.Elements.{All-append, All-cons, All-nil}
 use Rattle.std.specs.Prelude.{All}
 use Rattle.zq_links.specs.Frame.{IsWritable, OfHave, frame_of}
 use Rattle.zq_node.proofs.Called.{no_step_on, shown_no_step}
+use Rattle.zq_node.proofs.Drains.{shown_took_nothing, worn_took_nothing}
 use Rattle.zq_node.proofs.Haves.{haves_next, shown_next}
 use Rattle.zq_node.proofs.Nodes.{home_site}
 use Rattle.zq_node.proofs.node.Node.haves.Goals as goal
@@ -18,6 +19,14 @@ vector-requires-clause-heap g c =
 pub returns-in_err-reserve-clause-no_step : goal.returns-in_err-reserve-clause-no_step
 returns-in_err-reserve-clause-no_step g c =
     no_step_on c.args.self.now.pass c.loop-heap.self.pass c.vector.new.pass c.loop-heap.invariant.5 (shown_no_step c.in_ok-vector.vector c.loop-heap.self.pass c.vector.new.pass c.loop-heap.heap c.in_ok-vector.ensures.called)
+
+pub returns-in_err-vector-clause-took_nothing : goal.returns-in_err-vector-clause-took_nothing
+returns-in_err-vector-clause-took_nothing g c = λ h.
+    worn_took_nothing c.loop-heap.self.pass c.vector.new.pass c.loop-heap.heap c.in_err-vector.ensures.refused h ∙ c.loop-heap.invariant.6 h
+
+pub returns-in_err-reserve-clause-took_nothing : goal.returns-in_err-reserve-clause-took_nothing
+returns-in_err-reserve-clause-took_nothing g c = λ h.
+    shown_took_nothing c.in_ok-vector.vector c.loop-heap.self.pass c.vector.new.pass c.loop-heap.heap c.in_ok-vector.ensures.called h ∙ c.loop-heap.invariant.6 h
 
 pub loop-heap-preserved : goal.loop-heap-preserved
 loop-heap-preserved g c =
@@ -40,6 +49,7 @@ loop-heap-preserved g c =
       (vectors ++ v ∷ [], omega (arith, longer, count), shown_next site old.pass before.pass c.vector.new.pass c.loop-heap.heap vectors v count is.3.2 c.in_ok-vector.ensures.called, frames),
       writable,
       no_step_on old.pass before.pass c.vector.new.pass is.5 (shown_no_step v before.pass c.vector.new.pass c.loop-heap.heap c.in_ok-vector.ensures.called),
+      λ h. shown_took_nothing v before.pass c.vector.new.pass c.loop-heap.heap c.in_ok-vector.ensures.called h ∙ is.6 h,
     )
 
 pub returns-clause-haves : goal.returns-clause-haves

@@ -1,13 +1,12 @@
 use Rattle.std.proofs.Common.{[], Err, Some, ap, length, refl, subst, sym, ◌<◌, ◌∷◌, ◌≡◌, ◌∙◌}
 use Rattle.zq_node.proofs.Called.{on_err}
-use Rattle.zq_node.proofs.Nodes.{handed_work, keeping, none_in, only_stopped, own_heap, own_stop, put_node, same_err, stopped_more, then_stopped}
+use Rattle.zq_node.proofs.Nodes.{handed_work, home_most, keeping, none_in, only_stopped, own_heap, own_stop, put_node, same_err, stopped_more, then_stopped}
 use Rattle.zq_node.proofs.Told.{if_err}
 use Rattle.zq_node.proofs.node.Node.take.Goals as goal
 use Rattle.zq_node.specs.Calls.{IsCalled, Took}
 use Rattle.zq_node.specs.Hearing.{IsStopOf}
-use Rattle.zq_node.specs.Node.{parked_of}
-use Rattle.zq_node.specs.Limits.{MOST_PARKED}
-use Rattle.zq_node.specs.Parked.{Entries, HasPlaceOf}
+use Rattle.zq_node.specs.Node.{most_of, parked_of}
+use Rattle.zq_node.specs.Parked.{Entries, HasPlaceOf, Parking}
 use Rattle.zq_node.specs.Work.{WaitIn, WasStopped, copying, handing, settling, taking, trying}
 use Rattle.zq_node.specs.declared.faults.NodeFault.TheVariants.{NoMemory, Worn, WrongHeap}
 use Rattle.zq_node.specs.declared.node.Node.{Node}
@@ -84,7 +83,7 @@ returns-in-Known-clause-turn g c =
     }
 
 -- where there is no memory for a copy the node is as it was handed the operation
-unkept : (mid : Node) (parked : Entries) → parked ≡ parked_of mid → keeping mid parked ≡ mid
+unkept : (mid : Node) (parked : Parking) → parked ≡ mid.parked → keeping mid parked ≡ mid
 unkept mid parked same = ap (keeping mid) same
 
 pub returns-in_err-keep-in-Early-clause-stopped : goal.returns-in_err-keep-in-Early-clause-stopped
@@ -110,8 +109,9 @@ returns-in_err-keep-in-Early-clause-short g c = λ _.
     let old = c.args.self.now in
     let asked = c.hand.new.self in
     let parked : parked_of asked ≡ parked_of old = c.hand.ensures.parked in
-    let absent : HasPlaceOf (parked_of old) c.args.op.now → ⊥ = subst (λ e. HasPlaceOf e c.args.op.now → ⊥) parked c.in_err-keep-in-Early.ensures.absent in
-    let room : length (parked_of old) < MOST_PARKED = subst (λ (e : Entries). length e < MOST_PARKED) parked c.in_err-keep-in-Early.ensures.room in
+    let absent : HasPlaceOf (parked_of old) c.args.op.now → ⊥ = subst (λ (e : Entries). HasPlaceOf e c.args.op.now → ⊥) parked c.in_err-keep-in-Early.ensures.absent in
+    let here : length (parked_of old) < most_of asked = subst (λ (e : Entries). length e < most_of asked) parked c.in_err-keep-in-Early.ensures.room in
+    let room : length (parked_of old) < most_of old = subst (λ most. length (parked_of old) < most) (home_most old asked c.hand.ensures.home) here in
     copying asked.pass (subst (λ t. IsCalled old.home.site.now old.pass asked.pass (Took c.args.op.now t)) c.in-Early.is c.in_ok-taken.ensures.called) absent room
 
 pub returns-in_err-keep-in-Early-clause-worn : goal.returns-in_err-keep-in-Early-clause-worn
@@ -134,5 +134,5 @@ returns-in_ok-keep-in-Early-clause-turn g c =
       parked = c.hand.ensures.parked;
       home = c.hand.ensures.home;
       does = (refl, c.in_ok-keep-in-Early.ensures.put);
-      stays = c.hand.ensures.home;
+      stays = ap (λ most. (asked.home, most)) c.in_ok-keep-in-Early.ensures.most ∙ c.hand.ensures.home;
     }

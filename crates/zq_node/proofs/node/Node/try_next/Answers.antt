@@ -11,12 +11,12 @@ pub returns-in_err-vector-clause-stopped : goal.returns-in_err-vector-clause-sto
 returns-in_err-vector-clause-stopped g c =
     let node = c.args.self.now in
     let stopped : WasStopped [] node (record { home = node.home; pass = c.vector.new.pass; parked = node.parked }) =
-    (node.pass, idle node.home.site.now [] node.parked node.pass, c.in_err-vector.ensures.refused.0.steps) in
+    (node.pass, idle node.home.site.now [] node.parked.entries node.pass, c.in_err-vector.ensures.refused.0.steps) in
     on_err _ _ stopped
 
 pub returns-in_default-clause-work : goal.returns-in_default-clause-work
 returns-in_default-clause-work g c =
-    saw c.args.self.now.home.site.now [] c.args.self.now.parked c.args.self.now.pass c.vector.new.pass c.args.heap c.in_ok-vector.vector c.in_ok-vector.ensures.called
+    saw c.args.self.now.home.site.now [] c.args.self.now.parked.entries c.args.self.now.pass c.vector.new.pass c.args.heap c.in_ok-vector.vector c.in_ok-vector.ensures.called
 
 pub returns-in_default-clause-wait : goal.returns-in_default-clause-wait
 returns-in_default-clause-wait g c =
@@ -28,7 +28,7 @@ returns-in_err-take-clause-stopped g c =
     let site = node.home.site.now in
     let op = c.in-Some.op.now in
     let said : IsTakeOf site c.vector.new.pass c.take.new.pass op c.take.result = record { wrong_heap = c.take.ensures.wrong_heap; unlocked = c.take.ensures.unlocked; called = c.take.ensures.called } in
-    let work = saw site [] node.parked node.pass c.vector.new.pass c.args.heap c.in_ok-vector.vector c.in_ok-vector.ensures.called in
+    let work = saw site [] node.parked.entries node.pass c.vector.new.pass c.args.heap c.in_ok-vector.vector c.in_ok-vector.ensures.called in
     let stopped : WasStopped [] node (record { home = node.home; pass = c.take.new.pass; parked = node.parked }) =
     (c.vector.new.pass, work, take_stopped site c.vector.new.pass c.take.new.pass op c.take.result _ c.in_err-take.was said) in
     on_err _ _ stopped
@@ -39,7 +39,7 @@ returns-clause-node g c =
     record {
       home = node.home;
       pass = c.take.ensures.pass;
-      parked = λ o here. node.parked o (parked_before c.args.self.now.parked c.leave.new.self (c.args.heap, c.dot-dot.result.site, c.dot-dot.result.n) o c.leave.ensures.left here);
+      parked = λ o here. node.parked o (parked_before c.args.self.now.parked.entries c.leave.new.self.entries (c.args.heap, c.dot-dot.result.site, c.dot-dot.result.n) o c.leave.ensures.left here);
     }
 
 pub returns-clause-work : goal.returns-clause-work
@@ -48,18 +48,18 @@ returns-clause-work g c =
     let site = node.home.site.now in
     let op = c.in-Some.op.now in
     let said : IsTakeOf site c.vector.new.pass c.take.new.pass op c.take.result = record { wrong_heap = c.take.ensures.wrong_heap; unlocked = c.take.ensures.unlocked; called = c.take.ensures.called } in
-    let look = saw site [] node.parked node.pass c.vector.new.pass c.args.heap c.in_ok-vector.vector c.in_ok-vector.ensures.called in
+    let look = saw site [] node.parked.entries node.pass c.vector.new.pass c.args.heap c.in_ok-vector.vector c.in_ok-vector.ensures.called in
     let call = take_called site c.vector.new.pass c.take.new.pass op c.take.result c.in_ok-take.field-0 c.in_ok-take.was said in
     let place : Place = (c.args.heap, c.dot-dot.result.site, c.dot-dot.result.n) in
     let same : place ≡ place_of op = λ i. (sym c.in-Some.ensures.ready.1 i, c.dot-dot.ensures.site i, c.dot-dot.ensures.n i) in
-    let gone : IsUpdated node.parked c.leave.new.self (place_of op) None = subst (λ p. IsUpdated node.parked c.leave.new.self p None) same c.leave.ensures.left in
+    let gone : IsUpdated node.parked.entries c.leave.new.self.entries (place_of op) None = subst (λ p. IsUpdated node.parked.entries c.leave.new.self.entries p None) same c.leave.ensures.left in
     let late = never_early site node.pass c.vector.new.pass c.take.new.pass c.args.heap c.in_ok-vector.vector op c.in_ok-take.field-0 c.in_ok-vector.ensures.called c.in-Some.ensures.ready.1 c.in-Some.ensures.ready.2 call in
-    let went = let_go site [] node.parked c.leave.new.self c.vector.new.pass c.take.new.pass op c.in_ok-take.field-0 c.in-Some.ensures.ready.0 late gone call in
-    further site [] node.parked node.parked c.leave.new.self node.pass c.vector.new.pass c.take.new.pass look went
+    let went = let_go site [] node.parked.entries c.leave.new.self.entries c.vector.new.pass c.take.new.pass op c.in_ok-take.field-0 c.in-Some.ensures.ready.0 late gone call in
+    further site [] node.parked.entries node.parked.entries c.leave.new.self.entries node.pass c.vector.new.pass c.take.new.pass look went
 
 pub returns-clause-fewer : goal.returns-clause-fewer
 returns-clause-fewer g c = λ _.
-    let parked = c.args.self.now.parked in
+    let parked = c.args.self.now.parked.entries in
     let op = c.in-Some.op.now in
     let place : Place = (c.args.heap, c.dot-dot.result.site, c.dot-dot.result.n) in
     let same : place ≡ place_of op = λ i. (sym c.in-Some.ensures.ready.1 i, c.dot-dot.ensures.site i, c.dot-dot.ensures.n i) in

@@ -1,7 +1,7 @@
 use Rattle.std.proofs.Common.{arith, length, subst, sym, None, ◌+◌, ◌∙◌, ◌≡◌}
 use Rattle.std.specs.Prelude.{IsSome}
 use Rattle.zq_node.proofs.Changed.{none_fewer, one_fewer, parked_before, placed_without}
-use Rattle.zq_node.specs.Parked.{IsUpdated, Place, parked_at}
+use Rattle.zq_node.specs.Parked.{IsUpdated, Parking, Place, parked_at}
 use Rattle.zq_node.proofs.parked.Parked.leave.Goals as goal
 
 pub invariant_of-self : goal.invariant_of-self
@@ -21,8 +21,8 @@ returns-clause-left c =
     let named : Place = (c.args.heap, c.args.dot.site, c.args.dot.n) in
     let same : place ≡ named = λ i. (c.args.heap, c.value-site.ensures.same i, c.args.dot.n) in
     let changed : IsUpdated old new named None = subst (λ p. IsUpdated old new p None) same c.remove.ensures.updates.0 in
-    let then : IsUpdated old c.settle.new.self named None = subst (λ e. IsUpdated old e named None) (sym c.settle.ensures) changed in
-    subst (λ e. IsUpdated e c.settle.new.self named None) c.self.view_is then
+    let then : IsUpdated old c.settle.new.self.entries named None = subst (λ (p : Parking). IsUpdated old p.entries named None) (sym c.settle.ensures) changed in
+    subst (λ (p : Parking). IsUpdated p.entries c.settle.new.self.entries named None) c.self.view_is then
 
 pub returns-clause-fewer : goal.returns-clause-fewer
 returns-clause-fewer c = λ here.
@@ -31,11 +31,11 @@ returns-clause-fewer c = λ here.
     let place : Place = (c.args.heap, c.value-site.result, c.args.dot.n) in
     let named : Place = (c.args.heap, c.args.dot.site, c.args.dot.n) in
     let same : place ≡ named = λ i. (c.args.heap, c.value-site.ensures.same i, c.args.dot.n) in
-    let there : IsSome (parked_at old place) = subst (λ p. IsSome (parked_at old p)) (sym same) (subst (λ e. IsSome (parked_at e named)) (sym c.self.view_is) here) in
+    let there : IsSome (parked_at old place) = subst (λ p. IsSome (parked_at old p)) (sym same) (subst (λ (p : Parking). IsSome (parked_at p.entries named)) (sym c.self.view_is) here) in
     let removed : IsSome c.remove.result = subst IsSome (sym c.remove.ensures.value) there in
     let one : length new + 1 ≡ length old = one_fewer c.remove.result (length new) (length old) c.remove.ensures.len removed in
-    let then : length c.settle.new.self + 1 ≡ length old = subst (λ e. length e + 1 ≡ length old) (sym c.settle.ensures) one in
-    subst (λ e. length c.settle.new.self + 1 ≡ length e) c.self.view_is then
+    let then : length c.settle.new.self.entries + 1 ≡ length old = subst (λ (p : Parking). length p.entries + 1 ≡ length old) (sym c.settle.ensures) one in
+    subst (λ (p : Parking). length c.settle.new.self.entries + 1 ≡ length p.entries) c.self.view_is then
 
 pub returns-clause-none : goal.returns-clause-none
 returns-clause-none c = λ gone.
@@ -44,7 +44,7 @@ returns-clause-none c = λ gone.
     let place : Place = (c.args.heap, c.value-site.result, c.args.dot.n) in
     let named : Place = (c.args.heap, c.args.dot.site, c.args.dot.n) in
     let same : place ≡ named = λ i. (c.args.heap, c.value-site.ensures.same i, c.args.dot.n) in
-    let nothing : parked_at old place ≡ None = subst (λ p. parked_at old p ≡ None) (sym same) (subst (λ e. parked_at e named ≡ None) (sym c.self.view_is) gone) in
+    let nothing : parked_at old place ≡ None = subst (λ p. parked_at old p ≡ None) (sym same) (subst (λ (p : Parking). parked_at p.entries named ≡ None) (sym c.self.view_is) gone) in
     let all : length new ≡ length old = none_fewer c.remove.result (length new) (length old) c.remove.ensures.len (c.remove.ensures.value ∙ nothing) in
-    let then : length c.settle.new.self ≡ length old = subst (λ e. length e ≡ length old) (sym c.settle.ensures) all in
-    subst (λ e. length c.settle.new.self ≡ length e) c.self.view_is then
+    let then : length c.settle.new.self.entries ≡ length old = subst (λ (p : Parking). length p.entries ≡ length old) (sym c.settle.ensures) all in
+    subst (λ (p : Parking). length c.settle.new.self.entries ≡ length p.entries) c.self.view_is then
