@@ -1,0 +1,115 @@
+//! Sites that lack more than the logs have.
+
+use crate::scenes::Step::{
+    Beats, Cut, Differ, Hear, Link, Lose, Push, Put, Run, Same, Sent, Settle, Tick, Went,
+};
+use crate::scenes::{Step, play};
+use crate::traffic::Kind::{At, Behind, Fetch, Routes, State};
+
+/// A log of so many bytes has fewer than 100 operations: each takes more than 50.
+const SHORT: u64 = 5_000;
+
+/// A site that was away lacks more than the logs have, and is given whole heaps.
+const BEHIND: [Step; 15] = [
+    Link(0, 1),
+    Settle,
+    Put(0, 10),
+    Settle,
+    Same(10),
+    Went(10, 0),
+    Cut(0, 1),
+    Put(0, 1000),
+    Settle,
+    Link(0, 1),
+    Settle,
+    Same(1000),
+    Run(0, "ZADD q 1 new 2 newer"),
+    Settle,
+    Same(1002),
+];
+
+#[test]
+fn a_site_far_behind_is_given_whole_heaps(rt: HostRuntime) {
+    play(&rt, rt.alloc(), 2, SHORT, &BEHIND);
+}
+
+/// Site 1 is told twice of each heap that it is behind, the second time while one is on its way to
+/// it. It asks for each of the two once, and for the second when it has the first.
+const ONCE: [Step; 13] = [
+    Put(0, 1000),
+    Link(0, 1),
+    Hear(10),
+    Push,
+    Hear(1),
+    Sent(&[(Routes, 2), (At, 8), (Behind, 2), (Fetch, 1)]),
+    Tick(5),
+    Hear(6),
+    Push,
+    Sent(&[(At, 4), (State, 1), (Behind, 2)]),
+    Settle,
+    Same(1000),
+    Sent(&[(State, 1), (Fetch, 1), (At, 4)]),
+];
+
+#[test]
+fn a_heap_on_its_way_is_not_asked_for_again(rt: HostRuntime) {
+    play(&rt, rt.alloc(), 2, SHORT, &ONCE);
+}
+
+/// Site 2 is behind both others, and is given each heap by one of them.
+const JOINER: [Step; 10] = [
+    Put(0, 1000),
+    Put(1, 1000),
+    Link(0, 1),
+    Settle,
+    Went(0, 4),
+    Link(0, 2),
+    Link(1, 2),
+    Settle,
+    Same(1000),
+    Went(0, 2),
+];
+
+#[test]
+fn a_new_site_is_given_each_heap_by_one_peer(rt: HostRuntime) {
+    play(&rt, rt.alloc(), 3, SHORT, &JOINER);
+}
+
+/// What site 1 makes while a heap is on its way to it goes to 0 as operations.
+const MEANWHILE: [Step; 9] = [
+    Put(0, 1000),
+    Link(0, 1),
+    Hear(10),
+    Push,
+    Hear(1),
+    Run(1, "ZADD q 1 v 2 w 3 x 4 y 5 z"),
+    Settle,
+    Same(1005),
+    Went(5, 2),
+];
+
+#[test]
+fn what_is_made_while_a_heap_comes_is_pushed(rt: HostRuntime) {
+    play(&rt, rt.alloc(), 2, SHORT, &MEANWHILE);
+}
+
+/// What asks for a heap is lost. It is asked for again when it was waited for 15 seconds.
+const UNANSWERED: [Step; 12] = [
+    Put(0, 1000),
+    Link(0, 1),
+    Hear(10),
+    Push,
+    Hear(1),
+    Lose(1, 0),
+    Settle,
+    Beats(14),
+    Differ(0, 1),
+    Beats(2),
+    Same(1000),
+    Went(0, 2),
+];
+
+#[test]
+fn a_heap_that_does_not_come_is_asked_for_again(rt: HostRuntime) {
+    play(&rt, rt.alloc(), 2, SHORT, &UNANSWERED);
+}

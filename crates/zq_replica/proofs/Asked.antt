@@ -1,0 +1,51 @@
+-- Asking a site what it has, one time after the other.
+
+use Rattle.std.proofs.Common.{refl, ◌∙◌}
+use Rattle.zq_links.specs.declared.frame.Frame as code
+use Rattle.zq_node.specs.declared.node.Node.{Node}
+use Rattle.zq_replica.specs.Nodes.{Heard, Hears, Shows}
+
+-- nothing was asked
+pub not_asked : (a : Node) → Shows a a
+not_asked a = record { home = refl; parked = refl; took_nothing = λ h. refl }
+
+-- it was asked, and then asked again
+pub asked_again : (a b c : Node) → Shows a b → Shows b c → Shows a c
+asked_again a b c first then = record {
+  home = then.home ∙ first.home;
+  parked = then.parked ∙ first.parked;
+  took_nothing = λ h. then.took_nothing h ∙ first.took_nothing h;
+}
+
+-- a frame was heard, and before and after that it was asked
+pub heard_between : (frame : code.Frame) (a b h n : Node) → Shows a b → Hears frame b h → Shows h n
+    → Heard frame a n
+heard_between frame a b h n first heard then = record {
+  before = b;
+  asked = first;
+  after = h;
+  heard = heard;
+  then_asked = then;
+}
+
+-- it was asked before a frame was heard
+pub asked_before : (frame : code.Frame) (a b n : Node) → Shows a b → Heard frame b n
+    → Heard frame a n
+asked_before frame a b n first heard = record {
+  before = heard.before;
+  asked = asked_again a b heard.before first heard.asked;
+  after = heard.after;
+  heard = heard.heard;
+  then_asked = heard.then_asked;
+}
+
+-- it was asked after a frame was heard
+pub asked_after : (frame : code.Frame) (a b n : Node) → Heard frame a b → Shows b n
+    → Heard frame a n
+asked_after frame a b n heard then = record {
+  before = heard.before;
+  asked = heard.asked;
+  after = heard.after;
+  heard = heard.heard;
+  then_asked = asked_again heard.after b n heard.then_asked then;
+}

@@ -1,0 +1,31 @@
+//! What a site knows of its peers, and pushes to them.
+//!
+//! Operations are pushed, each once: after calls a site sends each peer the operations that it made
+//! and, where the peer asks for it, those of sites that the peer has no link to. It keeps, for each
+//! peer and heap, a vector of what the peer has, or will have once it has heard what is under way.
+//! Peers tell each other what they have as a link begins, as an acknowledgement, and from time to
+//! time, so that what was lost is sent again.
+//!
+//! Between the heaps and the links stand logs of written operations. `drain` takes what a heap has
+//! made since into its log. A peer that lacks what a log has no more is told so, and fetches the
+//! whole heap, from one peer at a time.
+#![tactic(auto)]
+
+mod calming;
+mod catching;
+mod controlling;
+mod end;
+mod hearing;
+mod logs;
+mod parcels;
+mod protocol;
+mod pushing;
+mod raising;
+mod replica;
+mod routing;
+mod telling;
+
+pub use logs::{Drained, Logs};
+pub use parcels::Parcels;
+pub use protocol::Protocol;
+pub use replica::{LEAST_WINDOW, Replica, window_for};

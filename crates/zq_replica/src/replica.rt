@@ -1,0 +1,106 @@
+//! A site among its peers.
+
+ghost use Rattle.std.specs.Prelude.{IsTrue};
+ghost use Rattle.zq_links.specs.Control.{IsHeapOf};
+
+use crate::catching::Catching;
+use crate::end::End;
+use crate::logs::Logs;
+use std::alloc::{AllocError, Global};
+use zq_dots::{Rule, SITES, SiteNo};
+use zq_follow::SiteSet;
+use zq_posheap::Seeded;
+
+/// How many operations of a heap a peer may have under way to a site at least.
+pub const LEAST_WINDOW: u64 = 256;
+
+/// How many operations of a heap a peer may have under way to a site which parks so many, and has
+/// so many peers and heaps: together no more than are parked, but at least [`LEAST_WINDOW`] each.
+pub fn window_for(parked: usize, peers: usize, heaps: u8) -> u64 {
+    let shares = (peers as u64).saturating_mul(u64::from(heaps)).max(1);
+    (parked as u64 / shares).max(LEAST_WINDOW)
+}
+
+/// What a site knows of its peers: what each has, and will have once it has heard what is under
+/// way.
+#[derive(Drop)]
+pub struct Replica<'l> {
+    pub(crate) own: SiteNo,
+    pub(crate) heaps: u8,
+    pub(crate) rule: Rule,
+    /// By what states lie that are heard.
+    pub(crate) hasher: Seeded,
+    /// How many operations of a heap each peer may have under way to this site.
+    pub(crate) window: u64,
+    /// The logs of the heaps.
+    pub(crate) logs: &'l Logs,
+    pub(crate) ends: Vec<End>,
+    /// For each heap, from which peer the last new operation of each site came.
+    pub(crate) sources: Vec<[Option<SiteNo>; SITES]>,
+    /// The heap that is fetched from a peer, if one is.
+    pub(crate) catching: Option<Catching>,
+    /// How many beats there were since the last calm.
+    pub(crate) beats: u8,
+}
+
+impl<'l> Replica<'l> {
+    /// The site of this number, with so many heaps and this rule, none of whose links to these
+    /// peers is up. Each peer may have so many operations of a heap under way to it. What the heaps
+    /// make is in these logs, one for each heap.
+    pub fn new(
+        alloc: Global,
+        own: SiteNo,
+        heaps: u8,
+        rule: Rule,
+        hasher: Seeded,
+        window: u64,
+        logs: &'l Logs,
+        peers: &[SiteNo],
+    ) -> Result<Replica<'l>, AllocError> {
+        let mut ends = Vec::new(alloc);
+        for peer in peers {
+            ends.push(End::new(alloc, *peer, heaps)?)?;
+        }
+        let mut sources = Vec::new(alloc);
+        for _heap in 0..heaps {
+            sources.push([None; SITES])?;
+        }
+        Ok(Replica {
+            own,
+            heaps,
+            rule,
+            hasher,
+            window,
+            logs,
+            ends,
+            sources,
+            catching: None,
+            beats: 0,
+        })
+    }
+
+    /// Whether this is one of the site's heaps, of which there are 16 at most.
+    pub(crate) fn has_heap(&self, heap: u8) -> bool
+        ensures { IsTrue result → IsHeapOf self.now.heaps heap }
+    {
+        1 <= self.heaps && self.heaps <= 16 && heap < self.heaps
+    }
+
+    /// The place of the end of the link of this number to this peer, where that link is up.
+    pub(crate) fn place_of(&self, peer: SiteNo, link: u64) -> Option<usize> {
+        self.ends.iter().position(|end| end.peer == peer
+            && end.link == link
+            && end.protocol.is_some())
+    }
+
+    /// The peers that this site has links to.
+    pub(crate) fn linked(&self) -> SiteSet {
+        let mut linked = SiteSet::empty();
+        for end in self.ends.iter() {
+            if end.protocol.is_some() {
+                linked = linked.with(end.peer);
+            }
+        }
+        linked
+    }
+}
