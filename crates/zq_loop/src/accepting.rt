@@ -73,15 +73,14 @@ impl Acceptor {
     /// told to stop. One that fails counts among them, and is told of. Where descriptors or memory
     /// run out it waits for more of these, and nothing is counted. The port has to be the one that
     /// it was opened with.
-    pub fn run<R: Wait, W: Watch>(self, rt: &R, port: &Port, watch: &W) {
-        let mut acceptor = self;
+    pub fn run<R: Wait, W: Watch>(&mut self, rt: &R, port: &Port, watch: &W) {
         let most = port.limits.connections;
         for _ in rt.forever() {
-            if port.counts.is_stopped() || most != 0 && acceptor.done >= most {
+            if port.counts.is_stopped() || most != 0 && self.done >= most {
                 break;
             }
-            let attempt = acceptor.accept(rt, port, watch);
-            if !acceptor.wait_after(attempt) {
+            let attempt = self.accept(rt, port, watch);
+            if !self.wait_after(attempt) {
                 watch.tell(PortFault::Device);
                 break;
             }

@@ -1,18 +1,23 @@
 //! What a worker waits with.
 
+ghost use Rattle.zq_loop.specs.Life.{Rests};
 ghost use Rattle.zq_loop.specs.Turns.{AreOthers};
 ghost use Rattle.zq_session.specs.Among.{AnyRequest, Meanwhile};
 
+use crate::client::Client;
 use crate::inbox::Inbox;
+use crate::noting::note_all;
 use crate::port::Port;
 use crate::watch::Watch;
 use crate::worker::Worker;
+use mio::net::TcpStream;
 use mio::{Events, Poll};
 use std::alloc::Global;
 use std::io;
 use std::net::Net;
 use std::rt::Clock;
 use std::sync::Wait;
+use std::time::Duration;
 use zq_session::Answers;
 
 // As many events are taken at once.
@@ -45,7 +50,7 @@ impl Poller {
     /// answers has to let all that requests do be what others may do to a connection. It is changed
     /// by requests alone.
     pub fn run<R: Wait + Clock, A: Answers, W: Watch>(
-        self,
+        &mut self,
         rt: &R,
         alloc: Global,
         port: &Port,
@@ -58,5 +63,21 @@ impl Poller {
         if let Some(inbox) = port.inboxes.get(self.place) {
             Worker::new(alloc, self, inbox, port, watch).run(rt, answerer);
         }
+    }
+
+    /// Waits for events, at most so long, no end of it with `None`, and says whether it could.
+    pub(crate) fn wait(&mut self, most: Option<Duration>) -> bool {
+        self.poll.poll(&mut self.events, most).is_ok()
+    }
+
+    /// Notes at the clients what the system told, and says whether the inbox may have more.
+    pub(crate) fn note(
+        &self,
+        clients: &mut [Option<Client<TcpStream>>],
+        queue: &mut Vec<usize>,
+    ) -> bool
+        ensures { Rests clients.old clients.new }
+    {
+        note_all(&self.events, clients, queue)
     }
 }

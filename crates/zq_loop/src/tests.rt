@@ -122,9 +122,10 @@ where
     let watch = Counting {
         told: AtomicU64::new(0),
     };
-    let (port, acceptor, pollers) = Port::open(rt, alloc, address, 2, limits)?;
+    let (port, mut acceptor, mut pollers) = Port::open(rt, alloc, address, 2, limits)?;
     let number = port.address()?.port();
     let (port, told) = (&port, &watch);
+    let (acceptor, pollers) = (&mut acceptor, pollers.as_mut_slice());
     let is_well = thread::scope(
         thread::scope_env(),
         rt,

@@ -6,7 +6,6 @@ ghost use Rattle.zq_loop.specs.Turns.{AreOthers};
 
 use crate::client::Client;
 use crate::inbox::Inbox;
-use crate::noting::note_all;
 use crate::places::{Looked, finish_at, look_at, put_in, take_out};
 use crate::poller::Poller;
 use crate::port::Port;
@@ -33,9 +32,9 @@ const GRACE: u64 = 5;
 
 /// A worker's connections, and what it waits with.
 #[derive(Drop)]
-pub struct Worker<'a, 'w, W> {
+pub struct Worker<'a, 'p, 'w, W> {
     alloc: Global,
-    poller: Poller,
+    poller: &'p mut Poller,
     inbox: &'a Inbox,
     port: &'a Port,
     watch: &'w W,
@@ -57,15 +56,15 @@ pub struct Worker<'a, 'w, W> {
     ends_at: Option<u64>,
 }
 
-impl<'a, 'w, W: Watch> Worker<'a, 'w, W> {
+impl<'a, 'p, 'w, W: Watch> Worker<'a, 'p, 'w, W> {
     /// A worker with no connections.
     pub fn new(
         alloc: Global,
-        poller: Poller,
+        poller: &'p mut Poller,
         inbox: &'a Inbox,
         port: &'a Port,
         watch: &'w W,
-    ) -> Worker<'a, 'w, W>
+    ) -> Worker<'a, 'p, 'w, W>
         ensures { result.clients.items ≡ [] }
     {
         Worker {
@@ -99,13 +98,8 @@ impl<'a, 'w, W: Watch> Worker<'a, 'w, W> {
             if self.port.counts.has_all() && self.count == 0 && self.inbox.is_empty(rt) {
                 break;
             }
-            let wait = self.wait();
-            if self
-                .poller
-                .poll
-                .poll(&mut self.poller.events, wait)
-                .is_err()
-            {
+            let most = self.wait();
+            if !self.poller.wait(most) {
                 self.watch.tell(PortFault::Device);
                 break;
             }
@@ -148,7 +142,7 @@ impl<'a, 'w, W: Watch> Worker<'a, 'w, W> {
     fn note(&mut self)
         ensures { Rests self.old.clients.items self.new.clients.items }
     {
-        let has_mail = note_all(&self.poller.events, &mut self.clients, &mut self.queue);
+        let has_mail = self.poller.note(&mut self.clients, &mut self.queue);
         self.has_mail |= has_mail;
     }
 

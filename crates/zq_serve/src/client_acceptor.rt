@@ -1,27 +1,31 @@
 //! What accepts a site's connections.
 
-use crate::site_server::SiteServer;
 use crate::warning::Warner;
 use log::Log;
-use std::sync::{Arc, Mutex, Wait};
-use zq_loop::Acceptor;
+use std::sync::{Mutex, Wait};
+use zq_loop::{Acceptor, Port};
+use zq_spread::Site;
 
-/// What accepts the connections of a site's server, and hands them to its workers.
+/// What accepts the connections of a site's port, and hands them to its workers.
 #[derive(Drop)]
-pub struct ClientAcceptor {
-    pub(crate) server: Arc<SiteServer>,
-    pub(crate) acceptor: Acceptor,
+pub struct ClientAcceptor<'b> {
+    pub(crate) site: &'b Site,
+    pub(crate) port: &'b Port,
+    pub(crate) acceptor: &'b mut Acceptor,
 }
 
-impl ClientAcceptor {
+impl ClientAcceptor<'_> {
     /// Accepts connections, once the gate is open, until all have come. A gate that was never
     /// opened ends it at once.
     pub(crate) fn run<L: Log + Wait>(self, log: &L, gate: &Mutex<bool>) {
         if !*gate.lock(log) {
             return;
         }
-        let ClientAcceptor { server, acceptor } = self;
-        let server: &SiteServer = &server;
-        acceptor.run(log, &server.port, &Warner::new(log, server.number));
+        let ClientAcceptor {
+            site,
+            port,
+            acceptor,
+        } = self;
+        acceptor.run(log, port, &Warner::new(log, site.number()));
     }
 }

@@ -2,7 +2,7 @@
 
 use crate::fault::ServeFault;
 use crate::inboxes::Inboxes;
-use crate::opening::ClientThreads;
+use crate::threads::ClientThreads;
 use log::Log;
 use std::alloc::Global;
 use std::sync::{Mutex, Wait};
@@ -18,7 +18,7 @@ use std::time::Clock;
 pub fn run_clients<L: Log + Clock + Threads + Wait + Sync>(
     log: &L,
     alloc: Global,
-    clients: ClientThreads,
+    clients: ClientThreads<'_, '_>,
     inboxes: Inboxes<'_>,
     seed: u64,
 ) -> Result<(), ServeFault> {

@@ -1,19 +1,22 @@
 //! Serving all sites.
 
-ghost use Rattle.std.specs.Arc.{arc_value};
-ghost use Rattle.std.specs.Prelude.{◌≡◌};
+ghost use Rattle.zq_serve.specs.Plans.{ArePlanned};
 
 use crate::announcing::announce;
 use crate::descriptors::most_clients;
 use crate::fault::ServeFault;
+use crate::hashing::draw_hasher;
 use crate::inboxes::Inboxes;
-use crate::limits::warn_few;
+use crate::limits::{limits_of, warn_few};
 use crate::linker::Linker;
-use crate::opening::{SiteThreads, draw_hasher, open_all, open_mailboxes};
+use crate::links::open_links;
+use crate::mailboxes::open_mailboxes;
+use crate::plans::plans_of;
+use crate::ports::open_ports;
 use crate::running::run_clients;
-use crate::site_server::SiteServer;
+use crate::threads::{SiteThreads, threads_of};
 use log::Log;
-use std::alloc::Global;
+use std::alloc::{AllocError, Global};
 use std::io::Write;
 use std::net::{Net, TcpListener, TcpStream};
 use std::random::RandomSource;
@@ -21,9 +24,9 @@ use std::sync::Wait;
 use std::thread;
 use std::thread::Threads;
 use std::time::Clock;
-use zq_dots::SiteNo;
 use zq_peers::{Mailbox, Silent, Straight};
 use zq_posheap::Seeded;
+use zq_session::{LentSite, close_sites, end_loan, lend_sites, open_sites};
 use zq_settings::Settings;
 
 /// Serves the sites of the settings in this process, each on its port on loopback: the connections
@@ -66,22 +69,46 @@ where
     W: Write,
 {
     let hasher = draw_hasher(log)?;
-    let ports = settings.ports.as_slice();
-    let most = most_clients(ports.len() as u64, settings.workers, 0);
-    let threads = open_all(log, alloc, settings, most, hasher)?;
+    let plans = plans_of(alloc, settings)?;
+    let mut made = open_sites(alloc, &plans, hasher)?;
+    let ended = match lend_sites(alloc, &plans, &mut made) {
+        Ok(mut lent) => {
+            let ended = serve_lent(log, alloc, settings, out, hasher, &mut lent);
+            end_loan(lent);
+            ended
+        }
+        Err(AllocError) => Err(ServeFault::NoMemory),
+    };
+    close_sites(made);
+    ended
+}
+
+/// Serves the sites of the settings, which these are.
+fn serve_lent<'a, L, W>(
+    log: &L,
+    alloc: Global,
+    settings: &Settings,
+    out: &mut W,
+    hasher: Seeded,
+    sites: &mut [LentSite<'a>],
+) -> Result<(), ServeFault>
+where
+    L: Log + Net<Listener = TcpListener, Stream = TcpStream> + Clock + Threads + Wait + Sync,
+    W: Write,
+    requires { ArePlanned settings.now sites.old }
+{
+    let listened = settings.ports.as_slice();
+    let most = most_clients(listened.len() as u64, settings.workers, 0);
+    let limits = limits_of(settings.connections, &settings.limits, most);
+    let mut ports = open_ports(log, alloc, listened, settings.workers, limits)?;
     let mailboxes = open_mailboxes(alloc, settings)?;
-    announce(ports, out)?;
-    for site in 0..ports.len() {
+    let links = open_links(alloc, sites, hasher)?;
+    announce(listened, out)?;
+    for site in 0..listened.len() {
         warn_few(log, site as u64, settings.limits.clients, most);
     }
-    run_all(
-        log,
-        alloc,
-        threads,
-        &mailboxes,
-        hasher,
-        settings.seed.value(),
-    )
+    let threads = threads_of(alloc, settings, sites, &mut ports, &links)?;
+    run_all(log, alloc, threads, &mailboxes, settings.seed.value())
 }
 
 /// Runs each linker and each worker in a thread of its own. When all workers are done it sends Stop
@@ -89,9 +116,8 @@ where
 fn run_all<L: Log + Clock + Threads + Wait + Sync>(
     log: &L,
     alloc: Global,
-    threads: SiteThreads,
+    threads: SiteThreads<'_, '_>,
     mailboxes: &[Mailbox],
-    hasher: Seeded,
     seed: u64,
 ) -> Result<(), ServeFault> {
     let SiteThreads { clients, linkers } = threads;
@@ -102,7 +128,7 @@ fn run_all<L: Log + Clock + Threads + Wait + Sync>(
             let mut ended = Ok(());
             for linker in linkers {
                 if scope
-                    .spawn(move || link_one(log, alloc, linker, mailboxes, hasher))
+                    .spawn(move || link_one(log, alloc, linker, mailboxes))
                     .is_err()
                 {
                     ended = Err(ServeFault::Device);
@@ -121,18 +147,12 @@ fn run_all<L: Log + Clock + Threads + Wait + Sync>(
 
 /// Links a site to the others, whose mailboxes these are, until it is to stop. Site N's is at place
 /// N.
-fn link_one<R: Wait>(rt: &R, alloc: Global, linker: Linker, mailboxes: &[Mailbox], hasher: Seeded) {
-    let number = site_of(&linker);
+fn link_one<R: Wait>(rt: &R, alloc: Global, linker: Linker<'_, '_>, mailboxes: &[Mailbox]) {
+    let Some(number) = linker.number() else {
+        return;
+    };
     let mut carrier = Straight::new(rt, number, mailboxes);
     if let Some(inbox) = mailboxes.get(usize::from(number.value())) {
-        linker.run(rt, alloc, inbox, hasher, &mut carrier, &mut Silent);
+        linker.run(rt, alloc, inbox, &mut carrier, &mut Silent);
     }
-}
-
-/// The number of a linker's site.
-fn site_of(linker: &Linker) -> SiteNo
-    ensures { result ≡ (arc_value linker.now.server).number }
-{
-    let server: &SiteServer = &linker.server;
-    server.number
 }

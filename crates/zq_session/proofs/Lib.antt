@@ -13,5 +13,6 @@ pub mod Written
 pub mod Streams
 pub mod Refused
 pub mod PlainBooks
+pub mod MadeAndLent
 mod OfSets
 pub mod InHistory

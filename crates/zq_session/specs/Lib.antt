@@ -13,3 +13,4 @@ pub mod Refusals
 pub mod Passing
 pub mod PassFacts
 pub mod Calls
+pub mod LentSites

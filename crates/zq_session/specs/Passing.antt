@@ -6,6 +6,7 @@ use Rattle.std.specs.Prelude.{Err, List, Ok, ℕ, ◌≡◌, ◌⊎◌}
 use Rattle.zq_resp.specs.Reply.{reply_bytes}
 use Rattle.zq_resp.specs.declared.reply.Reply.{Reply}
 use Rattle.zq_session.specs.Refusals.{IsRefusalOf}
+use Rattle.zq_session.specs.declared.site_pass.SitePass.{SitePass}
 use Rattle.zq_spread.specs.Dispatch.{IsCalled}
 use Rattle.zq_spread.specs.declared.pass.Pass.{Pass}
 use Rattle.zq_spread.specs.declared.site.Site.{Site}
@@ -20,6 +21,9 @@ pub record Passed : Type 0 where
 
 abbrev pub passed : Site → Pass → Lcg → Passed
 passed site pass draws = record { site = site; pass = pass; draws = draws }
+
+abbrev pub passed_by : SitePass → Lcg → Passed
+passed_by own draws = passed own.site.now own.pass draws
 
 -- the words that a command is called with: the generator's next two for ZPOPNEAR, and 0 for the
 -- others, which look at none

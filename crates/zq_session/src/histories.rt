@@ -2,6 +2,7 @@
 
 ghost use Rattle.std.specs.Prelude.{List, Ok, Result, [], true, ℕ, ◌++◌, ◌∷◌, ◌≡◌, ◌≤◌};
 ghost use Rattle.zq_dots.specs.Rule.{rule_of};
+ghost use Rattle.zq_model.specs.Limits.{TailLimits};
 ghost use Rattle.zq_model.specs.Operation.{Operation};
 ghost use Rattle.zq_model.specs.Rule.{Rule as Rules};
 ghost use Rattle.zq_model.specs.Sets.{AreSame, IsWorld};
@@ -69,17 +70,17 @@ pub fn passing_meaning()
         command_of words ≡ Ok command → IsCallOf old command bytes new c →
         IsAnsweredBy (queues_over (rule_of old.site.rule) (gathered W (notes_of before) [])
         (heaps_in (heaps_of old.site))) words bytes }
-    ensures linked { (rule : Rules) (K : ℕ) (sites : ℕ →
-        Site) (events : List Event) (before : List Event) (e : Event) (after : List Event)
-        (old new : Passed) (words : List Word) (command : Command)
-        (bytes : Word) → 2 ≤ K → AreEventsOf rule K sites events → events ≡ before ++ e ∷ after →
+    ensures linked { (limits : ℕ → TailLimits) (rule : Rules) (K : ℕ) (sites : ℕ → Site)
+        (events : List Event) (before : List Event) (e : Event) (after : List Event)
+        (old new : Passed) (words : List Word) (command : Command) (bytes : Word) → 2 ≤ K →
+        AreEventsOf limits rule K sites events → events ≡ before ++ e ∷ after →
         is_question words ≡ true → command_of words ≡ Ok command →
         IsCallOf old command bytes new e.call →
         IsAnsweredBy (queues_over rule (has_at (made_of events) e.site before) (heaps_in K)) words
         bytes }
-    ensures converging { (rule : Rules) (K : ℕ) (sites : ℕ →
-        Site) (events : List Event) (one other : Asking) (words : List Word) → 2 ≤ K →
-        AreEventsOf rule K sites events → is_question words ≡ true →
+    ensures converging { (limits : ℕ → TailLimits) (rule : Rules) (K : ℕ) (sites : ℕ → Site)
+        (events : List Event) (one other : Asking) (words : List Word) → 2 ≤ K →
+        AreEventsOf limits rule K sites events → is_question words ≡ true →
         IsAskingOf events words one → IsAskingOf events words other →
         AreSame (has_at (made_of events) one.event.site one.before)
         (has_at (made_of events) other.event.site other.before) →

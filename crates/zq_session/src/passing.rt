@@ -2,15 +2,14 @@
 
 ghost use Rattle.std.specs.Prelude.{IsTrue, ◌≡◌};
 ghost use Rattle.zq_resp.specs.Reply.{is_writable, reply_bytes};
-ghost use Rattle.zq_session.specs.PassFacts.{pass_fact};
-ghost use Rattle.zq_session.specs.Passing.{IsPassedOn, draws_after, passed, words_for};
-ghost use Rattle.zq_spread.specs.Passes.{IsPassOf};
+ghost use Rattle.zq_session.specs.Passing.{IsPassedOn, draws_after, passed_by, words_for};
 
 use crate::serving::Answers;
+use crate::site_pass::SitePass;
 use std::alloc::Global;
 use std::sync::Wait;
 use zq_resp::{Reply, Request};
-use zq_spread::{Draws, Pass, Site};
+use zq_spread::Draws;
 use zq_words::{Command, Kind};
 
 /// A server of a site, which answers requests by one pass. Other threads may work at the site at
@@ -19,37 +18,28 @@ use zq_words::{Command, Kind};
 /// A request is one call of the site. ZPOPNEAR draws its heaps by the next two words of the draws;
 /// no other command takes any. What is no command changes nothing and takes no words.
 #[derive(Drop)]
-pub struct Passing<'a, R: Wait> {
-    rt: &'a R,
-    site: &'a Site,
-    pass: Pass,
+pub struct Passing<'b, 'a, R: Wait> {
+    rt: &'b R,
+    own: &'b mut SitePass<'a>,
     draws: Draws,
-    ghost own: { IsPassOf site.now pass } by { pass_fact site.now pass },
 }
 
-impl<'a, R: Wait> Passing<'a, R> {
-    /// A server of the site, by a pass that the site was made with.
-    pub fn new(rt: &'a R, site: &'a Site, pass: Pass, draws: Draws) -> Passing<'a, R>
-        requires { IsPassOf site.now pass }
-        ensures { passed result.site.now result.pass result.draws ≡ passed site.now pass draws }
+impl<'b, 'a, R: Wait> Passing<'b, 'a, R> {
+    /// A server of a site, by this pass of it.
+    pub fn new(rt: &'b R, own: &'b mut SitePass<'a>, draws: Draws) -> Passing<'b, 'a, R>
+        ensures { passed_by result.own.now result.draws ≡ passed_by own.old draws }
     {
-        Passing {
-            rt,
-            site,
-            pass,
-            draws,
-        }
+        Passing { rt, own, draws }
     }
 
     /// The reply to a command, by a call of the site.
     fn run(&mut self, alloc: Global, command: &Command) -> Reply
-        ensures ran { IsPassedOn (passed self.old.site.now self.old.pass self.old.draws) command.now
-            (passed self.new.site.now self.new.pass self.new.draws) (reply_bytes result) }
+        ensures ran { IsPassedOn (passed_by self.old.own.now self.old.draws) command.now
+            (passed_by self.new.own.now self.new.draws) (reply_bytes result) }
         ensures writable { IsTrue (is_writable result) }
     {
-        let (w1, w2) = draw(&mut self.draws, command);
-        self.site
-            .call(self.rt, alloc, &mut self.pass, command, w1, w2)
+        let words = draw(&mut self.draws, command);
+        self.own.call(self.rt, alloc, command, words)
     }
 }
 
@@ -64,17 +54,17 @@ fn draw(draws: &mut Draws, command: &Command) -> (u64, u64)
     }
 }
 
-impl<'a, R: Wait> Answers for Passing<'a, R> {
+impl<'b, 'a, R: Wait> Answers for Passing<'b, 'a, R> {
     ghost use Rattle.zq_session.specs.Among.{AnyRequest};
-    ghost use Rattle.zq_session.specs.Passing.{AnswersByCall, passed};
+    ghost use Rattle.zq_session.specs.Passing.{AnswersByCall, passed_by};
 
     ghost answers = { λ old words reply new.
-        AnswersByCall (passed old.site.now old.pass old.draws) words reply
-        (passed new.site.now new.pass new.draws) };
+        AnswersByCall (passed_by old.own.now old.draws) words reply
+        (passed_by new.own.now new.draws) };
 
     ghost others = { λ old new.
-        AnyRequest AnswersByCall (passed old.site.now old.pass old.draws)
-        (passed new.site.now new.pass new.draws) };
+        AnyRequest AnswersByCall (passed_by old.own.now old.draws)
+        (passed_by new.own.now new.draws) };
 
     fn answer(&mut self, alloc: Global, request: &Request) -> Reply {
         match Command::read(alloc, request) {

@@ -7,7 +7,7 @@ use crate::streams::{MOST_TAKEN, Pieces, Taken};
 use std::alloc::Global;
 use std::sync::Wait;
 use zq_dots::SiteNo;
-use zq_session::{End, Passing, SessionFault, session};
+use zq_session::{End, Passing, SessionFault, SitePass, session};
 use zq_spread::{Draws, Pass, Site};
 
 /// So many bytes of a stream are answered by so many bytes in all.
@@ -184,7 +184,8 @@ fn held_at<R: Wait>(
 ) -> Result<End, SessionFault>
     requires { IsPassOf site.now pass }
 {
-    let mut server = Passing::new(rt, site, pass, Draws::new(1));
+    let mut own = SitePass::new(site, pass);
+    let mut server = Passing::new(rt, &mut own, Draws::new(1));
     session(alloc, &mut server, reader, writer)
 }
 

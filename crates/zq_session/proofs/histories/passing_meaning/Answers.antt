@@ -40,8 +40,8 @@ returns-clause-reads c = λ W opening before call after old new words command by
     old.site.some (c.reading_notes.ensures.stays old.site W opening before call after world are over of) reads runs.1)
 
 pub returns-clause-linked : goal.returns-clause-linked
-returns-clause-linked c = λ rule K sites events before e after old new words command bytes two are at question read is.
-    let links = c.linking.ensures.links rule K sites events two are in
+returns-clause-linked c = λ limits rule K sites events before e after old new words command bytes two are at question read is.
+    let links = c.linking.ensures.links limits rule K sites events two are in
     let S = has_at (made_of events) e.site before in
     let off = links.answers before e after at in
     let runs = run_off rule K e.site S (words_for command old.draws).0 (words_for command old.draws).1 command bytes e.call.note is.asked is.answer off in
@@ -51,13 +51,13 @@ returns-clause-linked c = λ rule K sites events before e after old new words co
     (world_part K S (made_of events) (links.within e.site before (e ∷ after) at) links.world) reads runs.1)
 
 pub returns-clause-converging : goal.returns-clause-converging
-returns-clause-converging c = λ rule K sites events one other words two are question is_one is_other same.
-    let links = c.linking.ensures.links rule K sites events two are in
+returns-clause-converging c = λ limits rule K sites events one other words two are question is_one is_other same.
+    let links = c.linking.ensures.links limits rule K sites events two are in
     let W = made_of events in
     let S = has_at W one.event.site one.before in
     let T = has_at W other.event.site other.before in
     let inside = links.within one.event.site one.before (one.event ∷ one.after) is_one.at in (
-      returns-clause-linked c rule K sites events one.before one.event one.after one.old one.new words one.command one.bytes two are is_one.at question is_one.read is_one.call,
+      returns-clause-linked c limits rule K sites events one.before one.event one.after one.old one.new words one.command one.bytes two are is_one.at question is_one.read is_one.call,
       subst (λ q. IsAnsweredBy q words other.bytes) (sym (c.reading_notes.ensures.alike rule K W S T links.world inside same))
-          (returns-clause-linked c rule K sites events other.before other.event other.after other.old other.new words other.command other.bytes two are is_other.at question is_other.read is_other.call),
+          (returns-clause-linked c limits rule K sites events other.before other.event other.after other.old other.new words other.command other.bytes two are is_other.at question is_other.read is_other.call),
     )

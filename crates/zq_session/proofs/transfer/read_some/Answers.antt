@@ -1,4 +1,4 @@
-use Rattle.std.proofs.Common.{arith, refl, ◌∙◌}
+use Rattle.std.proofs.Common.{arith, refl}
 use Rattle.zq_session.proofs.KnownBytes.{keeps-join, keeps-none, kept-consumes}
 use Rattle.zq_session.proofs.transfer.read_some.Goals as goal
 

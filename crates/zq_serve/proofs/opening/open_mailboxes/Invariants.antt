@@ -1,6 +1,0 @@
-use Rattle.std.proofs.Common.{map, ◌≡◌}
-use Rattle.std.specs.Prelude.{replicate}
-use Rattle.zq_serve.proofs.opening.open_mailboxes.Given as goal
-
-abbrev pub invariant-loop-site : goal.invariant-loop-site
-invariant-loop-site l = map (λ mailbox. mailbox.most) l.mailboxes.items ≡ replicate l._site l.most
