@@ -3,11 +3,19 @@ use denote.Param.Send.{IsSend, IsSync, sendable}
 use denote.Ref.{NamedLft}
 use Rattle.std.proofs.Crossing.{crosses}
 use Rattle.zq_site.specs.contracts.peer_link.PeerLink as PeerLink
+use Rattle.zq_site.specs.contracts.post.Post as Post
 use Rattle.zq_site.specs.contracts.shared.Shared as Shared
 use Rattle.zq_peers.proofs.Crossing.{mailbox_sync}
+use Rattle.zq_replica.specs.contracts.logs.Logs as Logs
 
 link_sync : IsSync PeerLink.the_row
 link_sync = search (sendable, crosses) depth 100 fits 100000
 
+post_sync : IsSync Post.the_row
+post_sync = search (sendable, crosses) depth 100 fits 100000
+
+logs_sync : IsSync Logs.the_row
+logs_sync = search (sendable, crosses) depth 100 fits 100000
+
 pub shared_send : (κ : NamedLft) → IsSend (Shared.the_row κ)
-shared_send κ = search (link_sync, mailbox_sync, sendable, crosses) depth 60 fits 100000
+shared_send κ = search (link_sync, post_sync, logs_sync, mailbox_sync, sendable, crosses) depth 60 fits 100000

@@ -1,9 +1,13 @@
 pub mod Pause
 pub mod Times
 pub mod LinkStates
+pub mod Meetings
 pub mod Words
-pub mod Carried
+pub mod FrameQueues
 pub mod Heard
+pub mod Heartbeat
+pub mod Quotas
+pub mod Deliveries
 pub mod PeerLinks
 pub mod Upkeep
 pub mod Site

@@ -1,9 +1,14 @@
 -- The link to a peer, and what waits for it.
 
-use Rattle.std.specs.Prelude.{Bool, List, None, Option, Some, [], false, if◌then◌else◌, is_some, nat_lt, true, ℕ, ◌%◌, ◌&&◌, ◌+◌, ◌==◌, ◌^◌, ◌∷◌, ◌≡◌}
+use Rattle.std.specs.Prelude.{Bool, List, None, Option, Some, [], false, if◌then◌else◌, is_some, nat_lt, not, option_map, true, ℕ, ◌%◌, ◌&&◌, ◌+◌, ◌++◌, ◌==◌, ◌^◌, ◌∷◌, ◌≡◌, ◌⊎◌}
+use Rattle.zq_links.specs.About.{topic_at}
+use Rattle.zq_replica.specs.declared.protocol.Protocol.{Protocol}
+use Rattle.zq_replica.specs.declared.protocol.Protocol.TheVariants.{Asking, Pushing}
+use Rattle.zq_site.specs.FrameQueues.{is_empty}
+use Rattle.zq_site.specs.Heartbeat.{heartbeat}
 use Rattle.zq_site.specs.declared.link_state.Connection.{Connection}
 use Rattle.zq_site.specs.declared.link_state.LinkState.{LinkState}
-use Rattle.zq_wire.specs.Outbox.{Waiting, put_in}
+use Rattle.zq_wire.specs.Outbox.{Parcels, Waiting, put_in}
 use Rattle.zq_wire.specs.Topic.{heap_of}
 use Rattle.zq_wire.specs.declared.topic.Topic.{Topic}
 
@@ -11,12 +16,26 @@ use Rattle.zq_wire.specs.declared.topic.Topic.{Topic}
 abbrev pub cleared : Waiting → Waiting
 cleared outbox = record { heaps = outbox.heaps; parcels = [] }
 
+-- nothing waits any more of any kind, and nothing is being written
+abbrev pub cleared_all : {S : Type 0} → LinkState S → LinkState S
+cleared_all state = record state { outbox = cleared state.outbox; queue = []; is_busy = false }
+
 -- no link, and nothing waits
 abbrev pub fresh : {S : Type 0} → ℕ → LinkState S
-fresh heaps = record { outbox = record { heaps = heaps; parcels = [] }; link = None; last = 0; over = false }
+fresh heaps = record {
+  outbox = record { heaps = heaps; parcels = [] };
+  queue = [];
+  is_busy = false;
+  link = None;
+  last = 0;
+  over = false;
+}
 
 abbrev pub stream_of : {S : Type 0} → Connection S → S
 stream_of up = up.stream
+
+abbrev pub protocol_of : {S : Type 0} → Connection S → Protocol
+protocol_of up = up.protocol
 
 -- whether the link of this number is up
 abbrev pub is_up : {S : Type 0} → ℕ → Option (Connection S) → Bool
@@ -27,40 +46,46 @@ is_up number (Some up) = up.number == number
 abbrev pub next_number : {S : Type 0} → LinkState S → ℕ
 next_number state = (state.last + 1) % 2 ^ 64
 
--- a link is up over this stream, in the place of an older one
-abbrev pub raised : {S : Type 0} → S → LinkState S → LinkState S
-raised stream state = record {
-  outbox = cleared state.outbox;
-  link = Some (record { number = next_number state; stream = stream });
+-- a link is up over this stream, with this protocol, in the place of an older one
+abbrev pub raised : {S : Type 0} → S → Protocol → LinkState S → LinkState S
+raised stream protocol state = record (cleared_all state) {
+  link = Some (record { number = next_number state; protocol = protocol; stream = stream });
   last = next_number state;
-  over = state.over;
 }
 
 -- the link of this number is down, and no other
 abbrev pub lowered : {S : Type 0} → ℕ → LinkState S → LinkState S
 lowered number state =
-    if is_up number state.link then
-    record { outbox = cleared state.outbox; link = None; last = state.last; over = state.over }
-    else state
+    if is_up number state.link then record (cleared_all state) { link = None } else state
 
--- The frame that waited first goes over the link that is up, by its number and its stream, and
--- waits no more.
-pub record IsTurn {S : Type 0} (number : ℕ) (IsStream : S →
-    Type 0) (frame : List ℕ) (old new : LinkState S) : Type 0 where
+-- what is taken to be written: where frames wait one behind the other all of them, and else the
+-- one of a topic that waits first
+abbrev pub IsTaken : {S : Type 0} → List (List ℕ) → LinkState S → LinkState S → Type 0
+IsTaken frames old new =
+    ((frames ≡ old.queue) × (new ≡ record old { queue = []; is_busy = true }))
+    ⊎ ((old.queue ≡ []) × ((topic : Topic) × (frame : List ℕ) × (rest : Parcels)
+    × (old.outbox.parcels ≡ (topic, frame) ∷ rest) × (frames ≡ frame ∷ [])
+    × (new ≡ record old { outbox = record old.outbox { parcels = rest }; is_busy = true })))
+
+-- a heartbeat is taken to be written, where a link is up, nothing waits and nothing is being written
+abbrev pub IsHeartbeat : {S : Type 0} → List (List ℕ) → LinkState S → LinkState S → Type 0
+IsHeartbeat frames old new =
+    (frames ≡ heartbeat ∷ []) × (is_some old.link ≡ true) × (old.queue ≡ [])
+    × (old.outbox.parcels ≡ []) × (old.is_busy ≡ false) × (new ≡ record old { is_busy = true })
+
+-- The frames, which were taken so, go over the link that is up, by its number and its stream.
+pub record IsTurn {S : Type 0} (Takes : List (List ℕ) → LinkState S → LinkState S →
+    Type 0) (number : ℕ) (IsStream : S →
+    Type 0) (frames : List (List ℕ)) (old new : LinkState S) : Type 0 where
   pub up : Connection S
   pub link : old.link ≡ Some up
   pub number_is : number ≡ up.number
   pub stream_is : IsStream up.stream
-  pub topic : Topic
-  pub first : old.outbox.parcels ≡ (topic, frame) ∷ new.outbox.parcels
-  pub heaps : new.outbox.heaps ≡ old.outbox.heaps
-  pub link_stays : new.link ≡ old.link
-  pub last_stays : new.last ≡ old.last
-  pub over_stays : new.over ≡ old.over
+  pub frames_are : Takes frames old new
 
 -- the site ends
 abbrev pub halted : {S : Type 0} → LinkState S → LinkState S
-halted state = record { outbox = cleared state.outbox; link = None; last = state.last; over = true }
+halted state = record (cleared_all state) { link = None; over = true }
 
 -- the frame waits, where there is a link and the site has the heap
 abbrev pub put_on : {S : Type 0} → Topic → List ℕ → LinkState S → LinkState S
@@ -68,3 +93,32 @@ put_on topic frame state =
     if is_some state.link && nat_lt (heap_of topic) state.outbox.heaps
     then record state { outbox = record state.outbox { parcels = put_in topic frame state.outbox.parcels } }
     else state
+
+-- the frame waits behind all others, where there is a link
+abbrev pub append_to : {S : Type 0} → List ℕ → LinkState S → LinkState S
+append_to frame state =
+    if is_some state.link then record state { queue = state.queue ++ frame ∷ [] } else state
+
+-- the frame, which is about this, waits where it is about something
+abbrev pub put_about : {S : Type 0} → Option Topic → List ℕ → LinkState S → LinkState S
+put_about None frame state = state
+put_about (Some topic) frame state = put_on topic frame state
+
+-- The frame waits as the link's protocol says: behind all others where the peer is pushed to, and
+-- in the place of an older one of its topic where it asks.
+abbrev pub sent_by : {S : Type 0} → Option Protocol → List ℕ → LinkState S → LinkState S
+sent_by None frame state = state
+sent_by (Some Pushing) frame state = append_to frame state
+sent_by (Some Asking) frame state = put_about (topic_at frame) frame state
+
+abbrev pub sent : {S : Type 0} → List ℕ → LinkState S → LinkState S
+sent frame state = sent_by (option_map protocol_of state.link) frame state
+
+-- what was being written over the link of this number is written
+abbrev pub written_on : {S : Type 0} → ℕ → LinkState S → LinkState S
+written_on number state =
+    if is_up number state.link then record state { is_busy = false } else state
+
+-- whether a link is up for which nothing waits, and to which nothing is being written
+abbrev pub has_room : {S : Type 0} → LinkState S → Bool
+has_room state = is_some state.link && is_empty state.queue && not state.is_busy

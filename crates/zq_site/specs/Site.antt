@@ -1,7 +1,10 @@
 -- What a site does with its settings.
 
 use Rattle.std.specs.Net.Text.{socket_text}
-use Rattle.std.specs.Prelude.{List, [], codes, decimal, max, min, ℕ, ◌*◌, ◌++◌, ◌-◌, ◌^◌, ◌∷◌}
+use Rattle.std.specs.Prelude.{List, Some, [], codes, decimal, max, min, ℕ, ◌*◌, ◌++◌, ◌-◌, ◌^◌, ◌≡◌, ◌∷◌, length, slice_get}
+use Rattle.zq_journal.specs.Limits.{limits_of}
+use Rattle.zq_model.specs.Limits.{standard}
+use Rattle.zq_session.specs.declared.site_plan.SitePlan.{SitePlan}
 use Rattle.zq_settings.specs.declared.values.SiteSettings.{SiteSettings}
 
 -- the line that is written once the site listens
@@ -13,3 +16,14 @@ announced settings =
 -- Two threads accept for each peer that dials, and one where none does.
 abbrev pub acceptors_for : ℕ → ℕ
 acceptors_for dialers = max (min (dialers * 2) (2 ^ 64 - 1)) 1
+
+-- the one plan of a site of these settings, with a server for each of so many workers, and a mebibyte
+-- of names at most in a tail
+pub record IsPlanOf (settings : SiteSettings) (workers : ℕ) (plans : List SitePlan) : Type 0 where
+  pub one : length plans ≡ 1
+  pub number : (plan : SitePlan) → slice_get plans 0 ≡ Some plan → plan.number ≡ settings.site
+  pub heaps : (plan : SitePlan) → slice_get plans 0 ≡ Some plan → plan.heaps ≡ settings.heaps
+  pub rule : (plan : SitePlan) → slice_get plans 0 ≡ Some plan → plan.rule ≡ settings.rule
+  pub servers : (plan : SitePlan) → slice_get plans 0 ≡ Some plan → plan.servers ≡ workers
+  pub tails : (plan : SitePlan) → slice_get plans 0 ≡ Some plan →
+      limits_of plan.tails ≡ record standard { bytes = Some 1048576 }

@@ -1,6 +1,6 @@
 -- How long things take at most, in nanoseconds, and how many bytes a frame has.
 
-use Rattle.std.specs.Prelude.{ℕ, ◌*◌, ◌^◌}
+use Rattle.std.specs.Prelude.{Bool, List, length, nat_lt, ℕ, ◌*◌, ◌^◌}
 
 abbrev seconds : ℕ → ℕ
 seconds n = n * 1_000_000_000
@@ -16,6 +16,18 @@ opening = seconds 5
 abbrev pub telling : ℕ
 telling = seconds 5
 
+-- the link thread is told so often that a beat has gone by
+abbrev pub beat : ℕ
+beat = seconds 1
+
+-- calls are gathered for so long before their operations are pushed
+abbrev pub gathering : ℕ
+gathering = 200 * 1_000
+
+-- where nothing came to be sent over a link for so long a heartbeat is sent
+abbrev pub heartbeat : ℕ
+heartbeat = seconds 6
+
 -- nothing may come over a link for so long: a peer that is not silent tells what it has four times
 -- meanwhile
 abbrev pub silence : ℕ
@@ -28,3 +40,6 @@ not_accepted = 100 * 1_000_000
 -- a frame that goes over a link has a gibibyte at most
 abbrev pub most_frame : ℕ
 most_frame = 2 ^ 30
+
+abbrev pub is_too_long : List ℕ → Bool
+is_too_long frame = nat_lt most_frame (length frame)

@@ -1,6 +1,7 @@
 //! What accepts peers.
 
 use crate::link_serving::serve_link;
+use crate::opening::Way;
 use crate::peer_listener::PeerListener;
 use crate::shared::Shared;
 use crate::times::not_accepted;
@@ -31,7 +32,7 @@ where
     match listener.listener.accept() {
         Ok((stream, _)) => {
             if !shared.halt.is_over(log) {
-                serve_link(log, shared, stream, shared.dialers);
+                serve_link(log, shared, stream, shared.dialers, Way::Accepts);
             }
         }
         Err(_) => {

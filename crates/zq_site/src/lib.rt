@@ -2,15 +2,23 @@
 //!
 //! Of two peers the one with the greater number dials, and dials again after a break. As a link
 //! opens each side greets the other, and who is not welcome is let go. Then frames go over it, each
-//! behind its length. Of the frames that wait for a peer the newest of each topic is kept, and
-//! where there is no link none is kept: a peer that is slow or away costs bounded memory. When a
-//! link is up, after calls, and every five seconds the site tells its peers what it has.
+//! behind its length.
+//!
+//! Each link has a thread that reads it and one that writes it. What happens they leave at a post,
+//! where the link thread takes it: it alone hears frames, and pushes to each peer what the peer
+//! lacks. A reader waits while much of its peer waits at the post, a peer is pushed to only when
+//! all that waited for it is written, and where there is no link nothing waits: so a peer that is
+//! slow or away costs bounded memory. Who writes a link keeps it up by itself, however much the
+//! link thread has to do.
 #![tactic(auto)]
 
 mod accepting;
 mod announcing;
 mod dialing;
+mod draining;
+mod frame_queue;
 mod halt;
+mod heartbeat;
 mod link_serving;
 mod link_state;
 mod loss;
@@ -19,7 +27,9 @@ mod pause;
 mod peer_link;
 mod peer_links;
 mod peer_listener;
-mod queueing;
+mod post;
+mod pushing;
+mod quota;
 mod reading;
 mod running;
 mod serving;

@@ -1,18 +1,24 @@
 //! What is known of the link to a peer, and what waits for it.
 
-ghost use Rattle.std.specs.Prelude.{◌≡◌, ◌++◌, ◌≢◌, ℕ, IfOk, IsSome, None, Option, Some, if◌then◌else◌, is_some, option_map, option_to_list};
-ghost use Rattle.zq_site.specs.LinkStates.{fresh, halted, is_up, lowered, next_number, put_on, raised, stream_of as link_stream};
-ghost use Rattle.zq_wire.specs.Outbox.{parcel_of};
+ghost use Rattle.std.specs.Prelude.{◌≡◌, ◌≢◌, ℕ, IfOk, IfSome, IsNone, IsSome, None, OnErr, OnOk, Option, Some, [], if◌then◌else◌, is_some, option_map};
+ghost use Rattle.zq_site.specs.FrameQueues.{frames_of};
+ghost use Rattle.zq_site.specs.LinkStates.{IsHeartbeat, IsTaken, append_to, cleared_all, fresh, halted, has_room, is_up, lowered, next_number, protocol_of as link_protocol, put_on, raised, sent, stream_of as link_stream, written_on};
 
+use crate::frame_queue::FrameQueue;
+use crate::heartbeat::heartbeat;
 use std::alloc::{AllocError, Global};
 use std::mem;
-use zq_wire::{Outbox, Parcel, Topic};
+use zq_links::topic_of;
+use zq_replica::Protocol;
+use zq_wire::{Outbox, Topic};
 
 /// A link that is up.
 #[derive(Drop)]
 pub struct Connection<S> {
     /// Its number: that of the link before it, and 1.
     pub number: u64,
+    /// What goes over it.
+    pub protocol: Protocol,
     /// Its stream.
     pub stream: S,
 }
@@ -20,8 +26,12 @@ pub struct Connection<S> {
 /// The link to a peer, if it is up, and the frames that wait for it.
 #[derive(Drop)]
 pub struct LinkState<S> {
-    /// What waits.
+    /// What waits where the peer asks: of each topic the newest.
     pub outbox: Outbox,
+    /// What waits where the peer is pushed to.
+    pub queue: FrameQueue,
+    /// Whether frames are being written.
+    pub is_busy: bool,
     /// The link.
     pub link: Option<Connection<S>>,
     /// The number of the latest link, and 0 before the first.
@@ -37,6 +47,8 @@ impl<S> LinkState<S> {
     {
         Ok(LinkState {
             outbox: Outbox::new(alloc, heaps)?,
+            queue: FrameQueue::new(alloc),
+            is_busy: false,
             link: None,
             last: 0,
             over: false,
@@ -53,9 +65,46 @@ impl<S> LinkState<S> {
         }
     }
 
+    /// What goes over the link, if it is up.
+    fn protocol(&self) -> Option<Protocol>
+        ensures { result ≡ option_map link_protocol self.now.link }
+    {
+        match &self.link {
+            Some(up) => Some(up.protocol),
+            None => None,
+        }
+    }
+
+    /// Whether a link is up for which nothing waits, and to which nothing is being written.
+    pub fn has_room(&self) -> bool
+        ensures { result ≡ has_room self.now }
+    {
+        self.link.is_some() && self.queue.is_empty() && !self.is_busy
+    }
+
+    /// The frame waits for the link: behind all others where the peer is pushed to, and in the place
+    /// of an older one of its topic where it asks. Where there is no link, or it is about nothing
+    /// that a peer which asks is told, it is dropped. Where there is no memory for it nothing
+    /// changes.
+    pub fn send(&mut self, frame: Vec<u8>) -> Result<(), AllocError>
+        ensures waits { OnOk result (self.new ≡ sent frame.items self.old) }
+        ensures refused { OnErr result (self.new ≡ self.old) }
+    {
+        match self.protocol() {
+            Some(Protocol::Pushing) => self.append(frame),
+            Some(Protocol::Asking) => {
+                if let Some(topic) = topic_of(&frame) {
+                    self.put(topic, frame);
+                }
+                Ok(())
+            }
+            None => Ok(()),
+        }
+    }
+
     /// The frame waits, in the place of an older one of its topic. Where there is no link, or the
     /// site has no such heap, it is dropped.
-    pub fn put(&mut self, topic: Topic, frame: Vec<u8>)
+    fn put(&mut self, topic: Topic, frame: Vec<u8>)
         ensures { self.new ≡ put_on topic frame.items self.old }
     {
         if self.link.is_some() && topic.heap() < self.outbox.heaps() {
@@ -63,44 +112,114 @@ impl<S> LinkState<S> {
         }
     }
 
-    /// The frame that waits first, which then waits no more, if one does.
-    pub fn take(&mut self) -> Option<Parcel>
-        ensures heaps { self.new.outbox.heaps ≡ self.old.outbox.heaps }
-        ensures first { self.old.outbox.parcels ≡ option_to_list (option_map parcel_of result)
-            ++ self.new.outbox.parcels }
-        ensures link { self.new.link ≡ self.old.link }
-        ensures last { self.new.last ≡ self.old.last }
-        ensures over { self.new.over ≡ self.old.over }
+    /// The frame waits behind all others. Where there is no link it is dropped.
+    fn append(&mut self, frame: Vec<u8>) -> Result<(), AllocError>
+        ensures appended { OnOk result (self.new ≡ append_to frame.items self.old) }
+        ensures refused { OnErr result (self.new ≡ self.old) }
     {
-        self.outbox.take()
+        if self.link.is_none() {
+            return Ok(());
+        }
+        self.queue.append(frame)
+    }
+
+    /// What is to be written next: all frames that wait one behind the other, or else the one of a
+    /// topic that waits first. It then waits no more, but is being written. `None` where nothing
+    /// waits, or there was no memory: then nothing changes.
+    pub fn take_next(&mut self, alloc: Global) -> Option<Vec<Vec<u8>>>
+        ensures taken { IfSome result
+            (λ frames. IsTaken (frames_of frames.items) self.old self.new) }
+        ensures some { IfSome result (λ frames. frames_of frames.items ≢ []) }
+        ensures queued { self.old.queue ≢ [] → IsSome result }
+        ensures none { IsNone result → self.new ≡ self.old }
+    {
+        if !self.queue.is_empty() {
+            self.is_busy = true;
+            return Some(self.queue.take_all(alloc));
+        }
+        if self.outbox.len() == 0 {
+            return None;
+        }
+        let mut frames = Vec::with_capacity(alloc, 1).ok()?;
+        let parcel = self.outbox.take()?;
+        frames.push_reserved(parcel.frame);
+        self.is_busy = true;
+        Some(frames)
+    }
+
+    /// What keeps the link up where nothing waits and nothing is being written. It then is being
+    /// written. `None` elsewhere, or where there was no memory: then nothing changes.
+    pub fn take_heartbeat(&mut self, alloc: Global) -> Option<Vec<Vec<u8>>>
+        ensures taken { IfSome result
+            (λ frames. IsHeartbeat (frames_of frames.items) self.old self.new) }
+        ensures none { IsNone result → self.new ≡ self.old }
+    {
+        if !self.has_room() || self.outbox.len() != 0 {
+            return None;
+        }
+        let mut frames = Vec::with_capacity(alloc, 1).ok()?;
+        let frame = heartbeat(alloc).ok()?;
+        frames.push_reserved(frame);
+        self.is_busy = true;
+        Some(frames)
+    }
+
+    /// What was being written over the link of this number is written.
+    pub fn written(&mut self, number: u64)
+        ensures { self.new ≡ written_on number self.old }
+    {
+        if self.is_up(number) {
+            self.is_busy = false;
+        }
+    }
+
+    /// Nothing waits any more, and nothing is being written.
+    fn clear(&mut self, alloc: Global)
+        ensures { self.new ≡ cleared_all self.old }
+    {
+        self.outbox.clear();
+        self.queue = FrameQueue::new(alloc);
+        self.is_busy = false;
     }
 }
 
 impl<S: Drop> LinkState<S> {
-    /// A link is up over this stream: its number, and the stream of the older link, which it
-    /// replaces. What waited for the older link waits no more, and the older link's end does not
-    /// take this one down. Where the site ends the link is not up, and its stream is dropped.
-    pub fn raise(&mut self, stream: S) -> Option<(u64, Option<S>)>
+    /// A link is up over this stream, with this protocol: its number, and the stream of the older
+    /// link, which it replaces. What waited for the older link waits no more, and the older link's
+    /// end does not take this one down. Where the site ends the link is not up, and its stream is
+    /// dropped.
+    pub fn raise(
+        &mut self,
+        alloc: Global,
+        stream: S,
+        protocol: Protocol,
+    ) -> Option<(u64, Option<S>)>
         ensures there { result
             ≡ (if self.old.over then None else Some
             (next_number self.old, option_map link_stream self.old.link)) }
-        ensures up { self.new ≡ (if self.old.over then self.old else raised stream self.old) }
+        ensures up { self.new
+            ≡ (if self.old.over then self.old else raised stream protocol self.old) }
         ensures alone { IsSome result → (number : ℕ) → number ≢ next_number self.old →
             lowered number self.new ≡ self.new }
     {
         if self.over {
             return None;
         }
-        self.outbox.clear();
+        self.clear(alloc);
         let number = self.last.wrapping_add(1);
         self.last = number;
-        let older = mem::replace(&mut self.link, Some(Connection { number, stream }));
+        let connection = Connection {
+            number,
+            protocol,
+            stream,
+        };
+        let older = mem::replace(&mut self.link, Some(connection));
         Some((number, stream_of(older)))
     }
 
     /// The link of this number is down: its stream. Where it was replaced, or was down before,
     /// nothing happens.
-    pub fn lower(&mut self, number: u64) -> Option<S>
+    pub fn lower(&mut self, alloc: Global, number: u64) -> Option<S>
         ensures stream { result
             ≡ (if is_up number self.old.link then option_map link_stream self.old.link else None) }
         ensures down { self.new ≡ lowered number self.old }
@@ -108,17 +227,17 @@ impl<S: Drop> LinkState<S> {
         if !self.is_up(number) {
             return None;
         }
-        self.outbox.clear();
+        self.clear(alloc);
         stream_of(self.link.take())
     }
 
     /// The site ends: the link is down, and none is up again. It gives the link's stream.
-    pub fn halt(&mut self) -> Option<S>
+    pub fn halt(&mut self, alloc: Global) -> Option<S>
         ensures stream { result ≡ option_map link_stream self.old.link }
         ensures over { self.new ≡ halted self.old }
     {
         self.over = true;
-        self.outbox.clear();
+        self.clear(alloc);
         stream_of(self.link.take())
     }
 }

@@ -1,34 +1,41 @@
 //! The link to a peer, which threads share.
 
 ghost use Rattle.std.specs.Arc.{arc_value};
-ghost use Rattle.std.specs.Prelude.{IfOk, IfSome, IsNone, is_some, ◌≡◌};
-ghost use Rattle.zq_site.specs.LinkStates.{IsTurn};
+ghost use Rattle.std.specs.Prelude.{IfOk, IfSome, IsNone, [], is_some, ◌≡◌, ◌≢◌};
+ghost use Rattle.zq_site.specs.FrameQueues.{frames_of};
+ghost use Rattle.zq_site.specs.LinkStates.{IsHeartbeat, IsTaken, IsTurn};
 
 use crate::link_state::{Connection, LinkState};
+use crate::quota::Quota;
+use crate::times::heartbeat;
 use std::alloc::{AllocError, Global};
 use std::net::{Shutdown, TcpStream};
 use std::sync::{Arc, Condvar, Mutex, Wait};
+use std::time::Clock;
+use zq_replica::Protocol;
 use zq_settings::Peer;
-use zq_wire::Topic;
 
 /// The link to a peer, and what waits for it.
 #[derive(Drop)]
 pub struct PeerLink {
     /// The peer.
     pub peer: Peer,
+    /// How much of what the peer sent waits for the link thread.
+    pub quota: Quota,
+    alloc: Global,
     state: Mutex<LinkState<Arc<TcpStream>>>,
     changed: Condvar,
 }
 
-/// A frame that goes over a link.
+/// Frames that go over a link.
 #[derive(Drop)]
-pub struct QueuedFrame {
+pub struct QueuedFrames {
     /// The link's number.
     pub number: u64,
     /// Its stream.
     pub stream: Arc<TcpStream>,
-    /// The frame.
-    pub frame: Vec<u8>,
+    /// The frames, in their order.
+    pub frames: Vec<Vec<u8>>,
 }
 
 impl PeerLink {
@@ -38,6 +45,8 @@ impl PeerLink {
     {
         Ok(PeerLink {
             peer,
+            quota: Quota::new(),
+            alloc,
             state: Mutex::new(LinkState::new(alloc, heaps)?),
             changed: Condvar::new(),
         })
@@ -50,17 +59,29 @@ impl PeerLink {
         self.peer
     }
 
-    /// The frame waits for the link, in the place of an older one of its topic; where there is no
-    /// link it is dropped.
-    pub fn put<R: Wait>(&self, rt: &R, topic: Topic, frame: Vec<u8>) {
-        self.state.lock(rt).put(topic, frame);
+    /// The frame waits for the link: behind all others where the peer is pushed to, and in the place
+    /// of an older one of its topic where it asks. Where there is no link it is dropped, and so it
+    /// is where there is no memory for it.
+    pub fn send<R: Wait>(&self, rt: &R, frame: Vec<u8>) {
+        let _ = self.state.lock(rt).send(frame);
         self.changed.notify_all();
     }
 
-    /// A link is up over this stream, in the place of an older one, whose stream is shut down: its
-    /// number. Where the site ends there is none.
-    pub fn raise<R: Wait>(&self, rt: &R, stream: Arc<TcpStream>) -> Option<u64> {
-        let (number, older) = self.state.lock(rt).raise(stream)?;
+    /// Whether a link is up for which nothing waits, and to which nothing is being written.
+    pub fn has_room<R: Wait>(&self, rt: &R) -> bool {
+        self.state.lock(rt).has_room()
+    }
+
+    /// A link is up over this stream, with this protocol, in the place of an older one, whose stream
+    /// is shut down: its number. Where the site ends there is none.
+    pub fn raise<R: Wait>(
+        &self,
+        rt: &R,
+        stream: Arc<TcpStream>,
+        protocol: Protocol,
+    ) -> Option<u64> {
+        let raised = self.state.lock(rt).raise(self.alloc, stream, protocol);
+        let (number, older) = raised?;
         shut(older);
         self.changed.notify_all();
         Some(number)
@@ -69,48 +90,83 @@ impl PeerLink {
     /// The link of this number is down, and its stream is shut down. It says whether that link was
     /// up.
     pub fn lower<R: Wait>(&self, rt: &R, number: u64) -> bool {
-        let stream = self.state.lock(rt).lower(number);
+        let stream = self.state.lock(rt).lower(self.alloc, number);
         shut(stream)
     }
 
     /// The site ends: the link is down for good, and who waits is woken.
     pub fn halt<R: Wait>(&self, rt: &R) {
-        let stream = self.state.lock(rt).halt();
+        let stream = self.state.lock(rt).halt(self.alloc);
         shut(stream);
         self.changed.notify_all();
+        self.quota.halt(rt);
     }
 
-    /// Waits for a frame that can be sent, and takes it. Where the site ends there is none.
-    pub fn next<R: Wait>(&self, rt: &R) -> Option<QueuedFrame> {
+    /// Waits for frames that can be sent, and takes them. Where a link is up and nothing came to be
+    /// sent for some time, that is a heartbeat. Where the site ends there are none.
+    pub fn next<R: Wait + Clock>(&self, rt: &R) -> Option<QueuedFrames>
+        ensures { IfSome result (λ queued. frames_of queued.frames.items ≢ []) }
+    {
         let mut state = self.state.lock(rt);
         for _ in rt.forever() {
             if state.over {
                 return None;
             }
-            if let Some(queued) = take_frame(&mut state) {
+            if let Some(queued) = take_frames(self.alloc, &mut state) {
                 return Some(queued);
             }
-            state = self.changed.wait(rt, state);
+            let (woken, waited) = self.changed.wait_timeout(rt, state, heartbeat());
+            state = woken;
+            if waited.timed_out()
+                && let Some(queued) = take_heartbeat(self.alloc, &mut state)
+            {
+                return Some(queued);
+            }
         }
         unreachable!()
     }
+
+    /// What was taken for the link of this number is written.
+    pub fn written<R: Wait>(&self, rt: &R, number: u64) {
+        self.state.lock(rt).written(number);
+    }
 }
 
-/// The frame that waits first, and the link over which it goes. Where there is no link or nothing
-/// waits there is none, and nothing changes.
-fn take_frame(state: &mut LinkState<Arc<TcpStream>>) -> Option<QueuedFrame>
-    ensures queued { IfSome result (λ queued. IsTurn queued.number
-        (λ stream. arc_value stream ≡ arc_value queued.stream) queued.frame.items state.old
-        state.new) }
+/// The frames that wait one behind the other, or else the one of a topic that waits first, and the
+/// link over which they go. Where there is no link or nothing waits there are none, and nothing
+/// changes.
+fn take_frames(alloc: Global, state: &mut LinkState<Arc<TcpStream>>) -> Option<QueuedFrames>
+    ensures queued { IfSome result (λ queued. IsTurn IsTaken queued.number
+        (λ stream. arc_value stream ≡ arc_value queued.stream) (frames_of queued.frames.items)
+        state.old state.new) }
+    ensures some { IfSome result (λ queued. frames_of queued.frames.items ≢ []) }
     ensures none { IsNone result → state.new ≡ state.old }
 {
-    let Connection { number, stream } = state.link.as_ref()?;
+    let Connection { number, stream, .. } = state.link.as_ref()?;
     let (number, stream) = (*number, Arc::try_clone(stream).ok()?);
-    let parcel = state.take()?;
-    Some(QueuedFrame {
+    let frames = state.take_next(alloc)?;
+    Some(QueuedFrames {
         number,
         stream,
-        frame: parcel.frame,
+        frames,
+    })
+}
+
+/// What keeps the link up where nothing waits and nothing is being written, and the link. Elsewhere
+/// there is none, and nothing changes.
+fn take_heartbeat(alloc: Global, state: &mut LinkState<Arc<TcpStream>>) -> Option<QueuedFrames>
+    ensures queued { IfSome result (λ queued. IsTurn IsHeartbeat queued.number
+        (λ stream. arc_value stream ≡ arc_value queued.stream) (frames_of queued.frames.items)
+        state.old state.new) }
+    ensures none { IsNone result → state.new ≡ state.old }
+{
+    let Connection { number, stream, .. } = state.link.as_ref()?;
+    let (number, stream) = (*number, Arc::try_clone(stream).ok()?);
+    let frames = state.take_heartbeat(alloc)?;
+    Some(QueuedFrames {
+        number,
+        stream,
+        frames,
     })
 }
 

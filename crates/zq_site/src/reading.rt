@@ -7,12 +7,13 @@ ghost use Rattle.zq_wire.specs.StreamLaws.{given_by};
 ghost use Rattle.zq_wire.specs.Stream.{answered, frames_in};
 
 use crate::loss::Loss;
+use crate::post::{Event, Post};
+use crate::quota::Quota;
 use crate::times::{PIECE, most_frame};
 use std::alloc::Global;
 use std::io::{ErrorKind, Read};
 use std::sync::Wait;
 use zq_dots::SiteNo;
-use zq_peers::Mailbox;
 use zq_wire::{Reader, StreamError};
 
 /// What hears frames.
@@ -25,12 +26,16 @@ pub trait Hear {
         ensures { hears self.old frame.items self.new };
 }
 
-/// Gives the frames of a peer to the site's mailbox, and notes that one came.
+/// Leaves the frames of a peer at the site's post, and notes that one came.
 #[derive(Drop)]
 pub struct Ear<'a, R: Wait> {
     pub rt: &'a R,
-    pub mailbox: &'a Mailbox,
+    pub post: &'a Post,
+    /// How much of what the peer sent may wait.
+    pub quota: &'a Quota,
     pub peer: SiteNo,
+    /// The number of the link.
+    pub link: u64,
     /// Whether a frame came.
     pub heard: bool,
 }
@@ -38,12 +43,22 @@ pub struct Ear<'a, R: Wait> {
 impl<R: Wait> Hear for Ear<'_, R> {
     ghost use Rattle.std.specs.Prelude.{true, ◌≡◌};
 
-    ghost hears = { λ old frame new. (new.peer ≡ old.peer) × (new.heard ≡ true) };
+    ghost hears = { λ old frame new. (new.peer ≡ old.peer) × (new.link ≡ old.link)
+        × (new.heard ≡ true) };
 
     fn hear(&mut self, frame: Vec<u8>) {
         self.heard = true;
-        // Where there is no memory it is lost, and the peer's next Have makes up for it.
-        let _ = self.mailbox.give(self.rt, self.peer, frame);
+        let length = frame.len() as u64;
+        self.quota.enter(self.rt, length);
+        let event = Event::Frame {
+            peer: self.peer,
+            link: self.link,
+            bytes: frame,
+        };
+        if self.post.leave(self.rt, event).is_err() {
+            // There was no memory: it is lost, and what the peer tells from time to time shows it.
+            self.quota.leave(self.rt, length);
+        }
     }
 }
 

@@ -5,12 +5,12 @@ ghost use Rattle.zq_site.specs.Site.{acceptors_for};
 
 use crate::accepting::accept_peers;
 use crate::dialing::dial_line;
+use crate::draining::Draining;
 use crate::peer_links::is_dialled;
 use crate::peer_listener::PeerListener;
-use crate::queueing::{Outward, PeerLinks};
+use crate::pushing::Pushing;
 use crate::shared::Shared;
-use crate::times::telling;
-use crate::warning_log::WarningLog;
+use crate::times::beat;
 use crate::writing::write_link;
 use log::Log;
 use std::net::{Net, TcpListener, TcpStream};
@@ -20,7 +20,10 @@ use std::thread;
 use std::thread::Threads;
 use std::time::Clock;
 use zq_posheap::Seeded;
-use zq_serve::{ClientThreads, Inboxes, Linker, ServeFault, SiteThreads, run_clients};
+use zq_serve::{Inboxes, Linker, ServeFault, SiteThreads, run_clients};
+
+/// How many operations that came early are parked.
+pub const MOST_PARKED: usize = 65_536;
 
 /// The hasher that a site's members and states use, and what its workers draw with.
 #[derive(Clone, Copy)]
@@ -29,14 +32,19 @@ pub struct Seeds {
     pub draws: u64,
 }
 
-/// Runs the link thread of a site, and all its other threads. When those are done the link thread
-/// is told to stop, and is waited for.
+/// Runs the threads of a site: its link thread, what takes what calls make into the logs, what tells
+/// of each second, what sends frames to each peer, what dials each peer of a smaller number, what
+/// accepts peers, and what serves clients. When all clients are served the site ends: the threads of its links are told to halt, and
+/// then the link thread to stop, and all are waited for.
+///
+/// `Device` where a thread did not start. Then no client is served.
 pub fn run_site<N, L>(
     net: &N,
     log: &L,
     shared: Shared<'_>,
     listener: &PeerListener,
-    threads: SiteThreads,
+    threads: SiteThreads<'_, '_>,
+    drainers: Vec<Linker<'_, '_>>,
     seeds: Seeds,
 ) -> Result<(), ServeFault>
 where
@@ -52,84 +60,27 @@ where
                 ended = Err(ServeFault::Device);
             }
         }
-        if ended.is_ok() {
-            ended = run_writers(net, log, shared, listener, clients, seeds.draws);
+        for drainer in drainers {
+            let work = move || drain_site(log, shared, drainer);
+            if scope.spawn(work).is_err() {
+                ended = Err(ServeFault::Device);
+            }
         }
-        shared.mailbox.stop(log);
-        ended
-    })
-}
-
-/// Links a site to its peers, until it is to stop.
-fn link_site<L: Log + Wait>(log: &L, shared: Shared<'_>, linker: Linker, hasher: Seeded) {
-    let peer_links = PeerLinks {
-        rt: log,
-        peer_links: shared.peer_links,
-    };
-    let mut carrier = Outward::new(peer_links);
-    let mut warning_log = WarningLog {
-        log,
-        site: shared.settings.site,
-    };
-    linker.run(
-        log,
-        shared.alloc,
-        shared.mailbox,
-        hasher,
-        &mut carrier,
-        &mut warning_log,
-    );
-}
-
-/// Runs what sends frames to each peer, and what follows, until the site ends.
-fn run_writers<N, L>(
-    net: &N,
-    log: &L,
-    shared: Shared<'_>,
-    listener: &PeerListener,
-    clients: ClientThreads,
-    seed: u64,
-) -> Result<(), ServeFault>
-where
-    N: Net<Listener = TcpListener, Stream = TcpStream> + Sync,
-    L: Log + RandomSource + Clock + Threads + Wait + Sync,
-{
-    thread::scope(thread::scope_env(), log, move |scope| {
-        let mut ended = Ok(());
+        if ended.is_ok() && scope.spawn(move || beat_time(log, shared)).is_err() {
+            ended = Err(ServeFault::Device);
+        }
         for peer_link in shared.peer_links {
-            if scope
-                .spawn(move || write_link(log, shared, peer_link))
-                .is_err()
+            if ended.is_ok()
+                && scope
+                    .spawn(move || write_link(log, shared, peer_link))
+                    .is_err()
             {
                 ended = Err(ServeFault::Device);
             }
         }
-        if ended.is_ok() {
-            ended = run_dialers(net, log, shared, listener, clients, seed);
-        }
-        shared.halt_all(log);
-        ended
-    })
-}
-
-/// Runs what dials each peer of a smaller number, what tells the peers from time to time what the
-/// site has, and what follows, until the site ends.
-fn run_dialers<N, L>(
-    net: &N,
-    log: &L,
-    shared: Shared<'_>,
-    listener: &PeerListener,
-    clients: ClientThreads,
-    seed: u64,
-) -> Result<(), ServeFault>
-where
-    N: Net<Listener = TcpListener, Stream = TcpStream> + Sync,
-    L: Log + RandomSource + Clock + Threads + Wait + Sync,
-{
-    thread::scope(thread::scope_env(), log, move |scope| {
-        let mut ended = Ok(());
         for peer_link in shared.peer_links {
-            if is_dialled(shared.settings, &peer_link.peer())
+            if ended.is_ok()
+                && is_dialled(shared.settings, &peer_link.peer())
                 && scope
                     .spawn(move || dial_line(net, log, shared, peer_link))
                     .is_err()
@@ -137,60 +88,53 @@ where
                 ended = Err(ServeFault::Device);
             }
         }
-        if scope.spawn(move || tell_peers(log, shared)).is_err() {
-            ended = Err(ServeFault::Device);
-        }
-        if ended.is_ok() {
-            ended = run_acceptors(net, log, shared, listener, clients, seed);
-        }
-        shared.halt_all(log);
-        ended
-    })
-}
-
-/// Has the peers told from time to time what the site has, until it ends.
-fn tell_peers<L: Wait + Clock>(rt: &L, shared: Shared<'_>) {
-    for _ in rt.forever() {
-        if shared.halt.wait(rt, telling()) {
-            break;
-        }
-        shared.mailbox.tick(rt);
-    }
-}
-
-/// Runs what accepts peers, and what serves clients, until that is done. Then the site ends.
-fn run_acceptors<N, L>(
-    net: &N,
-    log: &L,
-    shared: Shared<'_>,
-    listener: &PeerListener,
-    clients: ClientThreads,
-    seed: u64,
-) -> Result<(), ServeFault>
-where
-    N: Net<Listener = TcpListener, Stream = TcpStream> + Sync,
-    L: Log + RandomSource + Clock + Threads + Wait + Sync,
-{
-    thread::scope(thread::scope_env(), log, move |scope| {
-        let mut ended = Ok(());
         for _ in 0..acceptors(shared.dialers.len()) {
-            listener.enter();
-            if scope
-                .spawn(move || accept_peers(log, shared, listener))
-                .is_err()
-            {
-                listener.leave();
-                ended = Err(ServeFault::Device);
+            if ended.is_ok() {
+                listener.enter();
+                if scope
+                    .spawn(move || accept_peers(log, shared, listener))
+                    .is_err()
+                {
+                    listener.leave();
+                    ended = Err(ServeFault::Device);
+                }
             }
         }
         if ended.is_ok() {
             let inboxes = Inboxes::One(shared.mailbox);
-            ended = run_clients(log, shared.alloc, clients, inboxes, seed);
+            ended = run_clients(log, shared.alloc, clients, inboxes, seeds.draws);
         }
         shared.halt_all(log);
         listener.wake(net, log, shared.settings.listen);
+        shared.mailbox.stop(log);
+        shared.post.stop(log);
         ended
     })
+}
+
+/// Links a site to its peers, until it is to stop.
+fn link_site<L: Log + Wait>(log: &L, shared: Shared<'_>, linker: Linker<'_, '_>, hasher: Seeded) {
+    let pushing = Pushing {
+        log,
+        shared,
+        hasher,
+    };
+    linker.lend(shared.alloc, MOST_PARKED, pushing);
+}
+
+/// Takes what calls make into the logs, until the site is to stop.
+fn drain_site<L: Clock + Wait>(log: &L, shared: Shared<'_>, drainer: Linker<'_, '_>) {
+    drainer.lend(shared.alloc, 0, Draining { log, shared });
+}
+
+/// Tells the link thread of each second, until the site ends.
+fn beat_time<L: Wait + Clock>(rt: &L, shared: Shared<'_>) {
+    for _ in rt.forever() {
+        if shared.halt.wait(rt, beat()) {
+            break;
+        }
+        shared.post.beat(rt);
+    }
 }
 
 /// How many threads accept peers, of which so many dial: two for each, and at least one. So a peer

@@ -1,33 +1,48 @@
 //! Serving a site.
 
 ghost use Rattle.std.specs.Net.Socket.{socket_ip, socket_port};
-ghost use Rattle.std.specs.Prelude.{◌≡◌, IfSome, None, ◌≤◌};
-ghost use Rattle.zq_serve.specs.Limits.{port_limits};
+ghost use Rattle.std.specs.List.{AllZip};
+ghost use Rattle.std.specs.Prelude.{◌≡◌, IfSome, List, None, Some, ◌≤◌};
+ghost use Rattle.zq_journal.specs.Limits.{limits_of};
+ghost use Rattle.zq_model.specs.Limits.{standard};
+ghost use Rattle.zq_serve.specs.Plans.{IsManned};
+ghost use Rattle.zq_session.specs.LentSites.{IsLentBy};
+ghost use Rattle.zq_session.specs.declared.site_plan.SitePlan.{SitePlan as Plans};
+ghost use Rattle.zq_site.specs.Site.{IsPlanOf};
 
 use crate::announcing::announce;
 use crate::halt::Halt;
+use crate::opening::draw_run;
 use crate::peer_links::{dialers_of, open_peer_links, peers_of};
 use crate::peer_listener::PeerListener;
+use crate::post::Post;
 use crate::running::{Seeds, run_site};
 use crate::shared::Shared;
 use log::Log;
-use std::alloc::Global;
+use std::alloc::{AllocError, Global};
 use std::io::Write;
 use std::net::{Net, SocketAddr, TcpListener, TcpStream};
 use std::random::RandomSource;
 use std::sync::Wait;
 use std::thread::{Threads, available_parallelism};
 use std::time::Clock;
-use zq_peers::Mailbox;
+use zq_journal::TailLimits;
+use zq_peers::{Link, Mailbox};
 use zq_posheap::Seeded;
+use zq_replica::Logs;
 use zq_serve::{
-    ServeFault, SiteOptions, SiteThreads, draw_hasher, limits_of, listen, most_clients,
-    most_waiting, open_site, warn_few,
+    Linker, ServeFault, SiteThreads, draw_hasher, limits_of, listen, most_clients, most_waiting,
+    open_port, plan_of, warn_few,
 };
+use zq_session::{LentSite, close_sites, end_loan, lend_sites, open_sites};
 use zq_settings::{SiteSettings, WorkerCount};
 
 // At most so many workers are taken where the settings do not say how many.
 const MOST_WORKERS: usize = 4;
+
+// Peers are served by the logs, so that a heap's tail keeps so many bytes of names at most beyond what
+// is not in them yet.
+const MOST_TAIL: u64 = 1_048_576;
 
 /// Serves the site of the settings in this process: the connections of its port by `workers`
 /// threads, as `zq_serve::serve` does. When it listens on its port and for its peers it writes
@@ -60,51 +75,110 @@ where
     W: Write,
 {
     let hasher = draw_hasher(log)?;
-    let listener = PeerListener::new(listen(net, settings.listen)?);
     let workers = workers_of(log, settings.workers);
+    let plans = [plan_of(
+        settings.site,
+        settings.heaps,
+        settings.rule,
+        workers,
+        tails(),
+    )];
+    let mut made = open_sites(alloc, &plans, hasher)?;
+    let ended = match lend_sites(alloc, &plans, &mut made) {
+        Ok(mut lent) => {
+            let ended = serve_lent(net, log, alloc, settings, out, workers, hasher, &mut lent);
+            end_loan(lent);
+            ended
+        }
+        Err(AllocError) => Err(ServeFault::NoMemory),
+    };
+    close_sites(made);
+    ended
+}
+
+/// Serves the site of the settings, the only one of these, by so many workers.
+fn serve_lent<'a, N, L, W>(
+    net: &N,
+    log: &L,
+    alloc: Global,
+    settings: &SiteSettings,
+    out: &mut W,
+    workers: WorkerCount,
+    hasher: Seeded,
+    sites: &mut [LentSite<'a>],
+) -> Result<(), ServeFault>
+where
+    N: Net<Listener = TcpListener, Stream = TcpStream> + Sync,
+    L: Log + RandomSource + Clock + Threads + Wait + Sync,
+    W: Write,
+    requires { (plans : List Plans) × IsPlanOf settings.now workers plans
+        × AllZip IsLentBy plans sites.old }
+{
+    let Some(site) = sites.first_mut() else {
+        unreachable!()
+    };
+    serve_one(net, log, alloc, settings, out, workers, hasher, site)
+}
+
+/// Serves the site, which is that of the settings.
+fn serve_one<'a, N, L, W>(
+    net: &N,
+    log: &L,
+    alloc: Global,
+    settings: &SiteSettings,
+    out: &mut W,
+    workers: WorkerCount,
+    hasher: Seeded,
+    site: &mut LentSite<'a>,
+) -> Result<(), ServeFault>
+where
+    N: Net<Listener = TcpListener, Stream = TcpStream> + Sync,
+    L: Log + RandomSource + Clock + Threads + Wait + Sync,
+    W: Write,
+    requires { IsManned workers site.old }
+{
+    let listener = PeerListener::new(listen(net, settings.listen)?);
     let most = most_clients(1, workers, links_of(settings));
-    let threads = open_threads(net, alloc, settings, workers, most, hasher)?;
+    let limits = limits_of(settings.connections, &settings.limits, most);
+    let address = clients_address(settings);
+    let mut port = open_port(net, alloc, address, workers, limits)?;
+    let others = peers_of(alloc, settings)?;
+    let link = Link { others, hasher };
+    let mut threads = SiteThreads::new(alloc);
+    let other = threads.add(site, &mut port, &link)?;
+    let mut drainers = Vec::new(alloc);
+    if !link.others.is_empty() {
+        let drainer = Linker::new(other, &link);
+        drainers.push(drainer).map_err(AllocError::from)?;
+    }
+    let logs = open_logs(alloc, settings)?;
     let peer_links = open_peer_links(alloc, settings)?;
     let dialers = dialers_of(alloc, settings)?;
     let mailbox = open_mailbox(alloc, settings)?;
+    let post = Post::new(alloc);
+    let Ok(run) = draw_run(log) else {
+        return Err(ServeFault::Device);
+    };
     announce(settings, out)?;
-    warn_few(
-        log,
-        u64::from(settings.site.value()),
-        settings.limits.clients,
-        most,
-    );
+    let number = u64::from(settings.site.value());
+    warn_few(log, number, settings.limits.clients, most);
     let halt = Halt::new();
     let shared = Shared {
         alloc,
         settings,
+        run,
         peer_links: &peer_links,
         dialers: &dialers,
         mailbox: &mailbox,
+        logs: &logs,
+        post: &post,
         halt: &halt,
     };
     let seeds = Seeds {
         hasher,
         draws: settings.seed.value(),
     };
-    run_site(net, log, shared, &listener, threads, seeds)
-}
-
-/// Listens on the port of the site's clients, and gives what works for the site.
-fn open_threads<R: Net<Listener = TcpListener, Stream = TcpStream>>(
-    net: &R,
-    alloc: Global,
-    settings: &SiteSettings,
-    workers: WorkerCount,
-    most: u64,
-    hasher: Seeded,
-) -> Result<SiteThreads, ServeFault> {
-    let plan = plan_of(settings, workers, most);
-    let address = clients_address(settings);
-    let mut threads = SiteThreads::new(alloc);
-    let peers = peers_of(alloc, settings)?;
-    open_site(net, alloc, &plan, address, peers, hasher, &mut threads)?;
-    Ok(threads)
+    run_site(net, log, shared, &listener, threads, drainers, seeds)
 }
 
 /// How many connections the site's links take at most: one or an older one for each peer, another
@@ -132,20 +206,13 @@ fn workers_of<R: Threads>(rt: &R, given: Option<WorkerCount>) -> WorkerCount
     }
 }
 
-/// How the site is served, whose port may have so many clients at once.
-fn plan_of(settings: &SiteSettings, workers: WorkerCount, most: u64) -> SiteOptions
-    ensures number { result.number ≡ settings.now.site }
-    ensures heaps { result.heaps ≡ settings.now.heaps }
-    ensures rule { result.rule ≡ settings.now.rule }
-    ensures workers { result.workers ≡ workers }
-    ensures limits { result.limits ≡ port_limits settings.now.connections settings.now.limits most }
+/// The limits of the tails of the site's heaps.
+fn tails() -> TailLimits
+    ensures { limits_of result ≡ record standard { bytes = Some 1048576 } }
 {
-    SiteOptions {
-        number: settings.site,
-        heaps: settings.heaps,
-        rule: settings.rule,
-        workers,
-        limits: limits_of(settings.connections, &settings.limits, most),
+    TailLimits {
+        bytes: Some(MOST_TAIL),
+        ..TailLimits::standard()
     }
 }
 
@@ -157,7 +224,14 @@ fn clients_address(settings: &SiteSettings) -> SocketAddr
     SocketAddr::new(settings.bind, settings.port.value() as u16)
 }
 
-/// Where frames wait for the site's link thread.
+/// The logs of the site's heaps, which have as many bytes together as the settings say.
+fn open_logs(alloc: Global, settings: &SiteSettings) -> Result<Logs, AllocError> {
+    let heaps = settings.heaps.value() as u8;
+    let most = settings.link_backlog.value() as u64 / u64::from(heaps.max(1));
+    Logs::new(alloc, heaps, most)
+}
+
+/// Where calls are told of.
 fn open_mailbox(alloc: Global, settings: &SiteSettings) -> Result<Mailbox, ServeFault> {
     let peers = settings.peers.as_slice().len();
     let mailbox = Mailbox::new(alloc, most_waiting(peers, settings.heaps))?;

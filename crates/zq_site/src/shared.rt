@@ -2,26 +2,40 @@
 
 use crate::halt::Halt;
 use crate::peer_link::PeerLink;
+use crate::post::{Event, Post};
 use std::alloc::Global;
 use std::sync::Wait;
 use zq_dots::SiteNo;
 use zq_peers::Mailbox;
+use zq_replica::Logs;
 use zq_settings::SiteSettings;
+use zq_wire::RUN;
 
 /// What the threads of a site's links share.
 #[derive(Clone, Copy)]
 pub struct Shared<'a> {
     pub alloc: Global,
     pub settings: &'a SiteSettings,
+    /// What names this run of the site.
+    pub run: [u8; RUN],
     pub peer_links: &'a [PeerLink],
     /// The peers that dial this site.
     pub dialers: &'a [SiteNo],
-    /// Where frames wait for the link thread.
+    /// Where calls are told of.
     pub mailbox: &'a Mailbox,
+    /// Where what calls made goes, for the peers.
+    pub logs: &'a Logs,
+    /// Where the link thread is told what to do.
+    pub post: &'a Post,
     pub halt: &'a Halt,
 }
 
 impl Shared<'_> {
+    /// The link of this number to a peer is down.
+    pub fn down<R: Wait>(&self, rt: &R, peer: SiteNo, link: u64) {
+        let _ = self.post.leave(rt, Event::Down { peer, link });
+    }
+
     /// The site ends: who waits for a pause or a frame is woken, and all streams are shut down.
     pub fn halt_all<R: Wait>(&self, rt: &R) {
         self.halt.tell(rt);

@@ -6,14 +6,22 @@ ghost use Rattle.zq_site.specs.Times as wanted;
 
 use std::time::Duration;
 
+/// After how many seconds the link thread is told that a beat has gone by.
+const BEAT: u64 = 1;
+
 /// After how many seconds the site tells its peers what it has, where nobody calls it.
 const TELLING: u64 = 5;
 
 /// How many seconds nothing may come over a link.
 const SILENCE: u64 = 20;
 
-// A peer tells what it has four times before it is silent.
-const _: () = prove!(4 * TELLING <= SILENCE);
+/// After how many seconds in which nothing came to be sent over a link a heartbeat is sent. It is
+/// more than the time after which a site tells: the heart of a link beats only where that is late.
+const HEARTBEAT: u64 = 6;
+
+// A peer tells what it has four times before it is silent. Where it cannot the heart of the link
+// beats three times.
+const _: () = prove!(4 * TELLING <= SILENCE && 3 * HEARTBEAT <= SILENCE);
 
 /// How long a dialled peer may take to accept: 5 seconds.
 pub fn connecting() -> Duration
@@ -29,11 +37,25 @@ pub fn opening() -> Duration
     Duration::from_secs(5)
 }
 
-/// After what time the site tells its peers what it has, where nobody calls it: 5 seconds.
-pub fn telling() -> Duration
-    ensures { as_nanos result ≡ wanted.telling }
+/// After what time the link thread is told that a beat has gone by: a second.
+pub fn beat() -> Duration
+    ensures { as_nanos result ≡ wanted.beat }
 {
-    Duration::from_secs(TELLING)
+    Duration::from_secs(BEAT)
+}
+
+/// For how long calls are gathered before their operations are pushed: 200 microseconds.
+pub fn gathering() -> Duration
+    ensures { as_nanos result ≡ wanted.gathering }
+{
+    Duration::from_micros(200)
+}
+
+/// After what time in which nothing came to be sent over a link a heartbeat is sent: 6 seconds.
+pub fn heartbeat() -> Duration
+    ensures { as_nanos result ≡ wanted.heartbeat }
+{
+    Duration::from_secs(HEARTBEAT)
 }
 
 /// How long nothing may come over a link: 20 seconds.

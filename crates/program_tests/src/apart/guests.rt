@@ -22,6 +22,18 @@ pub fn greeting(site: u8, heaps: u8, rule: u8) -> [u8; 13] {
     [a, b, c, d, e, f, g, h, 1, site, heaps, rule, 0]
 }
 
+/// The greeting of a peer in the form that has a range of versions, with the rule of this byte: it
+/// speaks the versions up to this one, and tells zeros of its run. It has two heaps and no secret.
+pub fn range_greeting(site: u8, rule: u8, highest: u8) -> [u8; 55] {
+    let mut bytes = [0u8; 55];
+    let [a, b, c, d, e, f, g, h] = *b"zq-peer\n";
+    let front = [a, b, c, d, e, f, g, h, 0, 1, highest, site, 2, rule];
+    for (byte, given) in bytes.iter_mut().zip(front.iter()) {
+        *byte = *given;
+    }
+    bytes
+}
+
 /// What a stream gives until it ends, or breaks.
 pub fn read_out(alloc: Global, mut stream: &TcpStream) -> Vec<u8> {
     let mut bytes = Vec::new(alloc);
@@ -170,20 +182,20 @@ fn haves_in(heard: &[u8]) -> usize {
     }
 }
 
-/// Accepts the site, greets it, and sends it these bytes.
+/// Accepts the site, greets it as a peer of version 1, and sends it these bytes.
 pub fn greet(listener: &TcpListener, bytes: &[u8]) -> Result<TcpStream, Fail> {
     let (mut stream, _) = listener.accept()?;
-    stream.write_all(greeting(0, 2, 0).as_slice())?;
+    stream.write_all(range_greeting(0, 0, 1).as_slice())?;
     stream.write_all(bytes)?;
     Ok(stream)
 }
 
 /// What the site says first where it is greeted: its greeting, and the length and the kind of a
 /// Have. It also says whether that came within three seconds.
-pub fn heard_of<R: Clock>(rt: &R, listener: &TcpListener) -> Result<([u8; 18], bool), Fail> {
+pub fn heard_of<R: Clock>(rt: &R, listener: &TcpListener) -> Result<([u8; 60], bool), Fail> {
     let mut stream = greet(listener, b"")?;
     let start = Instant::now(rt)?;
-    let mut heard = [0u8; 18];
+    let mut heard = [0u8; 60];
     stream.read_exact(&mut heard)?;
     let soon = start.elapsed(rt)? < Duration::from_secs(3);
     Ok((heard, soon))
@@ -233,7 +245,8 @@ pub fn break_twice<R: Clock>(rt: &R, alloc: Global, listener: &TcpListener) -> R
     if !first_soon && !then_soon {
         return Err("a Have comes late".into());
     }
-    if heard.get(..13) == Some(greeting(1, 2, 0).as_slice()) && heard.get(17) == Some(&5) {
+    let said = range_greeting(1, 0, 2);
+    if heard.get(..14) == said.get(..14) && heard.get(59) == Some(&5) {
         return Ok(());
     }
     Err("no greeting and no Have".into())
