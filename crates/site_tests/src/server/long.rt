@@ -65,7 +65,7 @@ fn follow<A: Answers>(
     alloc: Global,
     server: &mut A,
     lengths: &[usize],
-    lines: &[Line],
+    lines: &[(&str, &str)],
 ) -> Result<(), Fail> {
     for length in lengths {
         let member = letters(alloc, *length)?;
