@@ -24,3 +24,5 @@ mod ranked;
 mod rows;
 #[cfg(test)]
 mod shard;
+#[cfg(test)]
+mod stage;

@@ -3,6 +3,7 @@
 mod comparison;
 mod keys;
 mod steps;
+mod walks;
 
 use crate::deed::Deed;
 use crate::rows::row_holds;

@@ -9,7 +9,7 @@ use Rattle.std.specs.Prelude.{IfSome}
 use Rattle.zq_dots.specs.Placed.{Placed}
 use Rattle.zq_model.specs.Limits.{TailLimits}
 use Rattle.zq_model.proofs.KeptBooks.{after_replay, kept_longer, undone_recorded}
-use Rattle.zq_model.specs.Books.{IsBook, merged, recorded}
+use Rattle.zq_model.specs.Books.{IsBook, merged, recorded, taken_over}
 use Rattle.zq_model.specs.Undoing.{AreKept, Leaf, after_leaves, operation_on, undone}
 use Rattle.zq_journal.proofs.Missing.{operation_is}
 use Rattle.zq_journal.specs.Books.{LAST_STAMP, book_over}
@@ -139,3 +139,9 @@ pub merged_is : (s t : HeapImage) (v w : List ℕ) (records after : List Record)
     t.image ≡ join s.image other → w ≡ t.image.vector → after ≡ [] →
     book_over t w (leaves_of after) limits handed at (count + 1) ≡ merged (book_over s v (leaves_of records) limits handed stamp count) at other
 merged_is s t v w records after limits handed stamp at count other heap heaps rule joined vector none = rw (none, vector, joined, heap, heaps, rule) refl
+
+-- the book of a heap in whose place another was taken
+pub taken_over_is : (s t : HeapImage) (v w : List ℕ) (records after : List Record) (limits : TailLimits) (handed : Option ℕ) (stamp at count : ℕ) (other : HeapImage) → t ≡ other → other.heap ≡ s.heap → other.heaps ≡ s.heaps → other.rule ≡ s.rule →
+    w ≡ t.image.vector → after ≡ [] →
+    book_over t w (leaves_of after) limits handed at (count + 1) ≡ taken_over (book_over s v (leaves_of records) limits handed stamp count) at other.image
+taken_over_is s t v w records after limits handed stamp at count other is heap heaps rule vector none = rw (none, vector, is, heap, heaps, rule) refl

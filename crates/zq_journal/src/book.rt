@@ -23,8 +23,8 @@ pub const LAST_COUNT: u64 = 4_611_686_018_427_387_904;
 
 /// The journal of one heap: its state, and the records of what was new since an older state, the
 /// base, oldest first. Each record has the stamp of the call that made it, and the book counts its
-/// steps: all records that it ever made, all merges, and each time that it was told what was handed
-/// on.
+/// steps: all records that it ever made, all heaps that it merged or took in the place of its own,
+/// and each time that it was told what was handed on.
 ///
 /// The base is not kept: each record has what its member had before it, so that undoing the records
 /// from the newest to the oldest gives the base's members. Its vector is kept.
@@ -109,7 +109,8 @@ impl Book {
         self.stamp
     }
 
-    /// How many steps it ever made: records, merges, and words of what was handed on.
+    /// How many steps it ever made: records, merges, other heaps in the place of its own, and words
+    /// of what was handed on.
     pub fn count(&self) -> u64
         ensures same { result ≡ self.now.count }
         ensures bounded { result ≤ LAST_STAMP }

@@ -36,6 +36,19 @@ pub enum MergeFault {
     NoMemory,
 }
 
+/// Why a heap did not take the place of the book's.
+#[derive(Clone, Copy, Debug, PartialEq, Eq)]
+pub enum TakeOverFault {
+    /// Its number or its number of heaps is another.
+    WrongHeap,
+    /// Its rule is another.
+    WrongRule,
+    /// The book can count no further step.
+    Worn,
+    /// It lacks some of what the book has.
+    Lacks,
+}
+
 /// A cut of a tail stopped, this many records having been dropped. No cut stops: it takes no
 /// memory.
 #[derive(Clone, Copy, Debug, PartialEq, Eq)]

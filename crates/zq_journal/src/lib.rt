@@ -13,12 +13,13 @@ mod own;
 mod putting;
 mod recording;
 mod records;
+mod replacing;
 mod since;
 mod start;
 mod trimming;
 
 pub use book::{Book, LAST_COUNT};
-pub use faults::{Advanced, MergeFault, TakeFault};
+pub use faults::{Advanced, MergeFault, TakeFault, TakeOverFault};
 pub use handing::FirstSince;
 pub use limits::TailLimits;
 pub use since::Since;

@@ -5,7 +5,7 @@ use Rattle.std.proofs.lemmas.Bool.{and_parts, cases_eq, cases_lt, eqb-true}
 use Rattle.std.proofs.lemmas.List.{get_or_past, set_past}
 use Rattle.std.specs.Prelude.{List, [], length, max, slice_index, slice_set, true, ℕ, ◌<◌, ◌∷◌, ◌≡◌, ◌≤◌}
 use Rattle.zq_model.proofs.NewRecords.{change_is, change_is_new}
-use Rattle.zq_model.specs.Books.{Book, Change, HandedOn, Merged, Recorded, Step, are_steps_over, image_step, is_change_over, is_step_over, operation_of, steps_image}
+use Rattle.zq_model.specs.Books.{Book, Change, HandedOn, Merged, Recorded, Step, TookOver, are_steps_over, image_step, is_change_over, is_step_over, is_wide, operation_of, steps_image}
 use Rattle.zq_model.specs.Reach.{Reached}
 use Rattle.zq_model.proofs.Dots.{has_from, has_not, has_parts}
 use Rattle.zq_model.proofs.Sites.{by_site-at}
@@ -51,6 +51,16 @@ step_grows K h a (Merged stamp other) over = λ t.
           omega (arith, none))
     ]
 step_grows K h a (HandedOn stamp handed) over = λ t. omega arith
+step_grows K h a (TookOver stamp other) over =
+    let both : (is_wide a.vector ≡ true) × (covers other.vector a.vector ≡ true) = and_parts _ _ over in
+    λ t.
+    elim (cases_lt t SITES) [
+      | inl below ↦ covers_at other.vector a.vector t both.1 below
+      | inr past ↦ (
+          let wide : length a.vector ≡ SITES = eqb-true (length a.vector) SITES both.0 in
+          let none : get_or a.vector t 0 ≡ 0 = get_or_past a.vector t 0 (omega arith) in
+          omega (arith, none))
+    ]
 
 steps_grow : (K h : ℕ) (steps : List Step) (a : Image) → are_steps_over K h a steps ≡ true → HasNoLess (steps_image steps a).vector a.vector
 steps_grow K h [] a over = λ t. omega arith

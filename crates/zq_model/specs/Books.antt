@@ -34,12 +34,13 @@ pub record Book : Type 0 where
   -- cut; none: all may be
   pub handed : Option ℕ
 
--- a step of a book's history: a record, the merge of another image, or the word that so many steps
--- were handed on
+-- a step of a book's history: a record, the merge of another image, the word that so many steps were
+-- handed on, or another image in place of the book's own
 pub data Step : Type 0 where
   Recorded : (r : Record) → Step
   Merged : (stamp : ℕ) → (other : Image) → Step
   HandedOn : (stamp handed : ℕ) → Step
+  TookOver : (stamp : ℕ) → (other : Image) → Step
 
 abbrev pub operation_of : Change → Operation
 operation_of (Made o) = o
@@ -49,6 +50,7 @@ abbrev pub stamp_of : Step → ℕ
 stamp_of (Recorded r) = r.stamp
 stamp_of (Merged stamp other) = stamp
 stamp_of (HandedOn stamp handed) = stamp
+stamp_of (TookOver stamp other) = stamp
 
 abbrev pub is_within : ℤ → Bool
 is_within x = int_le (neg_ℤ (pos MOST)) x && int_le x (pos MOST)
@@ -90,15 +92,18 @@ abbrev pub is_change_over : ℕ → ℕ → List ℕ → Change → Bool
 is_change_over K h v c =
     is_wide v && (((operation_of c).heap == h) && (is_operation K (operation_of c) && is_over v c))
 
+-- a step that can come over this image; what takes its place has all that it has seen
 abbrev pub is_step_over : ℕ → ℕ → Image → Step → Bool
 is_step_over K h a (Recorded r) = is_change_over K h a.vector r.change
 is_step_over K h a (Merged stamp other) = is_wide a.vector
 is_step_over K h a (HandedOn stamp handed) = true
+is_step_over K h a (TookOver stamp other) = is_wide a.vector && covers other.vector a.vector
 
 abbrev pub image_step : Step → Image → Image
 image_step (Recorded r) a = image_after (operation_of r.change) a
 image_step (Merged stamp other) a = join a other
 image_step (HandedOn stamp handed) a = a
+image_step (TookOver stamp other) a = other
 
 -- the image after the steps, oldest first
 abbrev pub steps_image : List Step → Image → Image
@@ -116,12 +121,14 @@ are_rising low high [] = true
 are_rising low high (s ∷ ss) =
     nat_le low (stamp_of s) && (nat_le (stamp_of s) high && are_rising (stamp_of s) high ss)
 
--- the tail after the steps: all records that follow the last merge, and all where there is none
+-- the tail after the steps: all records that follow the last one that merged or took over another
+-- image, and all where there is none
 abbrev pub tail_after : List Record → List Step → List Record
 tail_after tail [] = tail
 tail_after tail (Recorded r ∷ ss) = tail_after (tail ++ r ∷ []) ss
 tail_after tail (Merged stamp other ∷ ss) = tail_after [] ss
 tail_after tail (HandedOn stamp handed ∷ ss) = tail_after tail ss
+tail_after tail (TookOver stamp other ∷ ss) = tail_after [] ss
 
 -- a tail's records, as steps
 abbrev pub steps_of : List Record → List Step
@@ -168,6 +175,21 @@ merged b stamp other = record {
 -- the book of whose steps so many were handed on, which counts as one step more
 abbrev pub handed_on : Book → ℕ → ℕ → Book
 handed_on b stamp handed = record b { stamp = stamp; count = b.count + 1; handed = Some handed }
+
+-- the book with another image in place of its own: nothing is left to replay
+abbrev pub taken_over : Book → ℕ → Image → Book
+taken_over b stamp other = record {
+  heap = b.heap;
+  heaps = b.heaps;
+  rule = b.rule;
+  base = other;
+  state = other;
+  tail = [];
+  stamp = stamp;
+  count = b.count + 1;
+  limits = b.limits;
+  handed = b.handed;
+}
 
 abbrev pub touched : Book → ℕ → Book
 touched b stamp = record b { stamp = stamp }

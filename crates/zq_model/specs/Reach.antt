@@ -2,7 +2,7 @@
 
 use Rattle.std.specs.List.{list_all}
 use Rattle.std.specs.Prelude.{List, None, Option, Some, [], if◌then◌else◌, length, max, min, nat_le, suc, sum_by, true, ℕ, ◌++◌, ◌+◌, ◌-◌, ◌<◌, ◌==◌, ◌∷◌, ◌≡◌, ◌≤◌, ◌⊎◌}
-use Rattle.zq_model.specs.Books.{Book, HandedOn, Merged, Record, Recorded, Step, advanced, are_rising, are_steps_over, handed_on, merged, operation_of, recorded, stamp_of, steps_image, tail_after, touched}
+use Rattle.zq_model.specs.Books.{Book, HandedOn, Merged, Record, Recorded, Step, TookOver, advanced, are_rising, are_steps_over, handed_on, merged, operation_of, recorded, stamp_of, steps_image, tail_after, taken_over, touched}
 use Rattle.zq_model.specs.Limits.{TailLimits}
 
 -- the bytes of a record's key and member
@@ -25,8 +25,8 @@ IsCutOff limits cut tail = (cut ≡ [])
     ⊎ ((limits.kept ≤ length tail) ⊎ IsHeavy limits.bytes (cut ++ tail))
 
 -- these steps lead from a to b: their stamps are above a's and none is above b's, each counts one,
--- and b's tail is a's with their records, or what follows the last merge, of which the oldest may
--- have been cut off
+-- and b's tail is a's with their records, or what follows the last image that was merged or taken
+-- over, of which the oldest may have been cut off
 pub record IsReachedBy (b a : Book) (steps : List Step) : Type 0 where
   pub heap : b.heap ≡ a.heap
   pub heaps : b.heaps ≡ a.heaps
@@ -81,6 +81,7 @@ abbrev pub after_step : Step → Book → Book
 after_step (Recorded r) b = recorded b r.stamp r.change
 after_step (Merged stamp other) b = merged b stamp other
 after_step (HandedOn stamp handed) b = handed_on b stamp handed
+after_step (TookOver stamp other) b = taken_over b stamp other
 
 -- the book after the steps, oldest first
 abbrev pub after_steps : List Step → Book → Book
@@ -97,6 +98,7 @@ handed_after before [] = before
 handed_after before (Recorded r ∷ ss) = handed_after before ss
 handed_after before (Merged stamp other ∷ ss) = handed_after before ss
 handed_after before (HandedOn stamp handed ∷ ss) = handed_after (Some handed) ss
+handed_after before (TookOver stamp other ∷ ss) = handed_after before ss
 
 -- b is a after the own steps of one call of this stamp
 pub record IsWorked (b a : Book) (stamp : ℕ) (steps : List Step) : Type 0 where

@@ -27,7 +27,7 @@ pub mod steps;
 pub mod tails;
 mod undo;
 
-pub use books::{keeping, telling};
+pub use books::{keeping, taking_over, telling};
 pub use meanings::naming;
 pub use moves::moving;
 pub use reach::{cutting, growing, reaching, working};

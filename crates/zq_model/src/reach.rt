@@ -1,7 +1,7 @@
 //! Laws of books that are reached from one another.
 
 ghost use Rattle.std.specs.Prelude.{List, None, Some, [], drop, max, true, length, ℕ, ◌++◌, ◌-◌, ◌<◌, ◌∷◌, ◌≡◌, ◌≤◌};
-ghost use Rattle.zq_model.specs.Books.{Book, Change, HandedOn, Merged, Recorded, Step, advanced, handed_on, is_change_over, merged, recorded, touched};
+ghost use Rattle.zq_model.specs.Books.{Book, Change, HandedOn, Merged, Recorded, Step, TookOver, advanced, handed_on, is_change_over, merged, recorded, taken_over, touched};
 ghost use Rattle.zq_model.specs.Limits.{standard};
 ghost use Rattle.zq_model.specs.Reach.{IsReachedBy, IsWorked, Reached, begun, bytes_in, cut_by_bytes, cut_by_length, cut_of, worked};
 ghost use Rattle.zq_model.specs.Image.{Image};
@@ -48,8 +48,8 @@ pub fn growing()
 {}
 
 /// A call's work begins with a cut of the tail and the call's stamp, and goes on with each record,
-/// each merge and each word of what was handed on. So the book that it leaves is told by the one
-/// that it found, its stamp and its steps.
+/// each image that it merges or takes over, and each word of what was handed on. So the book that it
+/// leaves is told by the one that it found, its stamp and its steps.
 pub fn working()
     ensures starts { (a : Book) (stamp : ℕ) → IsWorked (begun stamp a) a stamp [] }
     ensures records { (b a : Book) (stamp : ℕ) (steps : List Step) (c : Change) →
@@ -62,6 +62,10 @@ pub fn working()
     ensures hands_on { (b a : Book) (stamp handed : ℕ) (steps : List Step) →
         IsWorked b a stamp steps →
         IsWorked (handed_on b stamp handed) a stamp (steps ++ HandedOn stamp handed ∷ []) }
+    ensures takes_over { (b a : Book) (stamp : ℕ) (steps : List Step) (other : Image) →
+        IsWorked b a stamp steps → length b.state.vector ≡ SITES →
+        covers other.vector b.state.vector ≡ true →
+        IsWorked (taken_over b stamp other) a stamp (steps ++ TookOver stamp other ∷ []) }
     ensures leaves { (b a : Book) (stamp : ℕ) (steps : List Step) → IsWorked b a stamp steps →
         b ≡ worked stamp steps a }
 {}

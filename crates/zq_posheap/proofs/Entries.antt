@@ -1,10 +1,10 @@
 -- What the map's entries say of what is seen of the members.
-use Rattle.std.specs.Prelude.{Bool, ◌<◌, get_or, is_some, length, position, List, None, Option, Some, [], false, map, option_map, slice_get, true, zip, ℕ, ◌∷◌, ◌≡◌, cond, nat_eq}
+use Rattle.std.specs.Prelude.{Bool, ◌<◌, get_or, is_some, length, position, List, None, Option, Some, [], false, map, option_map, slice_get, suc, true, zip, ℕ, ◌∷◌, ◌≡◌, cond, nat_eq}
 use Rattle.std.proofs.Common.{ap, arith, refl, sym, true≢false, ◌∙◌}
 use Rattle.std.proofs.lemmas.List.{length-map}
 use Rattle.std.proofs.lemmas.List.Quantifiers.{position-Some}
 use Rattle.std.proofs.lemmas.Option.{get_or_from_slice_get, none-some, slice_get-map}
-use Rattle.zq_posheap.proofs.Lists.{is_some-map, there_is}
+use Rattle.zq_posheap.proofs.Lists.{is_some-map, option_map_some, there_is}
 use Rattle.std.proofs.lemmas.Cmp.{nat_list_cmp_total, nat_list_eq_equiv}
 use Rattle.std.proofs.lemmas.Map.Text.{is_eq-slice_cmp}
 use Rattle.std.specs.Cmp.{IsEquivalence}
@@ -110,3 +110,18 @@ remove_absent m k none = same_map nat_list_cmp_total bytes_antisymmetric m (remo
     by : (q : List ℕ) (b : Bool) → b ≡ eq_by_cmp (slice_cmp nat_cmp) q k → get m q ≡ cond b None (get m q)
     by q true e = ap (get m) (same_text q k (e ∙ is_eq-slice_cmp q k)) ∙ none
     by q false e = refl
+
+-- an entry that a look-up by a member's bytes finds has an index
+pub place_found : {W : Type 0} (es : List (List ℕ × W)) (q : List ℕ) (w : W) → lookup (has_text q) es ≡ Some w → (i : ℕ) × (slice_get (keys_of es) i ≡ Some q)
+place_found [] q w is = absurd (none-some w is)
+place_found (e ∷ es) q w is = by (has_text q e.0) refl (λ rest. place_found es q w rest)
+  where
+    by : (b : Bool) → b ≡ has_text q e.0 → (lookup (has_text q) es ≡ Some w → (i : ℕ) × (slice_get (keys_of es) i ≡ Some q)) → (i : ℕ) × (slice_get (keys_of (e ∷ es)) i ≡ Some q)
+    by true same later = (0, ap (λ t. Some t) (sym (same_text q e.0 same)))
+    by false other later =
+        let rest = later (ap (λ b. cond b (Some e.1) (lookup (has_text q) es)) other ∙ is) in (suc rest.0, rest.1)
+
+-- each member that is seen has a place
+pub seen_listed : {W Y : Type 0} (f : W → Y) (es : List (List ℕ × W)) (q : List ℕ) (y : Y) → get (seen_in f es) q ≡ Some y → (i : ℕ) × (slice_get (keys_of es) i ≡ Some q)
+seen_listed f es q y is =
+    let w = option_map_some f (lookup (has_text q) es) y (sym (get-seen f es q) ∙ is) in place_found es q w.0 w.1

@@ -1,9 +1,9 @@
 -- The map's entries without one, in whose place the last came.
-use Rattle.std.specs.Prelude.{IfSome, List, Option, Some, get_or, length, map, option_map, slice_get, swap_remove, ℕ, ◌+◌, ◌-◌, ◌<◌, ◌≡◌, ◌≢◌}
+use Rattle.std.specs.Prelude.{IfSome, List, Option, Some, [], get_or, length, map, option_map, slice_get, slice_set, swap_remove, take, ℕ, ◌+◌, ◌-◌, ◌<◌, ◌≡◌, ◌≢◌}
 use Rattle.std.proofs.Common.{ap, arith, subst, sym, ◌∙◌}
-use Rattle.std.proofs.lemmas.List.{length-map, length-set, length-take-le}
+use Rattle.std.proofs.lemmas.List.{get_or-map, length-map, length-set, length-take-le, map-set, take-map}
 use Rattle.std.proofs.lemmas.Option.{slice_get-map}
-use Rattle.std.specs.Map.{values_of}
+use Rattle.std.specs.Map.{keys_of, values_of}
 use Rattle.zq_posheap.proofs.Lists.{get_or_same, swap_remove_here, swap_remove_other, there_is}
 
 module _ {W : Type 0} (es es' : List (List ℕ × W)) (i n : ℕ) (r : Option (List ℕ × W)) (long : length es ≡ n + 1) (within : i < n + 1)
@@ -54,3 +54,19 @@ module _ {W : Type 0} (es es' : List (List ℕ × W)) (i n : ℕ) (r : Option (L
 
     pub entry_here : i < n → get_or (map f es') i d ≡ get_or (map f es) n d
     entry_here inside = same_entry i n (here inside)
+
+-- what is seen of a list without an element, in whose place the last came
+pub map-swap_remove : {X Y : Type 0} (f : X → Y) (xs : List X) (i : ℕ) (d : X) (e : Y) → i < length xs → map f (swap_remove xs i d) ≡ swap_remove (map f xs) i e
+map-swap_remove f xs i d e within =
+    let last = length xs - 1 in
+    let same : get_or (map f xs) last e ≡ f (get_or xs last d) = get_or-map f xs last d e (omega (arith, within)) in
+    sym (take-map f last (slice_set xs i (get_or xs last d))) ∙ ap (take last) (map-set f xs i (get_or xs last d) ∙ ap (slice_set (map f xs) i) (sym same))
+    ∙ (λ k. take (sym (length-map xs f) k - 1) (slice_set (map f xs) i (get_or (map f xs) (sym (length-map xs f) k - 1) e)))
+
+-- the members without the one whose entry goes
+pub keys-gone : {W : Type 0} (es es' : List (List ℕ × W)) (i : ℕ) (r : Option (List ℕ × W)) → i < length es →
+    r ≡ slice_get es i → IfSome r (λ p. es' ≡ swap_remove es i p) → keys_of es' ≡ swap_remove (keys_of es) i []
+keys-gone es es' i r within entry entries =
+    let p = there_is es i within in
+    let left = subst (λ o. IfSome o (λ p. es' ≡ swap_remove es i p)) (entry ∙ p.1) entries in
+    ap keys_of left ∙ map-swap_remove (λ e. e.0) es i p.0 [] within

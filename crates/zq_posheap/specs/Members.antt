@@ -1,5 +1,5 @@
 -- What callers see of a heap: a finite map from members to scores and values.
-use Rattle.std.specs.Prelude.{FitsSigned, List, Some, length, map, refl, slice_get, ℕ, ℤ, ◌<◌, ◌≡◌}
+use Rattle.std.specs.Prelude.{FitsSigned, List, Some, [], length, map, refl, slice_get, swap_remove, ℕ, ℤ, ◌<◌, ◌≡◌}
 use Rattle.std.specs.Coded.{Coded, code_by, coded×, coded_list, coded_ℕ, coded_ℤ}
 use Rattle.std.specs.Cmp.Lexicographic.{slice_cmp}
 use Rattle.std.specs.FinMap.{FinMap, code, entries, from_entries, get}
@@ -45,3 +45,14 @@ HasPlace members place = place.index < length members.places
 -- the place is the member's
 abbrev pub IsPlaceOf : {V : Type 0} → Members V → List ℕ → Place → Type 0
 IsPlaceOf members member place = slice_get members.places place.index ≡ Some member
+
+-- each member has a place
+abbrev pub AreListed : {V : Type 0} → Members V → Type 0
+AreListed {V} members = (member : List ℕ) (e : ℤ × V) → get members.held member ≡ Some e →
+    (i : ℕ) × (slice_get members.places i ≡ Some member)
+
+-- the member was taken from its place, to which the last one came
+pub record IsTakenFrom (old : List (List ℕ)) (member : List ℕ) (new : List (List ℕ)) : Type 0 where
+  pub at : ℕ
+  pub there : slice_get old at ≡ Some member
+  pub rest : new ≡ swap_remove old at []

@@ -1,5 +1,5 @@
 //! What changes the members of a heap, their scores or their values.
-ghost use Rattle.std.specs.Prelude.{IsSome, None, OnOk, OnErr, Some, length, option_map, slice_get, slice_index_or, ◌+◌, ◌-◌, ◌<◌, ◌≡◌, ◌≢◌, ◌≤◌, ℕ};
+ghost use Rattle.std.specs.Prelude.{IsSome, None, OnOk, OnErr, Some, [], length, option_map, slice_get, slice_index_or, swap_remove, ◌+◌, ◌++◌, ◌-◌, ◌<◌, ◌∷◌, ◌≡◌, ◌≢◌, ◌≤◌, ℕ};
 ghost use Rattle.std.specs.FinMap.{get, insert, remove};
 ghost use Rattle.indexmap.specs.IndexMap.{IsUnique, index_map_len, keys, values, with_value_at};
 ghost use Rattle.zq_posheap.specs.Members.{AreInRange};
@@ -105,6 +105,7 @@ impl<V: Drop> Heap<V> {
         requires absent { get (entries_map self.old) member ≡ None }
         requires room { 0 < room_of self.old }
         ensures held { entries_map self.new ≡ insert (entries_map self.old) member (score, value) }
+        ensures places { keys self.new.members ≡ keys self.old.members ++ member ∷ [] }
         ensures less_room { room_of self.old ≤ room_of self.new + 1 }
         ensures still_whole { IsWhole self.new }
     {
@@ -126,6 +127,7 @@ impl<V: Drop> Heap<V> {
             ≡ Some (shown result) }
         ensures held { entries_map self.new
             ≡ remove (entries_map self.old) (member_of self.old index) }
+        ensures places { keys self.new.members ≡ swap_remove (keys self.old.members) index [] }
         ensures more { room_of self.old ≤ room_of self.new }
         ensures still_whole { IsWhole self.new }
     {
@@ -168,6 +170,9 @@ impl<V: Drop> Heap<V> {
         ensures held { (s : Slot) → slice_get self.old.slots.items (length self.old.slots.items - 1)
             ≡ Some s →
             entries_map self.new ≡ remove (entries_map self.old) (member_of self.old s.index) }
+        ensures places { (s : Slot) →
+            slice_get self.old.slots.items (length self.old.slots.items - 1) ≡ Some s →
+            keys self.new.members ≡ swap_remove (keys self.old.members) s.index [] }
         ensures more { room_of self.old ≤ room_of self.new }
     {
         let last = self.members.len() - 1;

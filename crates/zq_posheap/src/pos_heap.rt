@@ -1,10 +1,10 @@
 //! `PosHeap`.
-ghost use Rattle.std.specs.Prelude.{List, None, Some, IfErr, IfOk, IfSome, IsNone, IsTrue, OnErr, OnOk, [], is_some, length, option_map, slice_get, ◌+◌, ◌<◌, ◌≤◌, ◌^◌, ◌≡◌, ◌↔◌, ℕ};
+ghost use Rattle.std.specs.Prelude.{List, None, Some, IfErr, IfNone, IfOk, IfSome, IsNone, IsTrue, OnErr, OnOk, [], if◌then◌else◌, is_some, length, option_map, slice_get, swap_remove, ◌+◌, ◌++◌, ◌<◌, ◌≤◌, ◌^◌, ◌∷◌, ◌≡◌, ◌↔◌, ℕ};
 ghost use Rattle.std.specs.FinMap.{contains_key, empty, get, insert, len as map_len, remove};
 ghost use Rattle.zq_posheap.specs.First.{IsFirst};
 ghost use Rattle.zq_posheap.specs.InOrder.{ListsInOrder};
 ghost use Rattle.zq_posheap.specs.Listing.{lent_pair};
-ghost use Rattle.zq_posheap.specs.Members.{HasPlace, IsPlaceOf, scores_of};
+ghost use Rattle.zq_posheap.specs.Members.{AreListed, HasPlace, IsPlaceOf, IsTakenFrom, scores_of};
 ghost use Rattle.zq_posheap.specs.Order.{Scored};
 
 use crate::guess::Guess;
@@ -45,14 +45,16 @@ impl<V: Drop> PosHeap<V> {
     /// No members, hashed from a fixed seed. Where strangers choose the members, take `with_hasher`
     /// and a seed that they do not know.
     pub fn new(alloc: Global) -> Self
-        ensures { result.held ≡ empty }
+        ensures held { result.held ≡ empty }
+        ensures places { result.places ≡ [] }
     {
         PosHeap::with_hasher(alloc, Seeded::new(0))
     }
 
     /// No members, which this hasher will place.
     pub fn with_hasher(alloc: Global, hasher: Seeded) -> Self
-        ensures { result.held ≡ empty }
+        ensures held { result.held ≡ empty }
+        ensures places { result.places ≡ [] }
     {
         PosHeap {
             heap: Heap {
@@ -67,7 +69,9 @@ impl<V: Drop> PosHeap<V> {
     /// How many members there are.
     pub fn len(&self) -> usize
         ensures number { result ≡ map_len self.now.held }
+        ensures places { result ≡ length self.now.places }
         ensures small { result < 2 ^ 63 }
+        ensures listed { AreListed self.now }
     {
         self.heap.members.len()
     }
@@ -135,6 +139,18 @@ impl<V: Drop> PosHeap<V> {
         (held.score, &held.value)
     }
 
+    /// The member of this number among the places, which count from 0, with its value. A member is
+    /// added behind all others, and where one is taken out the last one comes to its place: so a
+    /// walk from the last place to the first misses none that stays.
+    pub fn nth(&self, number: usize) -> Option<(&[u8], &V)>
+        ensures member { option_map (λ row. row.0.now) result ≡ slice_get self.now.places number }
+        ensures value { IfSome result (λ row. option_map (λ e. e.1)
+            (get self.now.held row.0.now) ≡ Some row.1.now) }
+    {
+        let (member, held) = self.heap.members.get_index(number)?;
+        Some((member.as_slice(), &held.value))
+    }
+
     /// Gives the member at a place another score and value, and answers the value that it had.
     /// Places stay good.
     pub fn replace_at(&mut self, place: Place, score: i128, value: V) -> V
@@ -149,13 +165,15 @@ impl<V: Drop> PosHeap<V> {
         self.heap.replace(place.index, score, value)
     }
 
-    /// Takes the member at a place out, and answers its score and value. No place is good any more.
+    /// Takes the member at a place out, and answers its score and value. The last one comes to that
+    /// place, so no place is good any more.
     pub fn remove_at(&mut self, place: Place) -> (i128, V)
         requires { HasPlace self.old place }
         ensures given { (member : List ℕ) → IsPlaceOf self.old member place →
             get self.old.held member ≡ Some result }
         ensures held { (member : List ℕ) → IsPlaceOf self.old member place →
             self.new.held ≡ remove self.old.held member }
+        ensures places { self.new.places ≡ swap_remove self.old.places place.index [] }
         ensures room { self.old.room ≤ self.new.room }
     {
         let held = self.heap.take_out(place.index);
@@ -181,22 +199,25 @@ impl<V: Drop> PosHeap<V> {
         self.heap.shrink();
     }
 
-    /// Adds a member that is not there, in room that was made. It is never refused.
+    /// Adds a member that is not there behind all others, in room that was made. It is never
+    /// refused.
     pub fn insert_reserved(&mut self, member: Vec<u8>, score: i128, value: V)
         requires absent { get self.old.held member.items ≡ None }
         requires room { 0 < self.old.room }
         ensures held { self.new.held ≡ insert self.old.held member.items (score, value) }
+        ensures places { self.new.places ≡ self.old.places ++ member.items ∷ [] }
         ensures less_room { self.old.room ≤ self.new.room + 1 }
     {
         self.heap.add(Name::of(member), score, value);
     }
 
-    /// Adds a member that is not there, with a copy of its bytes. Where memory is refused nothing
-    /// changes, and the value comes back.
+    /// Adds a member that is not there behind all others, with a copy of its bytes. Where memory is
+    /// refused nothing changes, and the value comes back.
     pub fn insert(&mut self, member: &[u8], score: i128, value: V) -> Result<(), AllocFailed<V>>
         requires { get self.old.held member.now ≡ None }
         ensures done { OnOk result
             (self.new.held ≡ insert self.old.held member.now (score, value)) }
+        ensures added { OnOk result (self.new.places ≡ self.old.places ++ member.now ∷ []) }
         ensures unchanged { OnErr result (self.new.held ≡ self.old.held) }
         ensures places { OnErr result (self.new.places ≡ self.old.places) }
         ensures value { IfErr result (λ refused. refused.value ≡ value) }
@@ -229,7 +250,11 @@ impl<V: Drop> PosHeap<V> {
             (self.new.held ≡ insert self.old.held member.now (score, value)) }
         ensures given { IfOk result
             (λ given. given ≡ option_map (λ e. e.1) (get self.old.held member.now)) }
+        ensures places { IfOk result
+            (λ given. self.new.places ≡ if is_some given then self.old.places
+            else self.old.places ++ member.now ∷ []) }
         ensures unchanged { OnErr result (self.new.held ≡ self.old.held) }
+        ensures same_places { OnErr result (self.new.places ≡ self.old.places) }
         ensures absent { OnErr result (get self.old.held member.now ≡ None) }
         ensures value { IfErr result (λ refused. refused.value ≡ value) }
     {
@@ -242,10 +267,14 @@ impl<V: Drop> PosHeap<V> {
         }
     }
 
-    /// Takes a member out, and answers the score and the value that it had.
+    /// Takes a member out, and answers the score and the value that it had. The last one comes to
+    /// its place.
     pub fn remove(&mut self, member: &[u8]) -> Option<(i128, V)>
         ensures given { result ≡ get self.old.held member.now }
         ensures rest { self.new.held ≡ remove self.old.held member.now }
+        ensures places { IfSome result
+            (λ _. IsTakenFrom self.old.places member.now self.new.places) }
+        ensures same_places { IfNone result (self.new.places ≡ self.old.places) }
     {
         let place = self.find(member)?;
         Some(self.remove_at(place))

@@ -45,9 +45,10 @@ fn lasts_of<'a>(
 }
 
 impl<V: Drop> PosHeap<V> {
-    /// All scores with their members and values, in no order. It takes no memory.
+    /// All scores with their members and values, by their places. It takes no memory.
     pub fn iter(&self) -> Pairs<'_, V>
         ensures lists { IsListing self.now.held result }
+        ensures places { map (λ row. row.1) result ≡ self.now.places }
         ensures fits { length result < 2 ^ 63 }
         ensures in_range { AreInRange self.now.held }
     {

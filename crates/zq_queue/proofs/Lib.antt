@@ -12,4 +12,6 @@ pub mod Seen
 pub mod Fews
 pub mod Scans
 pub mod Eithers
+pub mod Sinking
+pub mod Placed
 pub mod Crossing

@@ -1,7 +1,9 @@
 -- What the members of a key are seen as, whatever their form.
 
 use Rattle.std.specs.Coded.{Coded, code_by, coded×, coded_bool, coded_list, coded_ℕ}
+use Rattle.std.specs.FinMap.{get}
 use Rattle.std.specs.Prelude.{Bool, List, Some, length, refl, slice_get, ℕ, ◌<◌, ◌≡◌}
+use Rattle.zq_model.specs.Image.{Entry}
 use Rattle.zq_model.specs.Rule.{Rule}
 use Rattle.zq_queue.specs.Codes.{entries_code, rule_code}
 use Rattle.zq_queue.specs.Entries.{Entries}
@@ -32,7 +34,13 @@ pub record IsWithin (kept : Kept) (place : Place) : Type 0 where
 abbrev pub IsAt : Kept → List ℕ → Place → Type 0
 IsAt kept member place = slice_get kept.places (index_of place) ≡ Some member
 
--- the same members with the same entries, at other places perhaps
+-- the same members with the same entries at the same places, in another form perhaps
 pub record AreSame (old new : Kept) : Type 0 where
   pub rule : new.rule ≡ old.rule
   pub entries : new.entries ≡ old.entries
+  pub places : new.places ≡ old.places
+
+-- each member has a place
+abbrev pub AreThere : Kept → Type 0
+AreThere kept = (member : List ℕ) (entry : Entry) → get kept.entries member ≡ Some entry →
+    (i : ℕ) × (slice_get kept.places i ≡ Some member)

@@ -12,3 +12,4 @@ pub mod Kept
 pub mod Form
 pub mod Left
 pub mod Least
+pub mod Sinks

@@ -1,6 +1,6 @@
 //! What changes the entries of a queue.
 
-ghost use Rattle.std.specs.Prelude.{IfOk, List, None, OnErr, OnOk, Some, false, unwrap_or, ℕ, ◌≡◌, ◌≤◌};
+ghost use Rattle.std.specs.Prelude.{IfOk, List, None, OnErr, OnOk, Some, [], false, if◌then◌else◌, unwrap_or, ℕ, ◌++◌, ◌∷◌, ◌≡◌, ◌≤◌};
 ghost use Rattle.std.specs.FinMap.{get, insert};
 ghost use Rattle.std.specs.List.{list_all};
 ghost use Rattle.zq_entry.specs.Placed.{placed_of};
@@ -9,6 +9,7 @@ ghost use Rattle.zq_model.specs.Operation.{Drop as ActDrop};
 ghost use Rattle.zq_model.specs.Sets.{LAST};
 ghost use Rattle.zq_queue.specs.Effects.{HasRoom, affected, entries_after, is_seen};
 ghost use Rattle.zq_queue.specs.Entries.{entry_in, set_entry};
+ghost use Rattle.zq_queue.specs.Sinks.{Sinks};
 
 use crate::effect::Effect;
 use crate::queue::Queue;
@@ -79,6 +80,7 @@ impl Queue {
         ensures taken { OnOk result
             (self.new.entries ≡ entries_after effect.now member.now self.old.entries) }
         ensures before { IfOk result (λ before. before ≡ get self.old.entries member.now) }
+        ensures sinks { OnOk result (Sinks self.old self.new) }
         ensures refused { OnErr result (self.new ≡ self.old) }
     {
         match self.members.find(member) {
@@ -94,25 +96,29 @@ impl Queue {
         }
     }
 
-    /// Adds a member that does not stand, unless its entry is bare.
+    /// Adds a member that does not stand behind all others, unless its entry is bare.
     pub(crate) fn add(&mut self, member: &[u8], entry: Entry) -> Result<(), AllocError>
         requires { get self.old.entries member.now ≡ None }
         ensures rule { self.new.rule ≡ self.old.rule }
         ensures added { OnOk result
             (self.new.entries ≡ set_entry self.old.entries member.now entry) }
+        ensures places { OnOk result (self.new.places
+            ≡ if is_bare entry then self.old.places else self.old.places ++ member.now ∷ []) }
         ensures refused { OnErr result (self.new ≡ self.old) }
     {
         self.members.add(member, entry)
     }
 
     /// Gives a member back the entry that it had, or takes it out where it had none, so that a
-    /// change is undone. A bare entry counts as none. Where memory is refused, which is only for a
+    /// change is undone. A bare entry counts as none. A member that does not stand comes behind all
+    /// others. Where memory is refused, which is only for a
     /// member that does not stand, nothing changes.
     pub fn put_back(&mut self, member: &[u8], before: Option<Entry>) -> Result<(), AllocError>
         ensures rule { self.new.rule ≡ self.old.rule }
         ensures back { OnOk result
             (self.new.entries ≡ set_entry self.old.entries member.now
             (unwrap_or before no_additions)) }
+        ensures sinks { OnOk result (Sinks self.old self.new) }
         ensures refused { OnErr result (self.new ≡ self.old) }
         ensures absent { OnErr result (get self.old.entries member.now ≡ None) }
     {
@@ -126,6 +132,7 @@ impl Queue {
     fn set(&mut self, member: &[u8], entry: Entry) -> Result<(), AllocError>
         ensures rule { self.new.rule ≡ self.old.rule }
         ensures set { OnOk result (self.new.entries ≡ set_entry self.old.entries member.now entry) }
+        ensures sinks { OnOk result (Sinks self.old self.new) }
         ensures refused { OnErr result (self.new ≡ self.old) }
         ensures absent { OnErr result (get self.old.entries member.now ≡ None) }
     {
@@ -138,12 +145,14 @@ impl Queue {
         }
     }
 
-    /// Adds a member that does not stand, with its entry. Where memory is refused nothing changes.
+    /// Adds a member that does not stand behind all others, with its entry. Where memory is refused
+    /// nothing changes.
     pub fn push(&mut self, member: &[u8], entry: Entry) -> Result<(), AllocError>
         requires absent { get self.old.entries member.now ≡ None }
         requires some { is_bare entry ≡ false }
         ensures rule { self.new.rule ≡ self.old.rule }
         ensures pushed { OnOk result (self.new.entries ≡ insert self.old.entries member.now entry) }
+        ensures places { OnOk result (self.new.places ≡ self.old.places ++ member.now ∷ []) }
         ensures refused { OnErr result (self.new ≡ self.old) }
     {
         self.add(member, entry)

@@ -1,9 +1,10 @@
 //! Copies of queues, and whether two are the same.
 
-ghost use Rattle.std.specs.Prelude.{IfOk, IsTrue, List, OnOk, Some, ℕ, ◌≡◌, ◌↔◌};
+ghost use Rattle.std.specs.Prelude.{IfOk, IsTrue, List, OnOk, Some, [], ℕ, ◌≡◌, ◌↔◌};
 ghost use Rattle.std.specs.FinMap.{empty, get};
 ghost use Rattle.zq_model.specs.Image.{Entry as ModelEntry};
 ghost use Rattle.zq_queue.specs.Entries.{NoneIsBare};
+ghost use Rattle.zq_queue.specs.Queued.{without_places};
 
 use crate::members::Members;
 use crate::queue::Queue;
@@ -14,8 +15,10 @@ use zq_entry::Entry;
 fn add_copies(alloc: Global, members: &Members, copied: &mut Queue) -> Result<(), AllocError>
     requires bare { NoneIsBare members.now.entries }
     requires empty { copied.old.entries ≡ empty }
+    requires no_places { copied.old.places ≡ [] }
     ensures rule { copied.new.rule ≡ copied.old.rule }
     ensures entries { OnOk result (copied.new.entries ≡ members.now.entries) }
+    ensures places { OnOk result (copied.new.places ≡ members.now.places) }
 {
     for (member, entry) in members.iter() {
         copied.add(member, entry.copy(alloc)?)?;
@@ -48,7 +51,7 @@ fn is_within(members: &Members, queue: &Queue) -> bool
 }
 
 impl Queue {
-    /// An equal queue.
+    /// An equal queue, whose members have the same places.
     pub fn copy(&self, alloc: Global) -> Result<Queue, AllocError>
         ensures { IfOk result (λ copy. copy ≡ self.now) }
     {
@@ -58,9 +61,9 @@ impl Queue {
         Ok(copied)
     }
 
-    /// Whether it has the same rule, and the same members with the same entries.
+    /// Whether it has the same rule, and the same members with the same entries, wherever they stand.
     pub fn same(&self, other: &Queue) -> bool
-        ensures { IsTrue result ↔ (self.now ≡ other.now) }
+        ensures { IsTrue result ↔ (without_places self.now ≡ without_places other.now) }
     {
         if self.rule() != other.rule() || self.len() != other.len() {
             return false;

@@ -1,8 +1,8 @@
 //! `Member`, and lists of few.
 
-ghost use Rattle.std.specs.Prelude.{IfSome, List, OnErr, OnOk, [], is_some, length, slice_get, ◌++◌, ◌<◌, ◌∷◌, ◌≡◌};
-ghost use Rattle.std.specs.FinMap.{contains_key};
-ghost use Rattle.zq_queue.specs.Few.{entries_by, names_in};
+ghost use Rattle.std.specs.Prelude.{IfSome, List, OnErr, OnOk, Some, [], is_some, length, option_map, slice_get, ◌++◌, ◌<◌, ◌∷◌, ◌≡◌};
+ghost use Rattle.std.specs.FinMap.{contains_key, get};
+ghost use Rattle.zq_queue.specs.Few.{AreFew, entries_by, names_in};
 
 use std::alloc::{AllocError, Global};
 use zq_entry::Entry;
@@ -49,4 +49,15 @@ pub(crate) fn push(
     }
     list.push(Member { name, entry })?;
     Ok(())
+}
+
+/// The member of this number in a list, with its entry.
+pub(crate) fn nth(list: &[Member], number: usize) -> Option<(&[u8], &Entry)>
+    requires few { AreFew list.now }
+    ensures member { option_map (λ row. row.0.now) result ≡ slice_get (names_in list.now) number }
+    ensures entry { IfSome result
+        (λ row. get (entries_by list.now) row.0.now ≡ Some row.1.now) }
+{
+    let member = list.get(number)?;
+    Some((member.name.as_slice(), &member.entry))
 }

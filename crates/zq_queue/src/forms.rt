@@ -1,10 +1,10 @@
 //! From one form of the members of a key to the other. Each is made of copies beside the one that
 //! stands, so that nothing changes where memory is refused.
 
-ghost use Rattle.std.specs.Prelude.{IfOk, OnOk, length, ◌≡◌};
+ghost use Rattle.std.specs.Prelude.{IfOk, OnOk, [], length, ◌≡◌};
 ghost use Rattle.std.specs.FinMap.{empty, len as map_len};
 ghost use Rattle.zq_dots.specs.Rule.{rule_of};
-ghost use Rattle.zq_queue.specs.Few.{AreApart, AreFew, entries_by};
+ghost use Rattle.zq_queue.specs.Few.{AreApart, AreFew, entries_by, names_in};
 ghost use Rattle.zq_queue.specs.Queued.{AreScored, entries_of};
 
 use crate::few::Member;
@@ -25,6 +25,7 @@ pub(crate) fn large(
     requires few { AreFew list.now }
     ensures scored { IfOk result (λ many. AreScored (rule_of rule) many.value.held) }
     ensures entries { IfOk result (λ many. entries_of many.value.held ≡ entries_by list.now) }
+    ensures places { IfOk result (λ many. many.value.places ≡ names_in list.now) }
 {
     let mut many = Indexed::with_hasher(alloc, hasher);
     many.reserve(list.len().saturating_add(additional))?;
@@ -42,8 +43,10 @@ fn add_copies(
 ) -> Result<(), AllocError>
     requires few { AreFew list.now }
     requires empty { many.old.held ≡ empty }
+    requires no_places { many.old.places ≡ [] }
     ensures scored { OnOk result (AreScored (rule_of rule) many.new.held) }
     ensures entries { OnOk result (entries_of many.new.held ≡ entries_by list.now) }
+    ensures places { OnOk result (many.new.places ≡ names_in list.now) }
 {
     for member in list {
         if let Some(score) = member.entry.score(rule) {
@@ -59,6 +62,7 @@ pub(crate) fn small(alloc: Global, many: &Indexed) -> Result<Vec<Member>, AllocE
     ensures apart { IfOk result (λ list. AreApart list.items) }
     ensures entries { IfOk result (λ list. entries_by list.items ≡ entries_of many.now.held) }
     ensures len { IfOk result (λ list. length list.items ≡ map_len many.now.held) }
+    ensures places { IfOk result (λ list. names_in list.items ≡ many.now.places) }
 {
     let mut list = Vec::with_capacity(alloc, many.len() + 2)?;
     for ((_, member), entry) in many.iter() {

@@ -1,9 +1,9 @@
 //! `Indexed`.
 
-ghost use Rattle.std.specs.Prelude.{IfOk, IfSome, IsTrue, List, None, OnErr, OnOk, Some, is_some, option_map, ◌<◌, ◌^◌, ◌≡◌, ◌↔◌, ℕ};
+ghost use Rattle.std.specs.Prelude.{IfOk, IfSome, IsTrue, List, None, OnErr, OnOk, Some, [], is_some, length, map, option_map, slice_get, swap_remove, ◌++◌, ◌<◌, ◌^◌, ◌∷◌, ◌≡◌, ◌↔◌, ℕ};
 ghost use Rattle.std.specs.FinMap.{contains_key, empty, get, insert, len as map_len, remove};
 ghost use Rattle.zq_posheap.specs.Listing.{IsListing};
-ghost use Rattle.zq_posheap.specs.Members.{AreInRange, HasPlace, IsPlaceOf};
+ghost use Rattle.zq_posheap.specs.Members.{AreInRange, AreListed, HasPlace, IsPlaceOf};
 
 use crate::index::{index_of, with_pair, with_score, without_place};
 use std::alloc::{AllocError, Global};
@@ -41,7 +41,8 @@ impl Model for Indexed {
 impl Indexed {
     /// No members, which this hasher will place.
     pub fn with_hasher(alloc: Global, hasher: Seeded) -> Indexed
-        ensures { result.held ≡ empty }
+        ensures held { result.held ≡ empty }
+        ensures places { result.places ≡ [] }
     {
         Indexed {
             members: PosHeap::with_hasher(alloc, hasher),
@@ -67,14 +68,17 @@ impl Indexed {
     /// How many members there are.
     pub fn len(&self) -> usize
         ensures number { result ≡ map_len self.now.held }
+        ensures places { result ≡ length self.now.places }
         ensures small { result < 2 ^ 63 }
+        ensures listed { AreListed self.now }
     {
         self.members.len()
     }
 
-    /// All scores with their members and entries, in no order.
+    /// All scores with their members and entries, by their places.
     pub fn iter(&self) -> Pairs<'_, Entry>
         ensures lists { IsListing self.now.held result }
+        ensures places { map (λ row. row.1) result ≡ self.now.places }
         ensures in_range { AreInRange self.now.held }
     {
         self.members.iter()
@@ -106,16 +110,27 @@ impl Indexed {
         self.members.at(place)
     }
 
+    /// The member of this number among the places, with its entry.
+    pub fn nth(&self, number: usize) -> Option<(&[u8], &Entry)>
+        ensures member { option_map (λ row. row.0.now) result ≡ slice_get self.now.places number }
+        ensures entry { IfSome result (λ row. option_map (λ e. e.1)
+            (get self.now.held row.0.now) ≡ Some row.1.now) }
+    {
+        self.members.nth(number)
+    }
+
     /// Makes room for so many members more.
     pub fn reserve(&mut self, additional: usize) -> Result<(), AllocError>
-        ensures { self.new.held ≡ self.old.held }
+        ensures held { self.new.held ≡ self.old.held }
+        ensures places { self.new.places ≡ self.old.places }
     {
         self.members.reserve(additional)
     }
 
     /// Gives memory back where most of the room for members is free.
     pub fn shrink(&mut self)
-        ensures { self.new.held ≡ self.old.held }
+        ensures held { self.new.held ≡ self.old.held }
+        ensures places { self.new.places ≡ self.old.places }
     {
         self.members.shrink();
     }
@@ -127,6 +142,7 @@ impl Indexed {
         requires place { IsPlaceOf self.old member.now place }
         ensures given { option_map (λ e. e.1) (get self.old.held member.now) ≡ Some result }
         ensures held { self.new.held ≡ insert self.old.held member.now (score, entry) }
+        ensures places { self.new.places ≡ self.old.places }
     {
         self.index = with_score(self.index.take(), &self.members, member, place, score);
         self.members.replace_at(place, score, entry)
@@ -138,6 +154,7 @@ impl Indexed {
         requires place { IsPlaceOf self.old member.now place }
         ensures given { option_map (λ e. e.1) (get self.old.held member.now) ≡ Some result }
         ensures held { self.new.held ≡ remove self.old.held member.now }
+        ensures places { self.new.places ≡ swap_remove self.old.places place.index [] }
     {
         self.index = without_place(self.index.take(), &self.members, member, place);
         let (_, entry) = self.members.remove_at(place);
@@ -149,7 +166,9 @@ impl Indexed {
         requires { get self.old.held member.now ≡ None }
         ensures done { OnOk result
             (self.new.held ≡ insert self.old.held member.now (score, entry)) }
+        ensures places { OnOk result (self.new.places ≡ self.old.places ++ member.now ∷ []) }
         ensures unchanged { OnErr result (self.new.held ≡ self.old.held) }
+        ensures same_places { OnErr result (self.new.places ≡ self.old.places) }
     {
         self.members.insert(member, score, entry)?;
         self.index = with_pair(self.index.take(), score, member);

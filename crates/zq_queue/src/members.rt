@@ -1,20 +1,22 @@
 //! `Members`.
 
-ghost use Rattle.std.specs.Prelude.{FitsSigned, IfOk, IfSome, IsTrue, List, None, OnErr, OnOk, Some, count_by, if◌then◌else◌, is_some, map, option_map, slice_get, take, ◌<◌, ◌^◌, ◌≡◌, ◌↔◌, ℕ};
+ghost use Rattle.std.specs.Prelude.{FitsSigned, IfOk, IfSome, IsTrue, List, None, OnErr, OnOk, Some, [], count_by, if◌then◌else◌, is_some, length, map, option_map, slice_get, swap_remove, take, ◌++◌, ◌<◌, ◌^◌, ◌∷◌, ◌≡◌, ◌↔◌, ℕ};
 ghost use Rattle.std.specs.FinMap as finite;
 ghost use Rattle.std.specs.Int.{w128};
 ghost use Rattle.std.specs.Ordering.{int_cmp, is_le, is_lt};
 ghost use Rattle.zq_dots.specs.Rule.{rule_of};
+ghost use Rattle.zq_model.specs.Image.{is_bare};
 ghost use Rattle.zq_model.specs.Meaning.{scored_cmp};
 ghost use Rattle.zq_model.specs.Score.{score_of};
 ghost use Rattle.zq_posheap.specs.Listing.{IsListing};
 ghost use Rattle.zq_queue.specs.Entries.{NoneIsBare, entry_in, set_entry};
-ghost use Rattle.zq_queue.specs.Kept.{AreSame, IsAt, IsWithin};
+ghost use Rattle.zq_queue.specs.Kept.{AreSame, AreThere, IsAt, IsWithin};
 ghost use Rattle.zq_queue.specs.Lent.{lent_pair};
 ghost use Rattle.zq_queue.specs.Listed.{listed, part};
+ghost use Rattle.zq_queue.specs.Place.{index_of};
 
 use crate::each::{Each, Left};
-use crate::few::{Member, find, push};
+use crate::few::{Member, find, nth, push};
 use crate::forms::{large, small};
 use crate::indexed::Indexed;
 use crate::place::Place;
@@ -76,6 +78,7 @@ impl Members {
     pub(crate) fn new(alloc: Global, rule: Rule, hasher: Seeded) -> Members
         ensures rule { result.rule ≡ rule_of rule }
         ensures entries { result.entries ≡ finite.empty }
+        ensures places { result.places ≡ [] }
     {
         Members {
             rule,
@@ -89,6 +92,7 @@ impl Members {
     pub(crate) fn without_members(&self, alloc: Global) -> Members
         ensures rule { result.rule ≡ self.now.rule }
         ensures entries { result.entries ≡ finite.empty }
+        ensures places { result.places ≡ [] }
     {
         Members::new(alloc, self.rule, self.hasher)
     }
@@ -103,8 +107,10 @@ impl Members {
     /// How many members there are.
     pub(crate) fn len(&self) -> usize
         ensures number { result ≡ finite.len self.now.entries }
+        ensures places { result ≡ length self.now.places }
         ensures small { result < 2 ^ 63 }
         ensures kept { NoneIsBare self.now.entries }
+        ensures listed { AreThere self.now }
     {
         match &self.form {
             Form::Few(list) => list.len(),
@@ -114,14 +120,16 @@ impl Members {
 
     /// Whether there are none.
     pub(crate) fn is_empty(&self) -> bool
-        ensures { IsTrue result ↔ (finite.len self.now.entries ≡ 0) }
+        ensures empty { IsTrue result ↔ (finite.len self.now.entries ≡ 0) }
+        ensures listed { AreThere self.now }
     {
         self.len() == 0
     }
 
-    /// All members with their entries, in no order.
+    /// All members with their entries, by their places.
     pub(crate) fn iter(&self) -> Each<'_>
-        ensures { IsListing self.now.entries result }
+        ensures lists { IsListing self.now.entries result }
+        ensures places { map (λ row. row.1) result ≡ self.now.places }
     {
         match &self.form {
             Form::Few(list) => Each {
@@ -159,6 +167,18 @@ impl Members {
         }
     }
 
+    /// The member of this number among the places, with its entry.
+    pub(crate) fn nth(&self, number: usize) -> Option<(&[u8], &Entry)>
+        ensures member { option_map (λ row. row.0.now) result ≡ slice_get self.now.places number }
+        ensures entry { IfSome result
+            (λ row. finite.get self.now.entries row.0.now ≡ Some row.1.now) }
+    {
+        match &self.form {
+            Form::Few(list) => nth(list, number),
+            Form::Many(many) => many.nth(number),
+        }
+    }
+
     /// The score of a member.
     pub(crate) fn score(&self, member: &[u8]) -> Option<i128>
         ensures score { result ≡ score_of self.now.rule (entry_in self.now.entries member.now) }
@@ -188,14 +208,17 @@ impl Members {
         }
     }
 
-    /// Adds a member that is not there, unless its entry is bare. Where memory is refused nothing
-    /// changes.
+    /// Adds a member that is not there behind all others, unless its entry is bare. Where memory is
+    /// refused nothing changes.
     pub(crate) fn add(&mut self, member: &[u8], entry: Entry) -> Result<(), AllocError>
         requires { finite.get self.old.entries member.now ≡ None }
         ensures rule { self.new.rule ≡ self.old.rule }
         ensures added { OnOk result
             (self.new.entries ≡ set_entry self.old.entries member.now entry) }
+        ensures places { OnOk result (self.new.places
+            ≡ if is_bare entry then self.old.places else self.old.places ++ member.now ∷ []) }
         ensures refused { OnErr result (self.new.entries ≡ self.old.entries) }
+        ensures same_places { OnErr result (self.new.places ≡ self.old.places) }
     {
         let Some(score) = entry.score(self.rule) else {
             return Ok(());
@@ -215,7 +238,8 @@ impl Members {
     }
 
     /// Gives the member at a place another entry, or takes it out where that is bare, and answers
-    /// the entry that it had. Where it is taken out, no place is good any more.
+    /// the entry that it had. Where it is taken out, the last one comes to its place, and no place
+    /// is good any more.
     #[inline(always)]
     pub(crate) fn exchange(&mut self, member: &[u8], place: Place, entry: Entry) -> Entry
         requires within { IsWithin self.old place }
@@ -223,6 +247,8 @@ impl Members {
         ensures rule { self.new.rule ≡ self.old.rule }
         ensures before { finite.get self.old.entries member.now ≡ Some result }
         ensures set { self.new.entries ≡ set_entry self.old.entries member.now entry }
+        ensures places { self.new.places ≡ if is_bare entry then
+            swap_remove self.old.places (index_of place) [] else self.old.places }
     {
         let Some(score) = entry.score(self.rule) else {
             return self.remove_at(member, place);
@@ -233,13 +259,15 @@ impl Members {
         }
     }
 
-    /// Takes the member at its place out, and answers its entry. No place is good any more.
+    /// Takes the member at its place out, and answers its entry. The last one comes to its place, so
+    /// no place is good any more.
     pub(crate) fn remove_at(&mut self, member: &[u8], place: Place) -> Entry
         requires within { IsWithin self.old place }
         requires place { IsAt self.old member.now place }
         ensures rule { self.new.rule ≡ self.old.rule }
         ensures before { finite.get self.old.entries member.now ≡ Some result }
         ensures rest { self.new.entries ≡ finite.remove self.old.entries member.now }
+        ensures places { self.new.places ≡ swap_remove self.old.places (index_of place) [] }
     {
         match &mut self.form {
             Form::Few(list) => list.swap_remove(place.few()).entry,

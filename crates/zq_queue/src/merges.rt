@@ -95,7 +95,7 @@ fn join_second(
 impl Queue {
     /// The queue of what two sides have together, each with the vector of what it has seen: each
     /// member's entries are joined, and a member that has no addition left does not stand. Both
-    /// sides stay as they are.
+    /// sides stay as they are. Its members have places of their own.
     pub fn merge(
         &self,
         alloc: Global,

@@ -1,12 +1,13 @@
 //! `Queue`.
 
-ghost use Rattle.std.specs.Prelude.{IfSome, IsTrue, false, length, option_map, ◌<◌, ◌^◌, ◌↔◌, ◌≡◌};
+ghost use Rattle.std.specs.Prelude.{IfSome, IsTrue, Some, [], false, length, option_map, slice_get, ◌<◌, ◌^◌, ◌↔◌, ◌≡◌};
 ghost use Rattle.std.specs.FinMap as map;
 ghost use Rattle.zq_dots.specs.Rule.{rule_of};
 ghost use Rattle.zq_model.specs.Image.{is_bare};
 ghost use Rattle.zq_model.specs.Score.{score_of};
 ghost use Rattle.zq_queue.specs.Entries.{NoneIsBare, entry_in};
 ghost use Rattle.zq_queue.specs.Listed.{listed};
+ghost use Rattle.zq_queue.specs.Sinks.{AreListed};
 
 use crate::members::Members;
 use std::alloc::Global;
@@ -32,7 +33,11 @@ impl Model for Queue {
 
     ghost coded = { queued_code };
 
-    ghost view = { λ q. record { rule = q.members.rule; entries = q.members.entries } };
+    ghost view = { λ q. record {
+      rule = q.members.rule;
+      entries = q.members.entries;
+      places = q.members.places;
+    } };
 }
 
 impl Queue {
@@ -40,6 +45,7 @@ impl Queue {
     pub fn new(alloc: Global, rule: Rule, hasher: Seeded) -> Queue
         ensures rule { result.rule ≡ rule_of rule }
         ensures entries { result.entries ≡ map.empty }
+        ensures places { result.places ≡ [] }
     {
         Queue {
             members: Members::new(alloc, rule, hasher),
@@ -50,6 +56,7 @@ impl Queue {
     pub(crate) fn without_members(&self, alloc: Global) -> Queue
         ensures rule { result.rule ≡ self.now.rule }
         ensures entries { result.entries ≡ map.empty }
+        ensures places { result.places ≡ [] }
     {
         Queue {
             members: self.members.without_members(alloc),
@@ -67,15 +74,18 @@ impl Queue {
     pub fn len(&self) -> usize
         ensures number { result ≡ map.len self.now.entries }
         ensures queue { result ≡ length (listed self.now.rule self.now.entries) }
+        ensures places { result ≡ length self.now.places }
         ensures small { result < 2 ^ 63 }
         ensures kept { NoneIsBare self.now.entries }
+        ensures listed { AreListed self.now }
     {
         self.members.len()
     }
 
     /// Whether it has no members.
     pub fn is_empty(&self) -> bool
-        ensures { IsTrue result ↔ (self.now.entries ≡ map.empty) }
+        ensures empty { IsTrue result ↔ (self.now.entries ≡ map.empty) }
+        ensures listed { AreListed self.now }
     {
         self.members.is_empty()
     }
@@ -87,6 +97,18 @@ impl Queue {
     {
         let place = self.members.find(member)?;
         Some(self.members.at(place))
+    }
+
+    /// The member of this number among the places, which count from 0, with its entry. A member is
+    /// added behind all others, a change keeps its place, and where one is taken out the last one
+    /// comes to its place: so a walk from the last place to the first misses none that stays. A
+    /// merge makes other places.
+    pub fn nth(&self, number: usize) -> Option<(&[u8], &Entry)>
+        ensures member { option_map (λ row. row.0.now) result ≡ slice_get self.now.places number }
+        ensures entry { IfSome result
+            (λ row. map.get self.now.entries row.0.now ≡ Some row.1.now) }
+    {
+        self.members.nth(number)
     }
 
     /// The member's score, and `None` where it does not stand.

@@ -1,6 +1,6 @@
 -- What a map of the code has at one key, and what is left of its bounds by a change there.
 
-use Rattle.std.proofs.Common.{List, None, arith, Option, Some, [], ap, cond, false, length, refl, sym, true, ℕ, ◌∙◌, ◌∷◌, ◌==◌, ◌≡◌, ◌≢◌, eqb-true}
+use Rattle.std.proofs.Common.{List, None, arith, Option, Some, [], ap, cond, false, length, refl, subst, sym, true, ℕ, ◌∙◌, ◌∷◌, ◌==◌, ◌≡◌, ◌≢◌, eqb-true}
 use Rattle.std.proofs.lemmas.Cmp.{nat_list_cmp_total}
 use Rattle.std.proofs.lemmas.Map.Lookups.{exact_bytes}
 use Rattle.std.proofs.lemmas.Option.{none-some, same_Some}
@@ -14,6 +14,7 @@ use Rattle.zq_posheap.proofs.Entries.{has_text}
 use Rattle.zq_posheap.specs.Order.{same_key}
 use Rattle.zq_queue.specs.Entries.{Entries, bytes_cmp}
 use Rattle.zq_queue.specs.Queued.{Queued}
+use Rattle.zq_queue.specs.Sinks.{AreListed}
 use Rattle.zq_shard.proofs.ByBytes.{found, updated}
 use Rattle.zq_shard.specs.Queues.{AreQueues, HasAt, entries_in, entries_or_none, unless_empty}
 
@@ -89,9 +90,14 @@ removed_at k queue after old mid new written gone same none q =
     ] refl
 
 -- a change at a key leaves queues of the rule, none of them empty
-pub kept_at : (rule : Rule) (k : List ℕ) (queue : Queued) (old new : List (List ℕ × Queued)) → AreQueues rule old → HasAt k (unless_empty queue) old new → queue.rule ≡ rule → AreQueues rule new
-kept_at rule k queue old new kept has same key q there =
-    elim (eq_by_cmp bytes_cmp key k) as (λ b. cond b (unless_empty queue) (find bytes_cmp key old) ≡ Some q → (q.rule ≡ rule) × (q.entries ≢ empty)) [
-      | true ↦ λ here. let is = unless_is queue q here in (sym (ap (λ (x : Queued). x.rule) is.0) ∙ same, is.1)
+pub kept_at : (rule : Rule) (k : List ℕ) (queue : Queued) (old new : List (List ℕ × Queued)) → AreQueues rule old → HasAt k (unless_empty queue) old new → queue.rule ≡ rule → AreListed queue →
+    AreQueues rule new
+kept_at rule k queue old new kept has same listed key q there =
+    elim (eq_by_cmp bytes_cmp key k) as (λ b. cond b (unless_empty queue) (find bytes_cmp key old) ≡ Some q → (q.rule ≡ rule) × (q.entries ≢ empty) × AreListed q) [
+      | true ↦ λ here. let is = unless_is queue q here in (sym (ap (λ (x : Queued). x.rule) is.0) ∙ same, is.1, subst AreListed is.0 listed)
       | false ↦ λ elsewhere. kept key q elsewhere
     ] (sym (has key) ∙ there)
+
+-- without its queue a key is not there
+pub gone_at : {X : Type 0} (k : List ℕ) (old new : List (List ℕ × X)) → HasAt k None old new → find bytes_cmp k new ≡ None
+gone_at k old new has = has k ∙ ap (λ b. cond b None (find bytes_cmp k old)) (maps.key_same nat_list_cmp_total k k refl)

@@ -6,6 +6,11 @@ pub mod AtIndex
 pub mod Outcomes
 pub mod Looking
 pub mod Changed
+pub mod Sinkings
+pub mod Standings
+pub mod Walks
+pub mod AllStanding
+pub mod Pieces
 pub mod SetSteps
 pub mod Meant
 pub mod BoundedSteps

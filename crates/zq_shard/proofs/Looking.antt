@@ -21,6 +21,7 @@ use Rattle.zq_queue.specs.Queued.{Queued}
 use Rattle.zq_shard.proofs.AtKeys.{entries_found}
 use Rattle.zq_shard.proofs.ByBytes.{found}
 use Rattle.zq_shard.proofs.Members.{entries_at-members_in, get-entries_at, get-members_in}
+use Rattle.zq_shard.specs.Standing.{order_of}
 use Rattle.zq_shard.specs.Queues.{AreQueues, Keyed, entries_at, entries_in, members_in}
 
 -- the list of no entries
@@ -32,7 +33,7 @@ listed_nothing rule = nothing_in (listed rule empty) (λ z here.
     nothing_in [] none = refl
     nothing_in (z ∷ q) none = absurd (none z (inl refl))
 
-module _ (pairs : List (List ℕ × Queued)) (rule : Rule) (s : Keyed) (view : record { rule = rule; members = members_in pairs } ≡ s) where
+module _ (pairs : List (List ℕ × Queued)) (rule : Rule) (s : Keyed) (view : record { rule = rule; members = members_in pairs; order = order_of pairs } ≡ s) where
   pub entries_seen : (key : List ℕ) → entries_at s.members key ≡ entries_in pairs key
   entries_seen key = ap (λ (x : Keyed). entries_at x.members key) (sym view) ∙ entries_at-members_in pairs key
 

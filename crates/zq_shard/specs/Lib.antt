@@ -4,3 +4,6 @@ pub mod ShardView
 pub mod Taken
 pub mod Listed
 pub mod Lending
+pub mod Standing
+pub mod Sinking
+pub mod Walk

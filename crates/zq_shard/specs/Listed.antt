@@ -13,6 +13,10 @@ use Rattle.zq_shard.specs.declared.row.RowRef.{RowRef}
 abbrev pub lent_row : RowRef → Row
 lent_row row = row_of ((row.key.now, row.member.now), row.entry.now)
 
+-- its key and its member
+abbrev pub lent_place : RowRef → Place
+lent_place row = (row.key.now, row.member.now)
+
 -- the row that is given
 abbrev pub given_row : Owned → Row
 given_row row = record { key = row.key.items; member = row.member.items; additions = row.additions.items }

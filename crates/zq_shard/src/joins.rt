@@ -2,7 +2,8 @@
 ghost use Rattle.std.specs.Prelude.{◌≡◌, [], IfOk, List, None, OnOk, Some, ℕ};
 ghost use Rattle.std.specs.FinMap as map;
 ghost use Rattle.zq_queue.specs.Entries.{bytes_cmp, joined_entries};
-ghost use Rattle.zq_shard.specs.Queues.{AreQueues, HasAt, and_then, entries_in, members_joined, queue_joined, unless_empty};
+ghost use Rattle.zq_shard.specs.Queues.{AllListed, AreQueues, HasAt, and_then, entries_in, members_joined, queue_joined, unless_empty, without_places_in};
+ghost use Rattle.zq_shard.specs.Sinking.{queue_with};
 
 use crate::boxed_queue::BoxedQueue;
 use crate::queues::{Queues, add};
@@ -14,7 +15,7 @@ use zq_queue::Queue;
 
 impl Queues {
     /// What two sides have together, each with the vector of what it has seen. Both stay as they
-    /// are.
+    /// are. Its keys and members have places of their own.
     pub fn merge(
         &self,
         alloc: Global,
@@ -71,10 +72,12 @@ fn join_mine(
     requires nothing { none.now.entries ≡ map.empty }
     requires kept { AreQueues none.now.rule my_queues.now.entries }
     requires their_kept { AreQueues none.now.rule their_queues.now.entries }
-    ensures { OnOk result ((q : List ℕ) → map.find bytes_cmp q merged.new.entries
+    ensures joined { OnOk result ((q : List ℕ) →
+        map.find bytes_cmp q (without_places_in merged.new.entries)
         ≡ and_then (λ queue. queue_joined none.now.rule mine.now theirs.now (Some queue)
         (map.find bytes_cmp q their_queues.now.entries))
         (map.find bytes_cmp q my_queues.now.entries)) }
+    ensures listed { OnOk result (AllListed merged.new.entries) }
 {
     for (key, queue) in my_queues {
         let other = queue_or(their_queues, key.as_slice(), none);
@@ -103,14 +106,18 @@ fn join_theirs(
 ) -> Result<(), AllocError>
     requires nothing { none.now.entries ≡ map.empty }
     requires their_kept { AreQueues none.now.rule their_queues.now.entries }
-    requires begun { (q : List ℕ) → map.find bytes_cmp q merged.old.entries
+    requires begun { (q : List ℕ) →
+        map.find bytes_cmp q (without_places_in merged.old.entries)
         ≡ and_then (λ queue. queue_joined none.now.rule mine.now theirs.now (Some queue)
         (map.find bytes_cmp q their_queues.now.entries))
         (map.find bytes_cmp q my_queues.now.entries) }
-    ensures { OnOk result ((q : List ℕ) → map.find bytes_cmp q merged.new.entries
+    requires begun_listed { AllListed merged.old.entries }
+    ensures joined { OnOk result ((q : List ℕ) →
+        map.find bytes_cmp q (without_places_in merged.new.entries)
         ≡ queue_joined none.now.rule mine.now theirs.now
         (map.find bytes_cmp q my_queues.now.entries)
         (map.find bytes_cmp q their_queues.now.entries)) }
+    ensures listed { OnOk result (AllListed merged.new.entries) }
 {
     for (key, queue) in their_queues {
         if !my_queues.contains_key(key) {
@@ -157,10 +164,12 @@ fn join_at(
 ) -> Result<(), AllocError>
     requires absent { map.find bytes_cmp key.now merged.old.entries ≡ None }
     requires rule { other.now.rule ≡ queue.now.rule }
-    ensures { OnOk result
-        (HasAt key.now (unless_empty
-        (record { rule = queue.now.rule; entries = joined_entries mine.now theirs.now queue.now.entries other.now.entries }))
-        merged.old.entries merged.new.entries) }
+    ensures joined { OnOk result
+        (HasAt key.now (unless_empty (queue_with queue.now.rule
+        (joined_entries mine.now theirs.now queue.now.entries other.now.entries) []))
+        (without_places_in merged.old.entries) (without_places_in merged.new.entries)) }
+    ensures listed { OnOk result
+        (AllListed merged.old.entries → AllListed merged.new.entries) }
 {
     let joined = queue.merge(alloc, mine, other, theirs)?;
     add(merged, alloc, key, joined)

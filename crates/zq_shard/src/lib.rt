@@ -5,6 +5,7 @@
 mod boxed_queue;
 mod faults;
 mod joins;
+pub mod laws;
 mod lending;
 mod listing;
 mod making;
@@ -13,10 +14,14 @@ mod queues;
 mod readings;
 mod row;
 mod shard;
+mod spot;
 mod steps;
 mod taken;
+mod walking;
 
 pub use faults::{MakeFault, MergeFault, TakeFault};
 pub use row::{Row, RowRef};
 pub use shard::Shard;
+pub use spot::Spot;
 pub use taken::Taken;
+pub use walking::Piece;

@@ -55,7 +55,8 @@ impl Shard {
 
     /// Adds a member that does not stand, with its entry. The entry has an addition, and its
     /// additions keep the bounds. Where the shard has been made of rows, it is then that of these
-    /// rows and this one, if its place is above theirs. Where memory is refused nothing changes.
+    /// rows and this one, if its place is above theirs. Where memory is refused nothing changes. A
+    /// walk that has begun before is no good any more.
     pub fn push_row(
         &mut self,
         alloc: Global,

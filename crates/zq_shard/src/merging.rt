@@ -13,6 +13,8 @@ impl Shard {
     /// Takes all that the other has: its image becomes the join of the two, by which an addition
     /// that both have stands, and one that only one has stands where the other has not seen it.
     ///
+    /// Its members stand elsewhere then: a walk that has begun before is no good any more.
+    ///
     /// `WrongHeap` where the heap or the number of heaps is another, else `WrongRule` where the
     /// rule is, else `NoMemory` where the join found no memory; after each nothing has changed.
     ///

@@ -1,6 +1,6 @@
 //! The keys of a heap, each with its members.
 
-ghost use Rattle.std.specs.Prelude.{◌≡◌, ◌≢◌, ◌≤◌, ◌↔◌, ◌∷◌, [], IfNone, IfOk, IfSome, IsTrue, List, None, Some, ℕ, OnErr, OnOk, length, option_map, slice_get};
+ghost use Rattle.std.specs.Prelude.{◌≡◌, ◌≢◌, ◌≤◌, ◌↔◌, ◌∷◌, [], IfNone, IfOk, IfSome, IsTrue, List, None, Some, ℕ, OnErr, OnOk, length, option_map, slice_get, swap_remove};
 ghost use Rattle.std.specs.FinMap as map;
 ghost use Rattle.indexmap.specs.IndexMap.{keys};
 ghost use Rattle.zq_dots.specs.Rule.{rule_of};
@@ -10,9 +10,12 @@ ghost use Rattle.zq_model.specs.Score.{score_of};
 ghost use Rattle.zq_model.specs.Sets.{LAST};
 ghost use Rattle.zq_queue.specs.Effects.{HasRoom, entries_after};
 ghost use Rattle.zq_queue.specs.Entries.{bytes_cmp, entry_in, set_entry};
-ghost use Rattle.zq_queue.specs.Queued.{Queued};
+ghost use Rattle.zq_queue.specs.Queued.{Queued, without_places};
 ghost use Rattle.zq_queue.specs.Listed.{listed};
-ghost use Rattle.zq_shard.specs.Queues.{AreQueues, HasAt, and_then, entries_at, entries_in, members_after, or_none, unless_empty};
+ghost use Rattle.zq_queue.specs.Sinks.{AreListed};
+ghost use Rattle.zq_shard.specs.Queues.{AreQueues, HasAt, HasSame, entries_at, entries_in, members_after, or_none, unless_empty};
+ghost use Rattle.zq_shard.specs.Sinking.{IsAddedLast, IsSetAt};
+ghost use Rattle.zq_shard.specs.Walk.{Sinks};
 
 use crate::boxed_queue::BoxedQueue;
 use indexmap::IndexMap;
@@ -38,12 +41,17 @@ pub(crate) struct Queues {
 impl Model for Queues {
     ghost use Rattle.zq_dots.specs.Rule.{rule_of};
     ghost use Rattle.zq_shard.specs.Queues.{AreQueues, Keyed, keyed_code, members_in};
+    ghost use Rattle.zq_shard.specs.Standing.{order_of};
 
     ghost Value = { Keyed };
 
     ghost coded = { keyed_code };
 
-    ghost view = { λ q. record { rule = rule_of q.rule; members = members_in q.queues.entries } };
+    ghost view = { λ q. record {
+      rule = rule_of q.rule;
+      members = members_in q.queues.entries;
+      order = order_of q.queues.entries;
+    } };
 
     ghost invariant = { λ q. AreQueues (rule_of q.rule) q.queues.entries };
 }
@@ -137,6 +145,7 @@ impl Queues {
             (λ before. before ≡ map.get self.old.members (key.now, member.now)) }
         ensures taken { OnOk result
             (self.new.members ≡ members_after effect.now (key.now, member.now) self.old.members) }
+        ensures sinks { OnOk result (Sinks self.old self.new) }
         ensures refused { OnErr result (self.new ≡ self.old) }
     {
         take(
@@ -161,6 +170,7 @@ impl Queues {
         ensures rule { self.new.rule ≡ self.old.rule }
         ensures back { OnOk result
             (self.new.members ≡ put_entry self.old.members (key.now, member.now) (or_none before)) }
+        ensures sinks { OnOk result (Sinks self.old self.new) }
         ensures refused { OnErr result (self.new ≡ self.old) }
     {
         put_back(
@@ -174,7 +184,7 @@ impl Queues {
         )
     }
 
-    /// Equal queues.
+    /// Equal queues, whose keys and members stand alike.
     pub fn copy(&self, alloc: Global) -> Result<Queues, AllocError>
         ensures { IfOk result (λ copy. copy ≡ self.now) }
     {
@@ -188,9 +198,11 @@ impl Queues {
         })
     }
 
-    /// Whether it has the same rule, and the same members with the same entries.
+    /// Whether it has the same rule, and the same members with the same entries, wherever these
+    /// stand.
     pub fn same(&self, other: &Queues) -> bool
-        ensures { IsTrue result ↔ (self.now ≡ other.now) }
+        ensures { IsTrue result ↔ ((self.now.rule ≡ other.now.rule)
+            × (self.now.members ≡ other.now.members)) }
     {
         self.rule == other.rule && are_same(&self.queues, &other.queues)
     }
@@ -228,9 +240,8 @@ fn take(
     requires kept { AreQueues (rule_of rule) queues.old.entries }
     ensures before { IfOk result
         (λ before. before ≡ map.get (entries_in queues.old.entries key.now) member.now) }
-    ensures taken { OnOk result
-        (HasAt key.now (unless_empty
-        (record { rule = rule_of rule; entries = entries_after effect.now member.now (entries_in queues.old.entries key.now) }))
+    ensures taken { OnOk result (IsSetAt (rule_of rule) key.now
+        (entries_after effect.now member.now (entries_in queues.old.entries key.now))
         queues.old.entries queues.new.entries) }
     ensures refused { OnErr result (queues.new.entries ≡ queues.old.entries) }
 {
@@ -260,9 +271,8 @@ fn put_back(
     before: Option<Entry>,
 ) -> Result<(), AllocError>
     requires kept { AreQueues (rule_of rule) queues.old.entries }
-    ensures back { OnOk result
-        (HasAt key.now (unless_empty
-        (record { rule = rule_of rule; entries = set_entry (entries_in queues.old.entries key.now) member.now (or_none before) }))
+    ensures back { OnOk result (IsSetAt (rule_of rule) key.now
+        (set_entry (entries_in queues.old.entries key.now) member.now (or_none before))
         queues.old.entries queues.new.entries) }
     ensures refused { OnErr result (queues.new.entries ≡ queues.old.entries) }
 {
@@ -280,7 +290,7 @@ fn put_back(
     add(queues, alloc, key, queue)
 }
 
-/// Adds a key that is not there with its queue, unless that has no members.
+/// Adds a key that is not there behind all others with its queue, unless that has no members.
 pub(crate) fn add(
     queues: &mut IndexMap<Name, BoxedQueue, Seeded>,
     alloc: Global,
@@ -290,6 +300,9 @@ pub(crate) fn add(
     requires absent { map.find bytes_cmp key.now queues.old.entries ≡ None }
     ensures added { OnOk result
         (HasAt key.now (unless_empty queue) queues.old.entries queues.new.entries) }
+    ensures last { OnOk result
+        (IsAddedLast key.now (unless_empty queue) queues.old.entries queues.new.entries) }
+    ensures listed { AreListed queue }
     ensures refused { OnErr result (queues.new.entries ≡ queues.old.entries) }
 {
     if !queue.is_empty() {
@@ -300,12 +313,14 @@ pub(crate) fn add(
     Ok(())
 }
 
-/// Takes the key at an index out with its queue. Where three quarters of the table's room are free
-/// then, it gives half of the room back; where memory for the smaller table is refused, it stays as
-/// large.
+/// Takes the key at an index out with its queue, and the last key comes to its index. Where three
+/// quarters of the table's room are free then, it gives half of the room back; where memory for the
+/// smaller table is refused, it stays as large.
 fn remove_at(queues: &mut IndexMap<Name, BoxedQueue, Seeded>, index: usize)
-    ensures { (key : List ℕ) → slice_get (keys queues.old) index ≡ Some key →
+    ensures without { (key : List ℕ) → slice_get (keys queues.old) index ≡ Some key →
         HasAt key None queues.old.entries queues.new.entries }
+    ensures last { (pair : List ℕ × Queued) → slice_get queues.old.entries index ≡ Some pair →
+        queues.new.entries ≡ swap_remove queues.old.entries index pair }
 {
     let Some(pair) = queues.swap_remove_index(index) else {
         return;
@@ -317,15 +332,16 @@ fn remove_at(queues: &mut IndexMap<Name, BoxedQueue, Seeded>, index: usize)
     }
 }
 
-/// Adds copies of these queues where there are none.
+/// Adds copies of these queues, which have members, in their order where there are none.
 fn copy_into(
     queues: &mut IndexMap<Name, BoxedQueue, Seeded>,
     alloc: Global,
     source: &IndexMap<Name, BoxedQueue, Seeded>,
 ) -> Result<(), AllocError>
     requires empty { queues.old.entries ≡ [] }
-    ensures { OnOk result ((q : List ℕ) → map.find bytes_cmp q queues.new.entries
-        ≡ and_then unless_empty (map.find bytes_cmp q source.now.entries)) }
+    requires full { (key : List ℕ) (queue : Queued) →
+        map.find bytes_cmp key source.now.entries ≡ Some queue → queue.entries ≢ map.empty }
+    ensures { OnOk result (queues.new.entries ≡ source.now.entries) }
 {
     for (key, queue) in source {
         add(queues, alloc, key.as_slice(), queue.get().copy(alloc)?)?;
@@ -333,26 +349,26 @@ fn copy_into(
     Ok(())
 }
 
-/// Whether both have the same keys with the same queues.
+/// Whether both have the same keys with the same queues, wherever their members stand.
 fn are_same(
     queues: &IndexMap<Name, BoxedQueue, Seeded>,
     others: &IndexMap<Name, BoxedQueue, Seeded>,
 ) -> bool
     ensures { IsTrue result
-        ↔ ((q : List ℕ) → map.find bytes_cmp q queues.now.entries
-        ≡ map.find bytes_cmp q others.now.entries) }
+        ↔ ((q : List ℕ) → option_map without_places (map.find bytes_cmp q queues.now.entries)
+        ≡ option_map without_places (map.find bytes_cmp q others.now.entries)) }
 {
     are_within(queues, others) && are_within(others, queues)
 }
 
-/// Whether the others have each of these keys with the same queue.
+/// Whether the others have each of these keys with the same queue, wherever its members stand.
 fn are_within(
     queues: &IndexMap<Name, BoxedQueue, Seeded>,
     others: &IndexMap<Name, BoxedQueue, Seeded>,
 ) -> bool
     ensures { IsTrue result
         ↔ ((q : List ℕ) (queue : Queued) → map.find bytes_cmp q queues.now.entries ≡ Some queue →
-        map.find bytes_cmp q others.now.entries ≡ Some queue) }
+        HasSame others.now.entries q queue) }
 {
     for (key, queue) in queues {
         match others.get(key) {

@@ -49,6 +49,9 @@ impl Shard {
     /// Gives a member back what it had before an operation, and takes it out where that is nothing.
     /// The vector stays. It undoes an operation where [`Shard::set_vector`] sets the vector back
     /// too. Where memory is short nothing changes.
+    ///
+    /// A member that does not stand comes above all others, with additions that a walk may count as
+    /// old: a walk that has begun before is no good any more.
     pub fn put_back(
         &mut self,
         alloc: Global,

@@ -2,7 +2,7 @@ use Rattle.zq_queue.proofs.Built.{compare_begins, not_same, one_same}
 use Rattle.zq_queue.proofs.copies.is_within.Goals as goal
 
 pub loop-member-init : goal.loop-member-init
-loop-member-init c = compare_begins c.args.members.now.entries _ _ c.args.queue.now.entries c.iter-member-items.ensures c.into_iter-member-iterator.ensures.into_iter_gives
+loop-member-init c = compare_begins c.args.members.now.entries _ _ c.args.queue.now.entries c.iter-member-items.ensures.lists c.into_iter-member-iterator.ensures.into_iter_gives
 
 pub returns-then-not-stands : goal.returns-then-not-stands
 returns-then-not-stands c = (

@@ -6,7 +6,7 @@ use Rattle.zq_queue.proofs.merges.join_first.Goals as goal
 pub loop-member-init : goal.loop-member-init
 loop-member-init c = record {
   rule = refl;
-  built = first_begins c.args.members.now.entries c.args.mine.now c.args.theirs.now c.args.other.now.entries _ c.iter-member-items.ensures c.args.merged.now.entries c.requires.empty _
+  built = first_begins c.args.members.now.entries c.args.mine.now c.args.theirs.now c.args.other.now.entries _ c.iter-member-items.ensures.lists c.args.merged.now.entries c.requires.empty _
       c.into_iter-member-iterator.ensures.into_iter_gives;
 }
 

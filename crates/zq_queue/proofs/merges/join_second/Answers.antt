@@ -9,7 +9,7 @@ use Rattle.zq_queue.proofs.merges.join_second.Goals as goal
 pub loop-member-init : goal.loop-member-init
 loop-member-init c = record {
   rule = refl;
-  built = second_begins c.args.members.now.entries c.args.mine.now c.args.theirs.now c.args.first.now.entries _ c.iter-member-items.ensures c.args.merged.now.entries c.requires.joined _
+  built = second_begins c.args.members.now.entries c.args.mine.now c.args.theirs.now c.args.first.now.entries _ c.iter-member-items.ensures.lists c.args.merged.now.entries c.requires.joined _
       c.into_iter-member-iterator.ensures.into_iter_gives;
 }
 

@@ -4,7 +4,7 @@ use Rattle.zq_queue.proofs.rows.in_any_order.Goals as goal
 
 pub loop-member-init : goal.loop-member-init
 loop-member-init c =
-    rw (c.in_ok-rows.ensures.items, c.into_iter-member-iterator.ensures.into_iter_gives) c.iter-member-items.ensures
+    rw (c.in_ok-rows.ensures.items, c.into_iter-member-iterator.ensures.into_iter_gives) c.iter-member-items.ensures.lists
 
 pub loop-member-preserved : goal.loop-member-preserved
 loop-member-preserved c =

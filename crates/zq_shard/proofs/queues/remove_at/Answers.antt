@@ -19,9 +19,9 @@ without c key there =
     subst (λ k. HasAt k None old.entries c.swap_remove_index.new.self.entries) (key_is old c.args.index key pair.0 pair.1 there at)
     (updated pair.0 None old.entries c.swap_remove_index.new.self.entries c.in-Some.ensures.updates.1 c.in-Some.ensures.updates.3)
 
-pub returns-then-len-room : goal.returns-then-len-room
-returns-then-len-room c = λ key there q.
-    ap (find bytes_cmp q) c.shrink_to.ensures.entries ∙ without (goal.at.returns-then-len-room c).After-drop key there q
+pub returns-then-len-room-clause-without : goal.returns-then-len-room-clause-without
+returns-then-len-room-clause-without c = λ key there q.
+    ap (find bytes_cmp q) c.shrink_to.ensures.entries ∙ without (goal.at.returns-then-len-room-clause-without c).After-drop key there q
 
-pub returns-else-room-gt-SMALL : goal.returns-else-room-gt-SMALL
-returns-else-room-gt-SMALL c = without (goal.at.returns-else-room-gt-SMALL c).After-drop
+pub returns-else-room-gt-SMALL-clause-without : goal.returns-else-room-gt-SMALL-clause-without
+returns-else-room-gt-SMALL-clause-without c = without (goal.at.returns-else-room-gt-SMALL-clause-without c).After-drop

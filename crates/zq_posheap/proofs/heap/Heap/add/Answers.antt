@@ -4,7 +4,7 @@ use Rattle.std.proofs.lemmas.List.{length-map, map-append}
 use Rattle.std.specs.FinMap.{insert}
 use mir.Val.{of_z, to_z}
 use Rattle.std.specs.Int.{w128, w64}
-use Rattle.std.specs.Prelude.{[], ◌∷◌}
+use Rattle.std.specs.Prelude.{[], map, ◌∷◌}
 use Rattle.indexmap.proofs.CallerLemmas.{insert_entry-new}
 use Rattle.zq_posheap.proofs.Entries.{inserted, no_entry}
 use Rattle.zq_posheap.proofs.Linked.{added}
@@ -16,6 +16,7 @@ use Rattle.zq_posheap.proofs.Told.{held, known_within, one_more_seen}
 use Rattle.zq_posheap.specs.Moves.{nears_in, pairs_in, pairs_of, shown}
 use Rattle.zq_posheap.specs.Order.{Scored, near, same_key}
 use Rattle.zq_posheap.specs.Whole.{entries_map}
+use Rattle.indexmap.specs.IndexMap.{keys}
 use Rattle.zq_posheap.proofs.heap.Heap.add.Goals as goal
 
 pub push_reserved-requires : goal.push_reserved-requires
@@ -66,3 +67,11 @@ returns-clause-less_room g c = omega (
   c.args.self.now.slots.ok.0,
   c.args.self.now.positions.ok.0,
 )
+
+pub returns-clause-places : goal.returns-clause-places
+returns-clause-places g c =
+    let heap = c.args.self.now in
+    let score = to_z w128 (of_z w128 c.args.score) in
+    let more = when_ok c.insert.result (c.insert.ensures.succeeds (omega (arith, c.requires.room))) c.insert.ensures.entries
+    ∙ insert_entry-new same_key heap.members c.args.member (held score c.args.value) (no_entry shown heap.members.entries c.args.member c.requires.absent) in
+    ap keys c.settle.ensures.moves.kept.members ∙ ap (map (λ e. e.0)) more ∙ map-append (λ e. e.0) heap.members.entries ((c.args.member, held score c.args.value) ∷ [])

@@ -1,7 +1,7 @@
 use Rattle.std.proofs.Common.{arith, ap, sym, ◌∙◌}
 use Rattle.std.proofs.lemmas.List.{length-map}
 use Rattle.std.proofs.lemmas.Option.{same_Some, slice_get_within}
-use Rattle.std.specs.Prelude.{[], get_or, length, take, ◌-◌, ◌<◌, ◌≤◌, ◌≡◌}
+use Rattle.std.specs.Prelude.{[], get_or, length, swap_remove, take, ◌-◌, ◌<◌, ◌≤◌, ◌≡◌}
 use Rattle.std.specs.FinMap.{get, remove}
 use Rattle.indexmap.specs.IndexMap.{keys}
 use Rattle.zq_posheap.proofs.DropLast.{at_its_place, at_the_end, moved_there, not_none, removed_last, still_linked, still_queued}
@@ -13,6 +13,7 @@ use Rattle.zq_posheap.specs.Moves.{nears_in}
 use Rattle.zq_posheap.specs.Whole.{entries_map}
 use Rattle.zq_posheap.specs.declared.heap.Slot.{Slot}
 use Rattle.zq_posheap.proofs.heap.Heap.drop_last.Given.{Over}
+use Rattle.zq_posheap.proofs.Removal.{keys-gone}
 use Rattle.zq_posheap.proofs.heap.Heap.drop_last.Goals as goal
 use Rattle.zq_posheap.proofs.heap.Heap.drop_last.Goals.{After-from_residual-in_err-held, else-index-last, then-index-last}
 
@@ -133,3 +134,15 @@ returns-clause-held g c = λ t is.
     let removed = removed_last heap.members gone.new.self s (known_within heap s (c.requires.linked.near _ s last)) gone.result gone.ensures.entry gone.ensures.updates in
     let removed' = removed ∙ (λ k. remove (entries_map heap) (get_or (keys heap.members) (sym same k).index [])) in
     elim c.if-index-last.branch [ then-index-last w ↦ rw w.self-is removed' | else-index-last w ↦ rw w.self-is removed' ]
+
+pub returns-clause-places : goal.returns-clause-places
+returns-clause-places g c = λ t is.
+    let heap = c.args.self.now in
+    let slots = heap.slots.items in
+    let s = c.in_ok-index.field-0 in
+    let last = last_is slots _ c.pop.result s c.requires.occupied heap.slots.ok.0 c.pop.ensures.value c.in_ok-index.was in
+    let same : t ≡ s = same_Some _ _ (sym is ∙ last) in
+    let gone = c.swap_remove_index in
+    let left = keys-gone heap.members.entries gone.new.self.entries s.index gone.result (known_within heap s (c.requires.linked.near _ s last)) gone.ensures.entry gone.ensures.entries
+    ∙ (λ k. swap_remove (keys heap.members) (sym same k).index []) in
+    elim c.if-index-last.branch [ then-index-last w ↦ rw w.self-is left | else-index-last w ↦ rw w.self-is left ]

@@ -1,6 +1,6 @@
 use Rattle.std.proofs.Common.{ap, arith, sym, ◌∙◌}
 use Rattle.std.specs.FinMap.{get, remove}
-use Rattle.std.specs.Prelude.{[], get_or, option_map, slice_get, ◌-◌}
+use Rattle.std.specs.Prelude.{[], get_or, option_map, slice_get, swap_remove, ◌-◌}
 use Rattle.indexmap.specs.IndexMap.{keys}
 use Rattle.zq_posheap.proofs.Linked.{place_within, slot_at}
 use Rattle.zq_posheap.proofs.Lists.{read_at}
@@ -50,3 +50,12 @@ returns-clause-held g c =
     let last = ap (λ n. slice_get c.move_last.new.self.slots.items (n - 1)) moved.len ∙ c.move_last.ensures.last ∙ s.1 in
     same_entries _ c.settle.new.self c.settle.ensures.moves.kept ∙ c.drop_last.ensures.held s.0 last
     ∙ (λ k. remove (same_entries old c.move_last.new.self moved k) (get_or (keys (moved.members k)) (s.2 k) []))
+
+pub returns-clause-places : goal.returns-clause-places
+returns-clause-places g c =
+    let old = c.args.self.now in
+    let moved = c.move_last.ensures.moves.kept in
+    let here = read_at old.positions.items c.args.index _ (index_placed old c.requires.whole.linked c.args.index c.requires.within) c.index-position.ensures in
+    let s = slot_at old.slots.items old.positions.items (nears_in old) c.requires.whole.linked c.args.index _ here in
+    let last = ap (λ n. slice_get c.move_last.new.self.slots.items (n - 1)) moved.len ∙ c.move_last.ensures.last ∙ s.1 in
+    ap keys c.settle.ensures.moves.kept.members ∙ c.drop_last.ensures.places s.0 last ∙ (λ k. swap_remove (keys (moved.members k)) (s.2 k) [])

@@ -1,5 +1,6 @@
-use Rattle.std.proofs.Common.{ap, arith, subst}
+use Rattle.std.proofs.Common.{ap, arith, subst, ◌∙◌}
 use Rattle.std.proofs.lemmas.List.{length-map}
+use Rattle.std.proofs.lemmas.Simd.{map-map}
 use Rattle.std.specs.Prelude.{length, map}
 use Rattle.zq_posheap.proofs.Entries.{seen_in}
 use Rattle.zq_posheap.proofs.Listed.{listed}
@@ -24,3 +25,8 @@ returns-clause-fits g c = omega (arith, ap length c.new.ensures, length-map c.it
 
 pub returns-clause-in_range : goal.returns-clause-in_range
 returns-clause-in_range g c = subst (λ m. AreInRange m.held) c.self.view_is c.self.invariant.1
+
+pub returns-clause-places : goal.returns-clause-places
+returns-clause-places g c =
+    let es = c.self.inside.heap.members.entries in
+    ap (map (λ row. row.1)) (c.new.ensures ∙ ap (map entry_row) c.iter.ensures.rest) ∙ map-map (λ row. row.1) entry_row es ∙ ap (λ m. m.places) c.self.view_is

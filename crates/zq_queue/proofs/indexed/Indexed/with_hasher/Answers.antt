@@ -5,4 +5,4 @@ use Rattle.zq_posheap.specs.Members.{AreInRange}
 use Rattle.zq_queue.proofs.indexed.Indexed.with_hasher.Goals as goal
 
 pub invariant_of-result : goal.invariant_of-result
-invariant_of-result c = (tt, subst AreInRange (sym c.with_hasher.ensures) (range-empty {V = Entry}))
+invariant_of-result c = (tt, subst AreInRange (sym c.with_hasher.ensures.held) (range-empty {V = Entry}))

@@ -7,6 +7,7 @@ use Rattle.zq_model.specs.Image.{Entry}
 use Rattle.zq_queue.proofs.Changing.{handed_on, set_some}
 use Rattle.zq_queue.proofs.Eithers.{few_exchange, few_got, many_added_scored, many_added_set, many_entries, many_scored}
 use Rattle.zq_queue.proofs.Helds.{get-entries_of}
+use Rattle.zq_queue.proofs.Placed.{names_set, not_bare}
 use Rattle.zq_queue.proofs.Scans.{as_many_names}
 use Rattle.zq_queue.specs.Entries.{set_entry}
 use Rattle.zq_queue.specs.Few.{names_in}
@@ -79,3 +80,18 @@ returns-clause-set c =
           ∙ ap (λ e. set_entry e m c.args.entry) (many_entries rule c.self.inside.form w.in-Many.many x w.in-Many.is w.deref_mut.ensures.value c.self.invariant)
           ∙ ap (λ k. set_entry k.entries m c.args.entry) c.self.view_is
     ]
+
+pub returns-clause-places : goal.returns-clause-places
+returns-clause-places c =
+    not_bare c.args.entry _ c.args.self.now.places _ (sym c.in-Some.ensures.none)
+    (elim c.match-self.branch [
+      | in-Few w ↦
+          let list = w.in-Few.list in
+          let i = w.few.result in
+          let places : c.args.self.now.places ≡ names_in list.items = ap (λ k. k.places) (sym c.self.view_is) ∙ ap places_in w.in-Few.is in
+          let within : i < length list.items = omega (arith, w.few.ensures, c.requires.within.within, ap length places, as_many_names list.items) in
+          ap (λ s. places_in s.form) w.self-inside-is ∙ names_set list.items i w.index_mut.result.now _ within w.index_mut.ensures.value ∙ sym places
+      | in-Many w ↦
+          ap (λ s. places_in s.form) w.self-inside-is ∙ w.replace_at.ensures.places ∙ ap (λ y. y.places) w.deref_mut.ensures.value ∙ sym (ap places_in w.in-Many.is)
+          ∙ ap (λ k. k.places) c.self.view_is
+    ])

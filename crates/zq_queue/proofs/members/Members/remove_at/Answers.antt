@@ -1,14 +1,17 @@
 use Rattle.std.proofs.Common.{ap, arith, refl, rules, subst, sym, ◌∙◌, ◌≡◌, ◌≤◌}
 use Rattle.std.specs.FinMap.{get, remove}
-use Rattle.std.specs.Prelude.{Some, length, slice_get, ◌<◌}
+use Rattle.std.specs.List.{swap_remove}
+use Rattle.std.specs.Prelude.{Some, [], length, slice_get, ◌<◌}
 use Rattle.std.specs.Vec.{vec_len}
 use Rattle.zq_dots.specs.Rule.{rule_of}
+use Rattle.zq_posheap.proofs.Removal.{map-swap_remove}
 use Rattle.zq_queue.proofs.Eithers.{few_got, few_removal, many_entries, many_scored}
 use Rattle.zq_queue.proofs.Helds.{entries_of-remove, get-entries_of, scored-remove}
 use Rattle.zq_queue.proofs.Scans.{as_many_names}
 use Rattle.zq_queue.specs.Few.{AreFew, entries_by, names_in}
 use Rattle.zq_queue.specs.Form.{entries_in, places_in}
 use Rattle.zq_queue.specs.Queued.{AreScored, entries_of}
+use Rattle.zq_queue.specs.declared.few.Member.{Member}
 use Rattle.zq_queue.proofs.members.Members.remove_at.Goals.{After-swap_remove, in-Long-1, in-Short-1}
 use Rattle.zq_queue.proofs.members.Members.remove_at.Goals as goal
 
@@ -42,7 +45,7 @@ pub invariant_of-self-in-Many : goal.invariant_of-self-in-Many
 invariant_of-self-in-Many c =
     let x = c.deref_mut.result.now in
     let rule = rule_of c.self.inside.rule in
-    subst (AreScored rule) (sym (c.shrink.ensures ∙ ap (λ y. y.held) c.deref_mut-in-Many.ensures.value ∙ c.remove_at-entry.ensures.held))
+    subst (AreScored rule) (sym (c.shrink.ensures.held ∙ ap (λ y. y.held) c.deref_mut-in-Many.ensures.value ∙ c.remove_at-entry.ensures.held))
     (scored-remove rule x.held c.args.member.now (many_scored rule c.self.inside.form c.in-Many.many x c.in-Many.is c.deref_mut.ensures.value c.self.invariant))
 
 pub returns-in-Few-clause-before : goal.returns-in-Few-clause-before
@@ -73,6 +76,18 @@ pub returns-in-Many-clause-rest : goal.returns-in-Many-clause-rest
 returns-in-Many-clause-rest c =
     let m = c.args.member.now in
     let x = c.deref_mut.result.now in
-    c.settle.ensures.entries ∙ ap entries_of (c.shrink.ensures ∙ ap (λ y. y.held) c.deref_mut-in-Many.ensures.value ∙ c.remove_at-entry.ensures.held) ∙ entries_of-remove x.held m
+    c.settle.ensures.entries ∙ ap entries_of (c.shrink.ensures.held ∙ ap (λ y. y.held) c.deref_mut-in-Many.ensures.value ∙ c.remove_at-entry.ensures.held) ∙ entries_of-remove x.held m
     ∙ ap (λ e. remove e m) (many_entries (rule_of c.self.inside.rule) c.self.inside.form c.in-Many.many x c.in-Many.is c.deref_mut.ensures.value c.self.invariant)
     ∙ ap (λ k. remove k.entries m) c.self.view_is
+
+pub returns-in-Few-clause-places : goal.returns-in-Few-clause-places
+returns-in-Few-clause-places c =
+    let d = (goal.at.returns-in-Few-clause-places c).After-swap_remove in
+    let list = c.in-Few.list.items in
+    let places : c.args.self.now.places ≡ names_in list = ap (λ k. k.places) (sym c.self.view_is) ∙ ap places_in c.in-Few.is in
+    let rest = ap names_in c.swap_remove.ensures.items ∙ map-swap_remove (λ (m : Member). m.name) list c.few.result c.swap_remove.result [] (within d)
+    ∙ (λ k. swap_remove (sym places k) (c.few.ensures k) []) in
+    elim c.match-swap_remove.branch [
+      | in-Long-1 w ↦ ap (λ k. k.places) w.self-is ∙ rest
+      | in-Short-1 w ↦ ap (λ k. k.places) w.self-is ∙ rest
+    ]

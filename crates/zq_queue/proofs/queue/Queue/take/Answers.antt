@@ -4,7 +4,11 @@ use Rattle.std.specs.Prelude.{unwrap_or}
 use Rattle.zq_model.specs.Image.{no_additions}
 use Rattle.zq_posheap.proofs.Entries.{none_of}
 use Rattle.zq_queue.specs.Effects.{HasRoom, affected}
+use Rattle.zq_queue.proofs.Seen.{seen}
+use Rattle.zq_queue.proofs.Sinking.{added_or_not, exchanged}
 use Rattle.zq_queue.specs.Entries.{entry_in, set_entry}
+use Rattle.zq_queue.specs.Place.{index_of}
+use Rattle.zq_queue.specs.Sinks.{Sinks}
 use Rattle.zq_queue.proofs.queue.Queue.take.Goals as goal
 
 pub changed-requires-clause-room : goal.changed-requires-clause-room
@@ -47,3 +51,12 @@ returns-in_ok-add-in-None-clause-taken c =
 pub returns-in_ok-add-in-None-clause-before : goal.returns-in_ok-add-in-None-clause-before
 returns-in_ok-add-in-None-clause-before c =
     sym (ap (λ q. get q.entries c.args.member.now) (sym c.self.view_is) ∙ none_of (get c.self.inside.members.entries c.args.member.now) c.in-None.ensures.there)
+
+pub returns-in_ok-entry-in-Some-clause-sinks : goal.returns-in_ok-entry-in-Some-clause-sinks
+returns-in_ok-entry-in-Some-clause-sinks c =
+    subst (λ q. Sinks q (seen c.exchange.new.self)) c.self.view_is
+    (exchanged (seen c.self.inside.members) (seen c.exchange.new.self) (index_of c.in-Some.place) c.args.member.now c.in_ok-entry-in-Some.entry c.in-Some.ensures.place c.exchange.ensures.places c.exchange.ensures.set)
+
+pub returns-in_ok-add-in-None-clause-sinks : goal.returns-in_ok-add-in-None-clause-sinks
+returns-in_ok-add-in-None-clause-sinks c =
+    added_or_not c.args.self.now c.add.new.self c.args.member.now c.in_ok-entry-in-None.entry c.in_ok-add-in-None.ensures.places

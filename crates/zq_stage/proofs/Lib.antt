@@ -1,0 +1,5 @@
+pub mod Newer
+pub mod Replaced
+pub mod RowsOf
+pub mod Stages
+pub mod Streams

@@ -1,0 +1,5 @@
+pub mod Rows
+pub mod Staged
+pub mod Piece
+pub mod StageView
+pub mod Stream
