@@ -1,7 +1,9 @@
-//! Tests of frames: their parts, operations, states, the frames of links, control frames, and links
-//! that fail.
+//! Tests of frames: their parts, operations, operations by differences, states, the frames of links,
+//! control frames, pieces of heaps, and links that fail.
 #![tactic(auto)]
 
+#[cfg(test)]
+mod batch;
 #[cfg(test)]
 mod controls;
 #[cfg(test)]
@@ -16,3 +18,5 @@ mod links;
 mod merge;
 #[cfg(test)]
 mod parts;
+#[cfg(test)]
+mod pieces;

@@ -1,6 +1,6 @@
 //! Frames of an independent codec, beginnings and changed bytes.
 
-mod vectors;
+pub mod vectors;
 
 use crate::hex::bytes_of;
 use std::alloc::{AllocError, Global};

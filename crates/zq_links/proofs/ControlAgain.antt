@@ -2,21 +2,24 @@
 
 use Rattle.std.proofs.Common.{ap, append_assoc, append-nil, arith, length, List, None, Ok, refl, sym, [], ℕ, ◌++◌, ◌∙◌, ◌∷◌, ◌≡◌}
 use Rattle.std.specs.Int.{to_be_bytes, w64}
-use Rattle.std.specs.Prelude.{Bool, Result, false, true}
-use Rattle.zq_fields.proofs.Again.{u64_read}
+use Rattle.std.specs.Prelude.{Bool, IfSome, Option, Result, Some, false, true}
 use Rattle.zq_fields.proofs.Counters.{limits}
 use Rattle.zq_fields.proofs.Entries.{sparse_again}
 use Rattle.zq_fields.proofs.PartsAgain.{byte_in_again, heap_read, rule_read}
 use Rattle.zq_fields.specs.Reading.{byte_in, heap_at, rule_at, sparse_at}
 use Rattle.zq_fields.specs.Spelling.{rule_byte, sparse}
-use Rattle.zq_links.specs.Control.{At, Control, IsAt, IsBehind, IsControl, IsHeapOf, IsNumber, IsRoutes, OfAt, OfBehind, OfFetch, OfRoutes}
+use Rattle.zq_links.proofs.StepsAgain.{step_again, u64_again}
+use Rattle.zq_links.specs.Control.{At, Control, IsAt, IsBehind, IsControl, IsFetch, IsResume, IsRoutes, OfAt, OfBehind, OfFetch, OfRoutes}
 use Rattle.zq_links.specs.ControlKind.{kind_byte}
-use Rattle.zq_links.specs.ControlParts.{at_at, behind_at, body_at, fetch_at, number_at, open_at, routes_at, three_at}
+use Rattle.zq_links.specs.ControlParts.{at_at, behind_at, body_at, fetch_at, form_at, open_at, resume_at, resume_of, routes_at, three_at}
 use Rattle.zq_links.specs.ControlReading.{control_at, kind_at, rest_at}
-use Rattle.zq_links.specs.ControlSpelling.{at_bytes, behind_bytes, control_spelling, fetch_bytes, open_byte, routes_bytes, three_bytes}
+use Rattle.zq_links.specs.ControlSpelling.{at_bytes, behind_bytes, control_spelling, fetch_bytes, form_bytes, open_byte, resume_bytes, routes_bytes, three_bytes}
+use Rattle.zq_links.specs.Numbers.{IsNumber, u64_at}
 use Rattle.zq_links.specs.Reading.{of_part, ◌>>=◌}
+use Rattle.zq_links.specs.Steps.{step_at, step_bytes}
 use Rattle.zq_links.specs.declared.control.Behind.{Behind}
 use Rattle.zq_links.specs.declared.control.Fetch.{Fetch}
+use Rattle.zq_links.specs.declared.control.Resume.{Resume}
 use Rattle.zq_links.specs.declared.control.Routes.{Routes}
 use Rattle.zq_links.specs.declared.control.kind.ControlKind.{ControlKind}
 use Rattle.zq_links.specs.declared.control.kind.ControlKind.TheVariants as kind
@@ -24,12 +27,8 @@ use Rattle.zq_links.specs.declared.frame_fault.FrameFault.{FrameFault}
 
 -- ---- fields
 
-number_again : (n : ℕ) (rest : List ℕ) → IsNumber n →
-    number_at (to_be_bytes w64 n ++ rest) ≡ Ok (n, rest)
-number_again n rest fits = rw (u64_read n rest fits) refl
-
-three_of : (a b c : ℕ) (b0 b1 b2 b3 : List ℕ) → number_at b0 ≡ Ok (a, b1) →
-    number_at b1 ≡ Ok (b, b2) → number_at b2 ≡ Ok (c, b3) → three_at b0 ≡ Ok ((a, b, c), b3)
+three_of : (a b c : ℕ) (b0 b1 b2 b3 : List ℕ) → u64_at b0 ≡ Ok (a, b1) →
+    u64_at b1 ≡ Ok (b, b2) → u64_at b2 ≡ Ok (c, b3) → three_at b0 ≡ Ok ((a, b, c), b3)
 unfolding three_at
 three_of a b c b0 b1 b2 b3 first second third = rw (first, second, third) refl
 
@@ -42,8 +41,8 @@ three_again a b c rest fits_a fits_b fits_c =
     let z = to_be_bytes w64 c in
     ap three_at (append_assoc x (y ++ z) rest ∙ ap (λ bytes. x ++ bytes) (append_assoc y z rest))
     ∙ three_of a b c (x ++ (y ++ (z ++ rest))) (y ++ (z ++ rest)) (z ++ rest) rest
-    (number_again a (y ++ (z ++ rest)) fits_a) (number_again b (z ++ rest) fits_b)
-    (number_again c rest fits_c)
+    (u64_again a (y ++ (z ++ rest)) fits_a) (u64_again b (z ++ rest) fits_b)
+    (u64_again c rest fits_c)
 
 routes_of : (r : Routes) (b0 b1 : List ℕ) → three_at b0 ≡ Ok ((r.reach, r.ask, r.far), b1) →
     routes_at b0 ≡ Ok (r, b1)
@@ -115,20 +114,60 @@ behind_again whole b rest sound =
     in
     behind_from whole b (b.heaps ∷ (b.heap ∷ b1)) b1 rest heap vector
 
+resume_from : (whole : ℕ) (r : Resume) (b0 b1 b2 : List ℕ) →
+    step_at b0 ≡ Ok ((r.life, r.number, r.next), b1) → sparse_at whole None b1 ≡ Ok (r.vector, b2) →
+    resume_at whole b0 ≡ Ok (r, b2)
+unfolding resume_at
+resume_from whole r b0 b1 b2 step vector = rw (step, vector) refl
+
+resume_again : (whole : ℕ) (r : Resume) (rest : List ℕ) → IsResume r →
+    resume_at whole (resume_bytes r ++ rest) ≡ Ok (r, rest)
+unfolding resume_bytes
+resume_again whole r rest sound =
+    let step = step_bytes r.life r.number r.next in
+    let b1 = sparse r.vector ++ rest in
+    let vector = sparse_again whole None r.vector rest sound.vector (limits r.vector sound.vector)
+    in
+    ap (resume_at whole) (append_assoc step (sparse r.vector) rest)
+    ∙ resume_from whole r (step ++ b1) b1 rest (step_again r.life r.number r.next b1 sound.step)
+    vector
+
+form_from : (whole form : ℕ) (resume : Option Resume) (b0 b1 b2 : List ℕ) →
+    byte_in whole 0 2 b0 ≡ Ok (form, b1) → resume_of whole form b1 ≡ Ok (resume, b2) →
+    form_at whole b0 ≡ Ok (resume, b2)
+unfolding form_at
+form_from whole form resume b0 b1 b2 byte rest = rw byte rest
+
+some_resume : (whole : ℕ) (r : Resume) (b0 b1 : List ℕ) → resume_at whole b0 ≡ Ok (r, b1) →
+    resume_of whole 1 b0 ≡ Ok (Some r, b1)
+some_resume whole r b0 b1 e = rw e refl
+
+form_again : (whole : ℕ) (resume : Option Resume) (rest : List ℕ) → IfSome resume IsResume →
+    form_at whole (form_bytes resume ++ rest) ≡ Ok (resume, rest)
+form_again whole None rest sound =
+    form_from whole 0 None (0 ∷ rest) rest rest
+    (byte_in_again whole 0 2 0 rest (omega arith) (omega arith)) refl
+form_again whole (Some r) rest sound =
+    let b1 = resume_bytes r ++ rest in
+    form_from whole 1 (Some r) (1 ∷ b1) b1 rest
+    (byte_in_again whole 0 2 1 b1 (omega arith) (omega arith))
+    (some_resume whole r b1 rest (resume_again whole r rest sound))
+
 fetch_from : (whole : ℕ) (f : Fetch) (b0 b1 b2 : List ℕ) →
     heap_at whole b0 ≡ Ok (record { heap = f.heap; heaps = f.heaps }, b1) →
-    byte_in whole 0 1 b1 ≡ Ok (0, b2) → fetch_at whole b0 ≡ Ok (f, b2)
+    form_at whole b1 ≡ Ok (f.resume, b2) → fetch_at whole b0 ≡ Ok (f, b2)
 unfolding fetch_at
 fetch_from whole f b0 b1 b2 heap form = rw (heap, form) refl
 
-fetch_again : (whole : ℕ) (f : Fetch) (rest : List ℕ) → IsHeapOf f.heaps f.heap →
+fetch_again : (whole : ℕ) (f : Fetch) (rest : List ℕ) → IsFetch f →
     fetch_at whole (fetch_bytes f ++ rest) ≡ Ok (f, rest)
 unfolding fetch_bytes
 fetch_again whole f rest sound =
-    let b1 = 0 ∷ rest in
-    let heap = heap_read whole (record { heap = f.heap; heaps = f.heaps }) b1 sound.0 sound.1 in
-    let form = byte_in_again whole 0 1 0 rest (omega arith) (omega arith) in
-    fetch_from whole f (f.heaps ∷ (f.heap ∷ b1)) b1 rest heap form
+    let b1 = form_bytes f.resume ++ rest in
+    let heap = heap_read whole (record { heap = f.heap; heaps = f.heaps }) b1 sound.heap.0
+    sound.heap.1 in
+    fetch_from whole f (f.heaps ∷ (f.heap ∷ b1)) b1 rest heap
+    (form_again whole f.resume rest sound.resume)
 
 -- ---- control frames
 
@@ -165,7 +204,7 @@ behind_read b sound =
     λ whole rest. behind_body whole b (behind_bytes b ++ rest) rest
     (behind_again whole b rest sound)
 
-fetch_read : (f : Fetch) → IsHeapOf f.heaps f.heap → IsRead kind.Fetch (OfFetch f) (fetch_bytes f)
+fetch_read : (f : Fetch) → IsFetch f → IsRead kind.Fetch (OfFetch f) (fetch_bytes f)
 fetch_read f sound =
     λ whole rest. fetch_body whole f (fetch_bytes f ++ rest) rest (fetch_again whole f rest sound)
 

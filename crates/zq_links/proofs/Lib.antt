@@ -6,4 +6,7 @@ mod Repeated
 mod Taken
 mod Same
 mod Topics
+mod StepsAgain
 mod ControlAgain
+mod PiecesAgain
+pub mod Batches

@@ -1,12 +1,15 @@
 -- Control frames, apart from how they are spelled.
 
-use Rattle.std.specs.Prelude.{Bool, List, ℕ, ◌<◌, ◌^◌}
+use Rattle.std.specs.Prelude.{Bool, IfSome, List, ℕ, ◌<◌}
 use Rattle.zq_dots.specs.Rule.{rule_of}
 use Rattle.zq_links.specs.declared.control.At as at
+use Rattle.zq_links.specs.Numbers.{IsNumber}
+use Rattle.zq_links.specs.Steps.{IsStep}
 use Rattle.zq_links.specs.declared.control.Behind.{Behind}
 use Rattle.zq_links.specs.declared.control.Control as code
 use Rattle.zq_links.specs.declared.control.Control.TheVariants as variant
 use Rattle.zq_links.specs.declared.control.Fetch.{Fetch}
+use Rattle.zq_links.specs.declared.control.Resume.{Resume}
 use Rattle.zq_links.specs.declared.control.Routes.{Routes}
 use Rattle.zq_model.specs.Rule.{Rule}
 use Rattle.zq_model.specs.Sets.{IsCounters, IsHeaps}
@@ -35,10 +38,6 @@ pub data Control : Type 0 where
 abbrev pub IsHeapOf : ℕ → ℕ → Type 0
 IsHeapOf heaps heap = IsHeaps heaps × (heap < heaps)
 
--- eight bytes hold the number
-abbrev pub IsNumber : ℕ → Type 0
-IsNumber n = n < 2 ^ 64
-
 pub record IsRoutes (r : Routes) : Type 0 where
   pub reach : IsNumber r.reach
   pub ask : IsNumber r.ask
@@ -56,12 +55,20 @@ pub record IsBehind (b : Behind) : Type 0 where
   pub heap : IsHeapOf b.heaps b.heap
   pub vector : IsCounters b.vector
 
+pub record IsResume (r : Resume) : Type 0 where
+  pub step : IsStep r.life r.number r.next
+  pub vector : IsCounters r.vector
+
+pub record IsFetch (f : Fetch) : Type 0 where
+  pub heap : IsHeapOf f.heaps f.heap
+  pub resume : IfSome f.resume IsResume
+
 -- its numbers are in range
 abbrev pub IsControl : Control → Type 0
 IsControl (OfRoutes r) = IsRoutes r
 IsControl (OfAt a) = IsAt a
 IsControl (OfBehind b) = IsBehind b
-IsControl (OfFetch f) = IsHeapOf f.heaps f.heap
+IsControl (OfFetch f) = IsFetch f
 
 -- ---- the code's
 
@@ -90,3 +97,4 @@ IsWritable (variant.Routes r) = Unit {0}
 IsWritable (variant.At a) = IsHeapOf a.heaps a.heap × IsCounters a.vector
 IsWritable (variant.Behind b) = IsHeapOf b.heaps b.heap × IsCounters b.vector
 IsWritable (variant.Fetch f) = IsHeapOf f.heaps f.heap
+    × IfSome f.resume (λ r. IsCounters r.vector)

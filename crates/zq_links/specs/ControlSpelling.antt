@@ -1,12 +1,14 @@
 -- The one spelling of each control frame.
 
 use Rattle.std.specs.Int.{to_be_bytes, w64}
-use Rattle.std.specs.Prelude.{Bool, List, false, true, [], ℕ, ◌++◌, ◌∷◌}
+use Rattle.std.specs.Prelude.{Bool, List, None, Option, Some, false, true, [], ℕ, ◌++◌, ◌∷◌}
 use Rattle.zq_fields.specs.Spelling.{rule_byte, sparse}
 use Rattle.zq_links.specs.Control.{At, Control, OfAt, OfBehind, OfFetch, OfRoutes}
 use Rattle.zq_links.specs.ControlKind.{kind_byte}
+use Rattle.zq_links.specs.Steps.{step_bytes}
 use Rattle.zq_links.specs.declared.control.Behind.{Behind}
 use Rattle.zq_links.specs.declared.control.Fetch.{Fetch}
+use Rattle.zq_links.specs.declared.control.Resume.{Resume}
 use Rattle.zq_links.specs.declared.control.Routes.{Routes}
 use Rattle.zq_links.specs.declared.control.kind.ControlKind.TheVariants as kind
 
@@ -33,9 +35,18 @@ at_bytes a =
 unfoldable pub behind_bytes : Behind → List ℕ
 behind_bytes b = b.heaps ∷ b.heap ∷ sparse b.vector
 
--- the number of heaps, the heap and the form, of which there is one
+-- where the stream stands, and the vector
+unfoldable pub resume_bytes : Resume → List ℕ
+resume_bytes r = step_bytes r.life r.number r.next ++ sparse r.vector
+
+-- the form: 0, or 1 and what a stage stands at
+abbrev pub form_bytes : Option Resume → List ℕ
+form_bytes None = 0 ∷ []
+form_bytes (Some r) = 1 ∷ resume_bytes r
+
+-- the number of heaps, the heap and the form
 unfoldable pub fetch_bytes : Fetch → List ℕ
-fetch_bytes f = f.heaps ∷ f.heap ∷ 0 ∷ []
+fetch_bytes f = f.heaps ∷ f.heap ∷ form_bytes f.resume
 
 -- the kind, and what it is of
 abbrev pub control_spelling : Control → List ℕ

@@ -10,8 +10,13 @@ pub mod Have
 pub mod Reading
 pub mod Answer
 pub mod About
+pub mod Numbers
+pub mod Steps
 pub mod Control
 pub mod ControlKind
 pub mod ControlSpelling
 pub mod ControlParts
 pub mod ControlReading
+pub mod Batch
+pub mod Pieces
+pub mod PieceReading

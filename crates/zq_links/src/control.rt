@@ -2,11 +2,13 @@
 
 mod bodies;
 mod fields;
+mod form;
 mod kind;
 mod laws;
 mod read;
 mod write;
 
+use crate::spot::Spot;
 pub use kind::is_control;
 pub use laws::control_has_one_spelling;
 pub use read::read_control;
@@ -59,6 +61,20 @@ pub struct Behind {
     pub vector: Vector,
 }
 
+/// What a stage stands at: the state of a heap that the sender gathers from pieces of the
+/// receiver's. From there the stream of pieces can go on.
+#[derive(Clone, Copy, Debug, PartialEq, Eq)]
+pub struct Resume {
+    /// The life of the receiver's heap that the pieces were of.
+    pub life: u64,
+    /// The number of the last piece that the stage has taken.
+    pub number: u32,
+    /// The spot that followed it.
+    pub next: Spot,
+    /// The operations that the stage has taken.
+    pub vector: Vector,
+}
+
 /// The sender asks for the state of a heap.
 #[derive(Clone, Copy, Debug, PartialEq, Eq)]
 pub struct Fetch {
@@ -66,6 +82,9 @@ pub struct Fetch {
     pub heaps: u8,
     /// The heap, below the number of heaps.
     pub heap: u8,
+    /// Where a stream of pieces that broke off is to go on, and `None` where the sender has no part
+    /// of the state.
+    pub resume: Option<Resume>,
 }
 
 /// What one site tells another about what is to go over their link.

@@ -1,5 +1,6 @@
 //! Why bytes are no frame.
 use std::alloc::AllocError;
+use zq_batch::BatchFault;
 use zq_delta::OpFault;
 use zq_fields::PartFault;
 use zq_merge::StateFault;
@@ -46,6 +47,22 @@ impl From<PartFault> for FrameFault {
             PartFault::Field(place) => FrameFault::Field(place),
             // A Have has no text and no score.
             PartFault::Short | PartFault::Length | PartFault::Score => FrameFault::Short,
+        }
+    }
+}
+
+impl From<BatchFault> for FrameFault {
+    ghost use Rattle.std.specs.Prelude.{◌≡◌};
+    ghost use Rattle.zq_links.specs.Batch as spec;
+
+    ghost from_gives = { λ batch e. e ≡ spec.fault_of batch };
+
+    fn from(batch: BatchFault) -> FrameFault {
+        match batch {
+            BatchFault::Short => FrameFault::Short,
+            BatchFault::Field(place) => FrameFault::Field(place),
+            BatchFault::Rest => FrameFault::Rest,
+            BatchFault::NoMemory => FrameFault::NoMemory,
         }
     }
 }

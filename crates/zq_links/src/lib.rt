@@ -16,14 +16,18 @@
 //! | 6 | Routes | reach, ask and far, eight bytes each |
 //! | 7 | At | number of heaps; heap; rule; flags, bit 0 open and the others 0; turn, echo and window, eight bytes each; reach, ask and far; vector by its entries |
 //! | 8 | Behind | number of heaps; heap; vector by its entries |
-//! | 9 | Fetch | number of heaps; heap; a byte 0 |
+//! | 9 | Fetch | number of heaps; heap; a byte 0, or a byte 1 and what a stage stands at: life, eight bytes; number, four bytes; places of a key and of a member, eight bytes each; vector by its entries |
+//! | 10 | Piece | life, eight bytes; number, four bytes; places of a key and of a member, eight bytes each; a state frame of version 3 |
+//! | 11 | Batch | operations of one heap by differences, as `zq_batch` says |
 //!
-//! Kinds 1 to 5 are frames, and kinds 6 to 9 are control frames. The rule of kinds 1 and 4 is High.
-//! Nothing follows a frame. All kinds are read; kinds 2, 3 and 5 to 9 are written, with the newest
-//! versions inside. The first fault from the left is the answer.
+//! Kinds 1 to 5 are frames, kinds 6 to 9 are control frames, kind 10 holds a part of what kind 3
+//! may, and kind 11 what kind 2 may. The rule of kinds 1 and 4 is High. Nothing follows a frame. All
+//! kinds are read; kinds 2, 3 and 5 to 11 are written, with the newest versions inside. `read_frame`
+//! reads kinds 1 to 5 alone. The first fault from the left is the answer.
 #![tactic(auto)]
 
 mod about;
+mod batch;
 mod control;
 mod errors;
 mod fault;
@@ -36,13 +40,19 @@ mod held_back;
 mod kind;
 mod link_laws;
 mod message;
+mod numbers;
 mod ops;
+mod piece;
+mod piece_laws;
 mod read;
+mod spot;
+mod step;
 mod write;
 
 pub use about::topic_of;
+pub use batch::{by_differences, is_batch, read_batch_frame, read_heard, recode};
 pub use control::{
-    At, Behind, Control, Fetch, Routes, control_has_one_spelling, is_control, read_control,
+    At, Behind, Control, Fetch, Resume, Routes, control_has_one_spelling, is_control, read_control,
     write_control,
 };
 pub use errors::NoMemory;
@@ -54,5 +64,8 @@ pub use frame_laws::one_spelling;
 pub use held_back::MOST_HELD;
 pub use link_laws::no_frame_is_invented;
 pub use message::Message;
+pub use piece::{Piece, is_piece, read_piece, write_piece};
+pub use piece_laws::piece_has_one_spelling;
 pub use read::read_frame;
-pub use write::write_frame;
+pub use spot::Spot;
+pub use write::{write_frame, write_ops_frame};

@@ -1,12 +1,13 @@
 //! Control frames that are drawn.
 
-ghost use Rattle.std.specs.Prelude.{◌<◌, ◌≡◌, ◌≤◌};
+ghost use Rattle.std.specs.Prelude.{IfSome, ◌<◌, ◌≡◌, ◌≤◌};
 ghost use Rattle.zq_links.specs.Control.{IsHeapOf, IsWritable};
+ghost use Rattle.zq_model.specs.Sets.{IsCounters};
 
 use rand_core::Rng;
 use rand_pcg::Pcg64;
 use zq_dots::{LAST_COUNTER, Rule, SiteNo, Vector};
-use zq_links::{At, Behind, Control, Fetch, Routes};
+use zq_links::{At, Behind, Control, Fetch, Resume, Routes, Spot};
 
 /// A number of heaps, and a heap below it.
 fn drawn_heap(draws: &mut Pcg64) -> (u8, u8)
@@ -66,6 +67,24 @@ fn drawn_at(draws: &mut Pcg64) -> At
     }
 }
 
+/// What a stage stands at, or nothing.
+fn drawn_resume(draws: &mut Pcg64) -> Option<Resume>
+    ensures { IfSome result (λ r. IsCounters r.vector) }
+{
+    if draws.next_u64() % 2 == 0 {
+        return None;
+    }
+    Some(Resume {
+        life: draws.next_u64(),
+        number: draws.next_u32(),
+        next: Spot {
+            key: draws.next_u64(),
+            member: draws.next_u64(),
+        },
+        vector: drawn_vector(draws),
+    })
+}
+
 /// A control frame of any kind.
 pub fn drawn_control(draws: &mut Pcg64) -> Control
     ensures { IsWritable result }
@@ -83,7 +102,11 @@ pub fn drawn_control(draws: &mut Pcg64) -> Control
         }
         _ => {
             let (heaps, heap) = drawn_heap(draws);
-            Control::Fetch(Fetch { heaps, heap })
+            Control::Fetch(Fetch {
+                heaps,
+                heap,
+                resume: drawn_resume(draws),
+            })
         }
     }
 }

@@ -1,8 +1,8 @@
 //! What follows the kind of a control frame.
 
-ghost use Rattle.std.specs.Prelude.{IfOk, OnOk, [], ◌++◌, ◌∷◌, ◌≡◌};
+ghost use Rattle.std.specs.Prelude.{IfOk, IfSome, OnOk, [], ◌++◌, ◌∷◌, ◌≡◌};
 ghost use Rattle.zq_fields.specs.Reading.{Gives};
-ghost use Rattle.zq_links.specs.Control.{IsAt, IsHeapOf, at_of};
+ghost use Rattle.zq_links.specs.Control.{IsAt, IsFetch, IsHeapOf, at_of};
 ghost use Rattle.zq_links.specs.ControlParts as read;
 ghost use Rattle.zq_links.specs.ControlSpelling as spell;
 ghost use Rattle.zq_model.specs.Sets.{IsCounters};
@@ -10,11 +10,11 @@ ghost use Rattle.zq_model.specs.Sets.{IsCounters};
 use crate::control::fields::{
     flags_of, read_open, read_routes, read_three, write_routes, write_three,
 };
+use crate::control::form::{read_form, write_form};
 use crate::control::{At, Behind, Fetch};
 use std::alloc::AllocError;
 use zq_fields::{
-    PartFault, read_byte_in, read_heap, read_rule, read_sparse, rule_byte, write_bytes,
-    write_sparse,
+    PartFault, read_heap, read_rule, read_sparse, rule_byte, write_bytes, write_sparse,
 };
 
 /// Takes what a site has and grants.
@@ -89,25 +89,31 @@ pub(crate) fn write_behind(out: &mut Vec<u8>, behind: &Behind) -> Result<(), All
     write_sparse(out, &behind.vector)
 }
 
-/// Takes which heap's state is asked for, and in which form: there is one form, 0.
+/// Takes which heap's state is asked for, and where its stream is to go on.
 #[tactic(auto, unfolding(crate::specs::ControlParts::fetch_at, crate::specs::ControlSpelling::fetch_bytes))]
 pub(crate) fn read_fetch(whole: usize, bytes: &mut &[u8]) -> Result<Fetch, PartFault>
     ensures exact { Gives (λ x. (x, bytes.new.now)) result (read.fetch_at whole bytes.old.now) }
     ensures found { IfOk result (λ x. bytes.old.now ≡ spell.fetch_bytes x ++ bytes.new.now) }
     ensures heap { IfOk result (λ x. IsHeapOf x.heaps x.heap) }
+    ensures counters { IfOk result (λ x. IfSome x.resume (λ r. IsCounters r.vector)) }
 {
     let heap = read_heap(whole, bytes)?;
-    read_byte_in(whole, bytes, 0, 1)?;
+    let resume = read_form(whole, bytes)?;
     Ok(Fetch {
         heaps: heap.heaps,
         heap: heap.heap,
+        resume,
     })
 }
 
-/// Appends which heap's state is asked for, and the form.
+/// Appends which heap's state is asked for, and where its stream is to go on.
 #[tactic(auto, unfolding(crate::specs::ControlSpelling::fetch_bytes))]
 pub(crate) fn write_fetch(out: &mut Vec<u8>, fetch: &Fetch) -> Result<(), AllocError>
-    ensures { OnOk result (out.new.items ≡ out.old.items ++ spell.fetch_bytes fetch.now) }
+    requires heap { IsHeapOf fetch.now.heaps fetch.now.heap }
+    requires counters { IfSome fetch.now.resume (λ r. IsCounters r.vector) }
+    ensures written { OnOk result (out.new.items ≡ out.old.items ++ spell.fetch_bytes fetch.now) }
+    ensures sound { OnOk result (IsFetch fetch.now) }
 {
-    write_bytes(out, &[fetch.heaps, fetch.heap, 0])
+    write_bytes(out, &[fetch.heaps, fetch.heap])?;
+    write_form(out, &fetch.resume)
 }

@@ -1,6 +1,5 @@
 //! Fields that only control frames have.
 
-ghost use Rattle.std.specs.Int.{to_be_bytes, w64};
 ghost use Rattle.std.specs.Prelude.{IfOk, OnOk, ◌++◌, ◌∷◌, ◌≡◌};
 ghost use Rattle.zq_fields.specs.Reading.{Gives};
 ghost use Rattle.zq_links.specs.Control.{IsRoutes};
@@ -8,20 +7,9 @@ ghost use Rattle.zq_links.specs.ControlParts as read;
 ghost use Rattle.zq_links.specs.ControlSpelling.{open_byte, routes_bytes, three_bytes};
 
 use crate::control::Routes;
+use crate::numbers::take_u64;
 use std::alloc::AllocError;
-use zq_fields::{PartFault, read_byte_in, read_u64, write_u64};
-
-/// Takes a number of eight bytes.
-fn read_number(bytes: &mut &[u8]) -> Result<u64, PartFault>
-    ensures exact { Gives (λ x. (x, bytes.new.now)) result (read.number_at bytes.old.now) }
-    ensures found { IfOk result (λ x. bytes.old.now ≡ to_be_bytes w64 x ++ bytes.new.now) }
-{
-    let Some((number, rest)) = read_u64(bytes) else {
-        return Err(PartFault::Short);
-    };
-    *bytes = rest;
-    Ok(number)
-}
+use zq_fields::{PartFault, read_byte_in, write_u64};
 
 /// Takes three numbers of eight bytes each.
 #[tactic(auto, unfolding(crate::specs::ControlParts::three_at, crate::specs::ControlSpelling::three_bytes))]
@@ -31,9 +19,9 @@ pub(crate) fn read_three(bytes: &mut &[u8]) -> Result<(u64, u64, u64), PartFault
     ensures found { IfOk result
         (λ x. bytes.old.now ≡ three_bytes x.0 x.1 x.2 ++ bytes.new.now) }
 {
-    let first = read_number(bytes)?;
-    let second = read_number(bytes)?;
-    let third = read_number(bytes)?;
+    let first = take_u64(bytes)?;
+    let second = take_u64(bytes)?;
+    let third = take_u64(bytes)?;
     Ok((first, second, third))
 }
 
