@@ -6,7 +6,8 @@ pub mod Comes
 pub mod Picked
 pub mod Batches
 pub mod Looks
-pub mod Rings
+pub mod Runs
+pub mod Chunked
 pub mod Kept
 pub mod Skips
 pub mod Frames

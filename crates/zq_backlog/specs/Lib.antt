@@ -3,6 +3,8 @@ pub mod Log
 pub mod Batch
 pub mod Frame
 pub mod Laws
-pub mod Texts
+pub mod Run
+pub mod RunView
+pub mod Chunks
 pub mod TextsView
 pub mod BacklogView

@@ -16,7 +16,9 @@ mod backlog;
 mod backlog_laws;
 mod batch;
 mod choice;
+mod chunk;
 mod frame;
+mod run;
 #[cfg(test)]
 mod tests;
 mod texts;

@@ -1,5 +1,6 @@
 //! Steps by a table, drawn ones against a plain list, and batches that are read again.
 
+mod chunks;
 mod plain;
 
 use crate::{Backlog, Batch};
@@ -14,7 +15,7 @@ use zq_links::{Frame, read_frame};
 use zq_posheap::Seeded;
 
 /// The most bytes of a member.
-const LONG: usize = 4096;
+const LONG: usize = 131_072;
 
 /// A site of this number.
 fn site(number: u8) -> Result<SiteNo, Fail> {
@@ -33,7 +34,8 @@ fn op_of(alloc: Global, number: u8, n: u64, len: usize) -> Result<Op, Fail> {
         return Err(Fail::from("a counter"));
     };
     let key = Vec::from_slice(alloc, b"k")?;
-    let member = Vec::from_slice(alloc, &[b'm'; LONG][..len.min(LONG)])?;
+    let mut member = Vec::new(alloc);
+    member.resize(len.min(LONG), b'm')?;
     Ok(Op::new(0, 1, dot, seen, key, member, Act::Drop))
 }
 

@@ -1,28 +1,44 @@
-//! Texts, one after the other in a ring of bytes.
-ghost use Rattle.std.specs.Prelude.{◌≡◌, ◌+◌, ◌<◌, ◌≤◌, ◌^◌, ◌++◌, ◌∷◌, [], OnErr, OnOk, drop, length, slice_index, slice_index_or, slice_range, sum_by, take};
-ghost use Rattle.std.specs.VecDeque.{deque_capacity};
-ghost use Rattle.zq_backlog.specs.Texts as ring;
+//! Texts, one after the other in chunks of bytes.
+ghost use Rattle.std.specs.Prelude.{◌≡◌, ◌+◌, ◌-◌, ◌<◌, ◌≤◌, ◌^◌, ◌++◌, ◌∷◌, [], OnErr, OnOk, drop, length, slice_index_or, sum_by};
+ghost use Rattle.zq_backlog.specs.Chunks.{AreJoined, first_of, texts_in};
 ghost use Rattle.zq_backlog.specs.Written.{spelling};
 
+use crate::chunk::Chunk;
+use crate::run::Run;
 use std::alloc::{AllocError, Global};
 use std::collections::VecDeque;
 use std::marker::Model;
-use zq_delta::append_op;
+use std::mem::replace;
 use zq_dots::Op;
 use zq_fields::write_bytes;
 
-/// Texts, the oldest first. Their bytes lie in one ring, so that a text costs eight bytes beside
-/// its own, and one that goes moves none that stay.
+/// The bytes that a chunk has room for. One that is begun for a longer text has room for that.
+const CHUNK: usize = 65_536;
+
+/// No fewer bytes than an operation is written in beside its key and its member.
+const HEAD: usize = 600;
+
+/// The most bytes of all texts, and the most texts that ever come. No machine has so many.
+const MOST: usize = isize::MAX as usize;
+
+/// Texts, the oldest first. They lie in chunks of bytes, none in two of them, so that a text is
+/// written and read as one run of bytes, costs eight bytes beside its own, and one that goes moves
+/// none that stay.
+///
+/// A text goes into the newest chunk where it surely fits there; else a chunk is begun for it. A
+/// chunk gives back what it has too much once another one is begun, and goes with the last of its
+/// texts. So these take memory beside the bytes of the texts that stand: the texts of the oldest
+/// chunk that went, and what the newest chunk has not filled yet. Each is less than a chunk.
 #[derive(Drop)]
 pub(crate) struct Texts {
-    bytes: VecDeque<u8>,
-    /// Where each text ends: how many bytes came up to there, modulo 2 to the 64th.
-    ends: VecDeque<u64>,
-    /// Where the oldest begins, and where the newest ends.
-    start: u64,
-    end: u64,
-    /// A text is written here before it goes into the ring.
-    written: Vec<u8>,
+    alloc: Global,
+    /// The chunks before the newest one, the oldest first.
+    older: VecDeque<Chunk>,
+    newest: Chunk,
+    /// The number of the oldest text that stands, among all that ever came.
+    first: u64,
+    /// The bytes of the texts that stand.
+    bytes: usize,
 }
 
 impl Model for Texts {
@@ -30,11 +46,11 @@ impl Model for Texts {
 
     ghost Value = { List (List ℕ) };
 
-    ghost use Rattle.zq_backlog.specs.TextsView.{IsRing, texts_of};
+    ghost use Rattle.zq_backlog.specs.TextsView.{AreChunked, texts_of};
 
     ghost view = { texts_of };
 
-    ghost invariant = { IsRing };
+    ghost invariant = { AreChunked };
 }
 
 impl Texts {
@@ -43,11 +59,14 @@ impl Texts {
         ensures { result ≡ [] }
     {
         Texts {
-            bytes: VecDeque::new(alloc),
-            ends: VecDeque::new(alloc),
-            start: 0,
-            end: 0,
-            written: Vec::new(alloc),
+            alloc,
+            older: VecDeque::new(alloc),
+            newest: Chunk {
+                first: 0,
+                texts: Run::new(alloc),
+            },
+            first: 0,
+            bytes: 0,
         }
     }
 
@@ -56,7 +75,7 @@ impl Texts {
         ensures sum { result ≡ sum_by length self.now }
         ensures most { result < 2 ^ 63 }
     {
-        self.bytes.len()
+        self.bytes
     }
 
     /// How many there are.
@@ -64,7 +83,7 @@ impl Texts {
         ensures len { result ≡ length self.now }
         ensures most { result < 2 ^ 63 }
     {
-        self.ends.len()
+        (self.newest.end() - self.first) as usize
     }
 
     /// How many bytes the text of this number has.
@@ -73,7 +92,7 @@ impl Texts {
         ensures exact { result ≡ length (slice_index_or self.now number []) }
         ensures most { result < 2 ^ 63 }
     {
-        self.end_of(number) - self.start_of(number)
+        self.text(number).len()
     }
 
     /// Appends the text of this number to `out`.
@@ -81,10 +100,7 @@ impl Texts {
         requires { number < length self.now }
         ensures { OnOk result (out.new.items ≡ out.old.items ++ slice_index_or self.now number []) }
     {
-        let from = self.start_of(number);
-        let to = self.end_of(number);
-        let (front, back) = self.bytes.as_slices();
-        copy_range(front, back, from, to, out)
+        write_bytes(out, self.text(number))
     }
 
     /// Writes an operation behind the others. Where memory is refused nothing has changed.
@@ -92,99 +108,98 @@ impl Texts {
         ensures pushed { OnOk result (self.new ≡ self.old ++ spelling op.now ∷ []) }
         ensures refused { OnErr result (self.new ≡ self.old) }
     {
-        self.written.clear();
-        append_op(&mut self.written, op)?;
-        self.bytes.reserve(self.written.len())?;
-        self.ends.reserve(1)?;
-        append_all(&mut self.bytes, &self.written);
-        self.end = advanced(self.end, self.written.len() as u64);
-        self.ends.push_back_reserved(self.end);
-        Ok(())
+        let room = room_of(op);
+        if !self.newest.texts.has_room(room) {
+            self.begin_chunk(room)?;
+        }
+        self.write(op)
     }
 
     /// The oldest goes, if there is one.
     pub(crate) fn drop_oldest(&mut self)
         ensures { self.new ≡ drop 1 self.old }
     {
-        if let Some(end) = self.ends.pop_front() {
-            let bytes = distance(self.start, end) as usize;
-            self.bytes.drain(..bytes);
-            self.start = end;
+        if self.first < self.newest.end() {
+            self.bytes -= self.text(0).len();
+            self.first += 1;
+            self.drop_chunk();
         }
     }
 
-    /// Where the text of this number begins in the ring.
-    fn start_of(&self, number: usize) -> usize
+    /// The text of this number.
+    fn text(&self, number: usize) -> &[u8]
         requires { number < length self.now }
-        ensures { result ≡ sum_by length (take number self.now) }
+        ensures { result.now ≡ slice_index_or self.now number [] }
     {
-        if number == 0 {
-            0
+        let number = self.first + number as u64;
+        let chunk = chunk_of(&self.older, &self.newest, number);
+        chunk.texts.text((number - chunk.first) as usize)
+    }
+
+    /// Begins a chunk that has room for so many bytes. Where memory is refused there is none.
+    fn begin_chunk(&mut self, room: usize) -> Result<(), AllocError>
+        ensures { self.new ≡ self.old }
+    {
+        self.older.reserve(1)?;
+        let next = Chunk {
+            first: self.newest.end(),
+            texts: Run::with_room(self.alloc, room.max(CHUNK))?,
+        };
+        let mut last = replace(&mut self.newest, next);
+        if self.first < last.end() {
+            last.texts.shrink();
+            self.older.push_back_reserved(last);
         } else {
-            self.end_of(number - 1)
+            self.older.clear();
+        }
+        Ok(())
+    }
+
+    /// Writes an operation into the newest chunk.
+    fn write(&mut self, op: &Op) -> Result<(), AllocError>
+        ensures pushed { OnOk result (self.new ≡ self.old ++ spelling op.now ∷ []) }
+        ensures refused { OnErr result (self.new ≡ self.old) }
+    {
+        if self.newest.end() >= MOST as u64 {
+            return Err(AllocError);
+        }
+        let had = self.newest.texts.bytes();
+        self.newest.texts.push(op, MOST - self.bytes)?;
+        self.bytes += self.newest.texts.bytes() - had;
+        Ok(())
+    }
+
+    /// The oldest chunk goes, where all its texts went.
+    fn drop_chunk(&mut self)
+        ensures { self.new ≡ self.old }
+    {
+        if let Some(oldest) = self.older.front()
+            && oldest.end() <= self.first
+        {
+            let _ = self.older.pop_front();
         }
     }
-
-    /// Where the text of this number ends in the ring.
-    fn end_of(&self, number: usize) -> usize
-        requires { number < length self.now }
-        ensures place { result ≡ sum_by length (take (number + 1) self.now) }
-        ensures within { result ≤ sum_by length self.now }
-        ensures most { result < 2 ^ 63 }
-    {
-        distance(self.start, self.ends[number]) as usize
-    }
 }
 
-/// How far it is from one place to another, both modulo 2 to the 64th.
-fn distance(from: u64, to: u64) -> u64
-    ensures { result ≡ ring.gap from to }
+/// The chunk in which the text of this number lies, among all that ever came.
+fn chunk_of<'a>(older: &'a VecDeque<Chunk>, newest: &'a Chunk, number: u64) -> &'a Chunk
+    requires joined { AreJoined older.now.items newest.now.first }
+    requires from { first_of older.now.items newest.now.first ≤ number }
+    requires to { number < newest.now.first + length newest.now.texts }
+    ensures begins { result.now.first ≤ number }
+    ensures ends { number < result.now.first + length result.now.texts }
+    ensures text { slice_index_or result.now.texts (number - result.now.first) []
+        ≡ slice_index_or (texts_in older.now.items ++ newest.now.texts)
+        (number - first_of older.now.items newest.now.first) [] }
 {
-    if from <= to {
-        to - from
-    } else {
-        to + (u64::MAX - from) + 1
+    if number >= newest.first {
+        return newest;
     }
+    let behind = older.partition_point(|chunk| chunk.first <= number);
+    &older[behind - 1]
 }
 
-/// The place so far from another, both modulo 2 to the 64th.
-fn advanced(from: u64, by: u64) -> u64
-    ensures { ring.gap from result ≡ by }
-{
-    let left = u64::MAX - from;
-    if by <= left { from + by } else { by - left - 1 }
-}
-
-/// Puts the bytes behind those in a ring that has room for them.
-fn append_all(ring: &mut VecDeque<u8>, bytes: &[u8])
-    requires { length ring.old.items + length bytes.now ≤ deque_capacity ring.old }
-    ensures { ring.new.items ≡ ring.old.items ++ bytes.now }
-{
-    for byte in bytes {
-        ring.push_back_reserved(*byte);
-    }
-}
-
-/// Appends to `out` the bytes from a place up to another of two runs that follow each other.
-fn copy_range(
-    front: &[u8],
-    back: &[u8],
-    from: usize,
-    to: usize,
-    out: &mut Vec<u8>,
-) -> Result<(), AllocError>
-    requires order { from ≤ to }
-    requires within { to ≤ length front.now + length back.now }
-    ensures { OnOk result
-        (out.new.items ≡ out.old.items ++ slice_range (front.now ++ back.now) from to) }
-{
-    let cut = front.len();
-    if to <= cut {
-        return write_bytes(out, &front[from..to]);
-    }
-    if from >= cut {
-        return write_bytes(out, &back[from - cut..to - cut]);
-    }
-    write_bytes(out, &front[from..])?;
-    write_bytes(out, &back[..to - cut])
+/// No fewer bytes than the operation is written in.
+fn room_of(op: &Op) -> usize {
+    HEAD + op.key().len() + op.member().len()
 }

@@ -1,8 +1,9 @@
-use Rattle.std.proofs.Common.{ap, length, sym, ◌∙◌}
-use Rattle.zq_backlog.proofs.Rings.{length-texts}
+use Rattle.std.proofs.Common.{ap, arith, length, ◌≡◌}
+use Rattle.zq_backlog.proofs.Chunked.{count_is}
+use Rattle.zq_backlog.specs.TextsView.{texts_of}
 use Rattle.zq_backlog.proofs.texts.Texts.len.Goals as goal
 
 pub returns-clause-len : goal.returns-clause-len
 returns-clause-len c =
-    let t = c.self.inside in
-    c.len.ensures ∙ t.ends.ok.0 ∙ sym (length-texts t.start t.ends.items t.bytes.items) ∙ ap length c.self.view_is
+    let same : length (texts_of c.self.inside) ≡ length c.args.self.now = ap length c.self.view_is in
+    omega (arith, count_is c.self.inside c.self.invariant, c.end.ensures, same)
