@@ -4,3 +4,4 @@ pub mod Filling
 pub mod Learnt
 pub mod Nearest
 pub mod Asked
+pub mod Fenced

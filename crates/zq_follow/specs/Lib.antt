@@ -6,3 +6,5 @@ pub mod Tell
 pub mod Routes
 pub mod FollowLaws
 pub mod RouteLaws
+pub mod FenceLaws
+pub mod Heard

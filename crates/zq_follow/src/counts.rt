@@ -10,7 +10,7 @@ use zq_dots::{Dot, SiteNo, Vector};
 
 /// How many operations of these sites the one knows beyond the other: fewer than 2^54.
 #[tactic(auto, unfolding(zq_model::specs::Sets::SITES))]
-pub(crate) fn beyond(sites: &SiteSet, one: &Vector, other: &Vector) -> u64
+pub fn beyond(sites: &SiteSet, one: &Vector, other: &Vector) -> u64
     ensures { result ≡ beyond sites.now one.now other.now }
 {
     let mut count = 0;

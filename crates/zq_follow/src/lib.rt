@@ -23,8 +23,11 @@
 mod at;
 mod class;
 mod counts;
+mod fence;
+pub mod fence_laws;
 mod follow;
 pub mod follow_laws;
+mod heard;
 mod missing;
 mod relays;
 pub mod route_laws;
@@ -36,7 +39,10 @@ mod tests;
 
 pub use at::{AtHead, HeardAt, PROBE_TURNS, Probe};
 pub use class::class_of;
+pub use counts::beyond as count_beyond;
+pub use fence::{began_with_fewer, is_used_by_others};
 pub use follow::Follow;
+pub use heard::{has_heard_all, has_heard_one, unheard_of};
 pub use missing::overdue;
 pub use relays::asks;
 pub use site_set::SiteSet;

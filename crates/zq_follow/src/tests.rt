@@ -2,6 +2,7 @@
 //! whose links lose, double and reorder what goes over them.
 
 mod drawn;
+mod fences;
 mod follow_rules;
 mod model;
 mod pair;
