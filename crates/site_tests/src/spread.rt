@@ -9,6 +9,7 @@ mod exchanging;
 mod holding;
 mod last_values;
 mod taking;
+mod taking_all;
 
 ghost use Rattle.std.specs.Prelude.{◌≡◌, All, IfOk, IfSome, length};
 ghost use Rattle.zq_spread.specs.Companies.{AreAllPasses};

@@ -41,12 +41,12 @@ place_of x [] i = absurd i
 place_of x (y ∷ xs) (inl e) = (0, ap Some e, omega arith)
 place_of x (y ∷ xs) (inr i) = let rest = place_of x xs i in let below = rest.2 in (suc rest.0, rest.1, omega (arith, below))
 
-get_left : {X : Type 0} (xs ys : List X) (i : ℕ) → i < length xs → slice_get (xs ++ ys) i ≡ slice_get xs i
+pub get_left : {X : Type 0} (xs ys : List X) (i : ℕ) → i < length xs → slice_get (xs ++ ys) i ≡ slice_get xs i
 get_left [] ys i inside = absurd (omega (arith, inside))
 get_left (x ∷ xs) ys zero inside = refl
 get_left (x ∷ xs) ys (suc i) inside = get_left xs ys i (omega (arith, inside))
 
-get_pushed : {X : Type 0} (xs : List X) (y : X) → slice_get (xs ++ y ∷ []) (length xs) ≡ Some y
+pub get_pushed : {X : Type 0} (xs : List X) (y : X) → slice_get (xs ++ y ∷ []) (length xs) ≡ Some y
 get_pushed [] y = refl
 get_pushed (x ∷ xs) y = get_pushed xs y
 
@@ -98,7 +98,7 @@ module _ (W : List Operation) where
     pub counts : (s h : ℕ) → now.counts s h ≤ steps_of before + steps_in e.call.note.steps
 
   module _ (before : List Event) (e : Event) (r : Run) (alike : IsAlike before r) (now : State) (next : IsNext before e r.now now) where
-    sets_next : (t : ℕ) → AreSame (now.sets t) (has_at W t (before ++ e ∷ []))
+    pub sets_next : (t : ℕ) → AreSame (now.sets t) (has_at W t (before ++ e ∷ []))
     sets_next t = elim (cases_eq e.site t) [
       | inl same ↦ subst (λ s. AreSame (now.sets s) (has_at W s (before ++ e ∷ []))) same
           (same_by (now.sets e.site) _ _ next.here (sym (has_here before e)))
@@ -109,7 +109,7 @@ module _ (W : List Operation) where
     made_next = same_by now.made _ _ next.made (sym (made_from-append before (e ∷ []) []))
 
     -- with the same past, and as long as that has the moments before, the run stands so after the call
-    stands : (now_too : Run) → now_too.now ≡ now → ((k : ℕ) → k ≤ length before → HasMoment now_too (take k before)) → HasMoment now_too (before ++ e ∷ []) → IsAlike (before ++ e ∷ []) now_too
+    pub stands : (now_too : Run) → now_too.now ≡ now → ((k : ℕ) → k ≤ length before → HasMoment now_too (take k before)) → HasMoment now_too (before ++ e ∷ []) → IsAlike (before ++ e ∷ []) now_too
     stands after is earlier last = record {
       sets = λ t. subst (λ (st : State). AreSame (st.sets t) (has_at W t (before ++ e ∷ []))) (sym is) (sets_next t);
       made = subst (λ (st : State). AreSame st.made (made_of (before ++ e ∷ []))) (sym is) made_next;

@@ -5,22 +5,23 @@ use Rattle.std.proofs.lemmas.Bool.{and_parts, cases_Bool, eqb-true}
 use Rattle.std.specs.Prelude.{List, [], refl, slice_index, true, ℕ, ◌++◌, ◌&&◌, ◌==◌, ◌∷◌, ◌≡◌}
 use Rattle.zq_model.proofs.NewRecords.{change_is_new}
 use Rattle.zq_model.proofs.Works.{worked_is}
-use Rattle.zq_model.specs.Books.{Book, HandedOn, Merged, Recorded, Step, are_steps_over, is_change_over, operation_of, steps_image}
+use Rattle.zq_model.specs.Books.{Book, HandedOn, Merged, Recorded, Step, TookOver, are_steps_over, is_change_over, is_step_over, operation_of, steps_image}
 use Rattle.zq_model.specs.Reach.{after_step, after_steps, begun, worked}
+use Rattle.zq_model.proofs.CatchingUp.{peer_catches_up}
 use Rattle.zq_model.proofs.Dots.{counter_positive, dots_below, has_from, has_parts, last_above}
 use Rattle.zq_model.proofs.JoinImages.{join-union}
 use Rattle.zq_model.proofs.Membership.{in_left, in_right, in_union}
 use Rattle.zq_model.proofs.NewOperation.{closed_after, new_has_seen}
-use Rattle.zq_model.proofs.Same.{image_of-same_heap}
+use Rattle.zq_model.proofs.Same.{image_of-same, image_of-same_heap}
 use Rattle.zq_model.proofs.TailSets.{step_in_heap, taken_is_new}
-use Rattle.zq_model.proofs.Worlds.{closed_union, vector_is, world_part}
+use Rattle.zq_model.proofs.Worlds.{closed_union, union_turned, vector_is, world_part}
 use Rattle.zq_model.specs.Image.{Image, image_after, image_of, join}
 use Rattle.zq_model.specs.Operation.{Operation, has}
 use Rattle.zq_model.specs.Rule.{Rule}
-use Rattle.zq_model.specs.Sets.{HasDot, IsClosed, IsIn, IsNew, IsWorld, last, vector_of}
+use Rattle.zq_model.specs.Sets.{HasDot, IsClosed, IsIn, IsNew, IsWorld, covers, last, vector_of}
 use Rattle.zq_model.proofs.Lists.{in_filter, in_filter_from}
 use Rattle.zq_notes.proofs.OneThread.{left_alone, own_same}
-use Rattle.zq_notes.proofs.Tails.{tail_begun, tail_merged, tail_recorded, tail_wider}
+use Rattle.zq_notes.proofs.Tails.{tail_begun, tail_merged, tail_recorded, tail_taken_over, tail_wider}
 use Rattle.zq_notes.specs.Gathered.{AreImagesOf, AreOf, AreOfIn, HasImageOf, HasTailOf, IsOf, covered_by, gathered_by, gathered_in}
 use Rattle.zq_notes.specs.Notes.{Books}
 use Rattle.zq_notes.specs.Thread.{AreOwn, AreOwnIn, left_in}
@@ -131,6 +132,24 @@ module _ (K : ℕ) (W : List Operation) (world : IsWorld K W) where
   merged_grows h S stamp other within closed of =
       subst (λ (a : Image). IsGrown W h S (covered_by W h a ++ S) (join (image_of S h) a)) (sym of.3) (covered_grows h of.0 of.1 of.2 S within closed)
 
+  -- an image whose vector covers that of a set is the join of both
+  joined_is : (h : ℕ) (S : List Operation) (stamp : ℕ) (other : Image) → ((o : Operation) → IsIn o S → IsIn o W) → IsClosed S → IsOf W h (TookOver stamp other) →
+      covers other.vector (image_of S h).vector ≡ true → join (image_of S h) other ≡ other
+  joined_is h S stamp other within closed of covered =
+      let U : List Operation = of.0 in
+      let both : (o : Operation) → IsIn o (S ++ U) → IsIn o W = λ o i. elim (in_union o S U i) [ inl j ↦ within o j | inr j ↦ of.2 o j ] in
+      let joint : IsWorld K (S ++ U) = world_part K (S ++ U) W both world in
+      ap (join (image_of S h)) of.3
+      ∙ join-union K S U h joint closed of.1
+      ∙ image_of-same K (S ++ U) (U ++ S) h (union_turned S U) joint
+      ∙ sym (peer_catches_up K h S U [] joint closed of.1 (tt {0}) (subst (λ (a : Image). covers a.vector (image_of S h).vector ≡ true) of.3 covered)).1
+      ∙ sym of.3
+
+  taken_over_grows : (h : ℕ) (S : List Operation) (stamp : ℕ) (other : Image) → ((o : Operation) → IsIn o S → IsIn o W) → IsClosed S → IsOf W h (TookOver stamp other) →
+      covers other.vector (image_of S h).vector ≡ true → IsGrown W h S (covered_by W h other ++ S) other
+  taken_over_grows h S stamp other within closed of covered =
+      subst (IsGrown W h S (covered_by W h other ++ S)) (joined_is h S stamp other within closed of covered) (merged_grows h S stamp other within closed of)
+
   pub grown_in : (h : ℕ) (steps : List Step) (S : List Operation) → ((o : Operation) → IsIn o S → IsIn o W) → IsClosed S → are_steps_over K h (image_of S h) steps ≡ true →
       AreOf W h steps → IsGrown W h S (gathered_in W h steps S) (steps_image steps (image_of S h))
   grown_in h [] S within closed over of = record { within = within; closed = closed; here = refl; others = λ k apart. refl; more = λ o i. i; apart = λ o i away. i }
@@ -163,6 +182,18 @@ module _ (K : ℕ) (W : List Operation) (world : IsWorld K W) where
         apart = λ p i away. first.apart p (rest.apart p i away) away;
       }
   grown_in h (HandedOn stamp handed ∷ steps) S within closed over of = grown_in h steps S within closed over of.1
+  grown_in h (TookOver stamp other ∷ steps) S within closed over of =
+      let both : (is_step_over K h (image_of S h) (TookOver stamp other) ≡ true) × (are_steps_over K h other steps ≡ true) = and_parts _ _ over in
+      let first = taken_over_grows h S stamp other within closed of.0 (and_parts _ _ both.0).1 in
+      let rest = grown_in h steps (covered_by W h other ++ S) first.within first.closed (subst (λ a. are_steps_over K h a steps ≡ true) (sym first.here) both.1) of.1 in
+      record {
+        within = rest.within;
+        closed = rest.closed;
+        here = rest.here ∙ ap (steps_image steps) first.here;
+        others = λ k apart. rest.others k apart ∙ first.others k apart;
+        more = λ p i. rest.more p (first.more p i);
+        apart = λ p i away. first.apart p (rest.apart p i away) away;
+      }
 
   -- the tail is the same where a book is told what was handed on
   tail_handed : (h : ℕ) (S : List Operation) (b : Book) (stamp handed : ℕ) → HasTailOf S h b → HasTailOf S h (after_step (HandedOn stamp handed) b)
@@ -188,6 +219,11 @@ module _ (K : ℕ) (W : List Operation) (world : IsWorld K W) where
       (ap (λ a. join a other) state ∙ sym first.here) (tail_merged K W world h (covered_by W h other ++ S) b stamp other first.closed (ap (λ a. join a other) state ∙ sym first.here))
   tail_grown h (HandedOn stamp handed ∷ steps) S b within closed over of state is =
       tail_grown h steps S (after_step (HandedOn stamp handed) b) within closed over of.1 state (tail_handed h S b stamp handed is)
+  tail_grown h (TookOver stamp other ∷ steps) S b within closed over of state is =
+      let both : (is_step_over K h (image_of S h) (TookOver stamp other) ≡ true) × (are_steps_over K h other steps ≡ true) = and_parts _ _ over in
+      let first = taken_over_grows h S stamp other within closed of.0 (and_parts _ _ both.0).1 in
+      tail_grown h steps (covered_by W h other ++ S) (after_step (TookOver stamp other) b) first.within first.closed (subst (λ a. are_steps_over K h a steps ≡ true) (sym first.here) both.1) of.1
+      (sym first.here) (tail_taken_over K W world h (covered_by W h other ++ S) b stamp other first.closed (sym first.here))
 
   -- ---- calls
 

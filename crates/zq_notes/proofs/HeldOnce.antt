@@ -10,7 +10,7 @@ use Rattle.zq_model.specs.Rule.{Rule}
 use Rattle.zq_model.specs.Sets.{IsIn}
 use Rattle.zq_notes.proofs.GatheredSets.{AreOnce}
 use Rattle.zq_notes.specs.Does.{AreHeapsFor, Does}
-use Rattle.zq_notes.specs.Notes.{Answer, Asked, Copied, Handed, Joined, Replied, Shown, ToCopy, ToDrain, ToMerge, ToRun, ToShow, ToTake, ToTell, Told}
+use Rattle.zq_notes.specs.Notes.{Answer, Asked, Copied, Handed, HandedAll, Joined, Replied, Shown, TakenOver, ToCopy, ToDrain, ToMerge, ToRun, ToShow, ToTake, ToTakeAll, ToTakeOver, ToTell, Told}
 use Rattle.zq_semantics.specs.Doing.{drawn, first_drawn, second_drawn}
 use Rattle.zq_words.specs.Command.{Command}
 use Rattle.zq_words.specs.Heaps.{heaps_of}
@@ -64,7 +64,9 @@ pub once_of : (rule : Rule) (K site stamp : ℕ) (asked : Asked) (heaps : List �
     Does rule K site stamp asked heaps answer found steps → AreOnce heaps
 once_of rule K site stamp (ToRun command w1 w2) heaps (Replied reply) found steps two is = heaps_once (heaps_of command K) rule K command w1 w2 heaps found two is.0
 once_of rule K site stamp (ToTake op) heaps (Handed result) found steps two is = subst AreOnce (sym is.0) (one_once op.operation.heap)
+once_of rule K site stamp (ToTakeAll heap ops) heaps (HandedAll answer) found steps two is = subst AreOnce (sym is.0) (one_once heap)
 once_of rule K site stamp (ToMerge other) heaps (Joined result) found steps two is = subst AreOnce (sym is.0) (one_once other.heap)
+once_of rule K site stamp (ToTakeOver other) heaps (TakenOver result) found steps two is = subst AreOnce (sym is.0) (one_once other.heap)
 once_of rule K site stamp (ToTell heap vector) heaps (Told result) found steps two is = subst AreOnce (sym is.0) (one_once heap)
 once_of rule K site stamp (ToCopy heap) heaps (Copied result) found steps two is = subst AreOnce (sym is.0) (one_once heap)
 once_of rule K site stamp (ToDrain heap vector most) heaps (Told result) found steps two is = subst AreOnce (sym is.0) (one_once heap)

@@ -4,7 +4,7 @@ use Rattle.std.proofs.Common.{ap, arith, inl, inr, sym, ◌∙◌}
 use Rattle.std.proofs.lemmas.Bool.{and_parts, cases_Bool, eq-eqb, eqb-true, true≢false}
 use Rattle.std.specs.List.{list_all}
 use Rattle.std.specs.Prelude.{List, [], map, refl, true, ℕ, ◌<◌, ◌==◌, ◌∷◌, ◌≡◌, ◌≤◌}
-use Rattle.zq_model.specs.Books.{Book, HandedOn, Merged, Recorded, Step, stamp_of}
+use Rattle.zq_model.specs.Books.{Book, HandedOn, Merged, Recorded, Step, TookOver, stamp_of}
 use Rattle.zq_model.specs.Reach.{after_step, after_steps, begun}
 use Rattle.zq_model.proofs.Membership.{in_or_not}
 use Rattle.zq_model.specs.Sets.{IsIn}
@@ -31,6 +31,9 @@ after_stamp stamp (Merged at other ∷ steps) b is own =
 after_stamp stamp (HandedOn at handed ∷ steps) b is own =
     let both : ((at == stamp) ≡ true) × (list_all (λ s. stamp_of s == stamp) steps ≡ true) = and_parts _ _ own in
     after_stamp stamp steps (after_step (HandedOn at handed) b) (eqb-true at stamp both.0) both.1
+after_stamp stamp (TookOver at other ∷ steps) b is own =
+    let both : ((at == stamp) ≡ true) × (list_all (λ s. stamp_of s == stamp) steps ≡ true) = and_parts _ _ own in
+    after_stamp stamp steps (after_step (TookOver at other) b) (eqb-true at stamp both.0) both.1
 
 -- a heap that is held has the call's stamp after it
 left_stamp : (stamp : ℕ) (books : Books) (heaps : List ℕ) (steps : List (List Step)) (h : ℕ) → AreOwnIn stamp books heaps steps → IsIn h heaps → (left_in stamp heaps steps h (books h)).stamp ≡ stamp

@@ -14,9 +14,11 @@ pub mod InOrder
 pub mod MadeWorlds
 pub mod MadeKinds
 pub mod OfSites
+pub mod TakenInTurn
 pub mod Linked
 pub mod RunMoves
 pub mod MoveSteps
 pub mod Alike
+pub mod PlayedTakes
 pub mod PlayedCalls
 pub mod Plays

@@ -2,9 +2,9 @@
 
 use Rattle.std.proofs.Common.{Ok, ap, arith, inl, subst, sym, ◌∙◌}
 use Rattle.std.proofs.lemmas.Bool.{eq-eqb}
-use Rattle.std.specs.Prelude.{List, [], map, refl, slice_index, true, ℕ, ◌&&◌, ◌++◌, ◌==◌, ◌∷◌, ◌≡◌, ◌≤◌}
+use Rattle.std.specs.Prelude.{List, [], map, refl, slice_index, take, true, ℕ, ◌&&◌, ◌++◌, ◌==◌, ◌∷◌, ◌≡◌, ◌≤◌}
 use Rattle.zq_dots.specs.Placed.{Placed}
-use Rattle.zq_model.specs.Books.{Book, Merged, Step}
+use Rattle.zq_model.specs.Books.{Book, Merged, Step, TookOver}
 use Rattle.zq_journal.specs.Books.{steps_when}
 use Rattle.zq_model.proofs.Dots.{counter_positive, dots_below, has_parts, last_above}
 use Rattle.zq_model.proofs.Membership.{in_left}
@@ -18,17 +18,22 @@ use Rattle.zq_model.specs.Queue.{queue_of}
 use Rattle.zq_model.specs.Rule.{Rule}
 use Rattle.zq_model.specs.Sets.{AreSame, Early, HasDot, IsClosed, IsIn, IsWorld, Known, New, Taken, last, taken_of, vector_of}
 use Rattle.zq_model.proofs.Lists.{in_filter}
-use Rattle.zq_notes.proofs.OfSites.{all_answers, all_world, does_as, gathered-append, gathered_on, images_by, in_later, notes_at-append, notes_here, off_as, stands_at, thread_at}
+use Rattle.zq_notes.proofs.OfSites.{all_answers, all_world, does_as, gathered-append, gathered_on, images_by, in_later, notes_at-append, notes_here, of_world_at, off_as, stands_at, thread_at}
+use Rattle.zq_notes.proofs.Alike.{take_front}
 use Rattle.zq_notes.proofs.ReadOff.{AreScoresMeant}
-use Rattle.zq_notes.specs.Gathered.{AreImagesOf, covered_by, gathered, gathered_by, gathered_in}
+use Rattle.zq_notes.proofs.TakenInTurn.{known_at, known_in, taken_in}
+use Rattle.zq_notes.specs.Gathered.{AreImagesOf, AreOf, AreOfIn, covered_by, gathered, gathered_by, gathered_in}
 use Rattle.zq_notes.specs.Linked.{HoldSame, IsLinked}
-use Rattle.zq_notes.specs.Notes.{Books, Handed, Joined, ToMerge, ToTake}
+use Rattle.zq_notes.specs.Notes.{Books, Handed, HandedAll, Joined, TakenOver, ToMerge, ToTake, ToTakeAll, ToTakeOver}
+use Rattle.zq_notes.specs.Readings.{heap_as}
 use Rattle.zq_notes.specs.Sites.{AreEventsOf, Event, books_at, has_at, made_of, notes_at}
 use Rattle.zq_semantics.specs.Reading.{heaps_in}
 use Rattle.zq_shard.specs.Shard.{HeapImage}
 use Rattle.zq_shard.specs.Taken.{answer_of}
 use Rattle.zq_shard.specs.declared.taken.Taken as code
+use Rattle.zq_spread.specs.Batches.{steps_of_all}
 use Rattle.zq_spread.specs.declared.site.Site.{Site}
+use Rattle.zq_spread.specs.declared.taken_all.TakenAll.{TakenAll}
 
 -- books of the same images have the same members
 members_same : (f g : Books) → ((h : ℕ) → (f h).state ≡ (g h).state) → (heaps : List ℕ) → map (λ (b : Book). b.state.members) (map f heaps) ≡ map (λ (b : Book). b.state.members) (map g heaps)
@@ -45,18 +50,6 @@ module _ (limits : ℕ → TailLimits) (rule : Rule) (K : ℕ) (two : 2 ≤ K) (
   images : (s : ℕ) (before after : List Event) → events ≡ before ++ after → AreImagesOf rule K W (has_at W s before) (books_at limits rule K s before)
   images = images_by limits rule K two meant sites events are
 
-  -- an operation of the world that is no later than the last of its site is in a closed set
-  known_in : (S : List Operation) → ((p : Operation) → IsIn p S → IsIn p W) → IsClosed S → (o : Operation) → IsIn o W → o.n ≤ last S o.heap o.site → IsIn o S
-  known_in S within closed o i low =
-      let dot : HasDot S o.heap o.site o.n = dots_below K S o.heap o.site o.n (world_part K S W within world) closed (counter_positive K W o world i) low in
-      subst (λ x. IsIn x S) (world.one dot.0 o (within dot.0 dot.1) i dot.2 dot.3 dot.4) dot.1
-
-  known_at : (S : List Operation) → ((p : Operation) → IsIn p S → IsIn p W) → IsClosed S → (o : Operation) → IsIn o W → has (vector_of S o.heap) o.site o.n ≡ true → IsIn o S
-  known_at S within closed o i known =
-      let parts = has_parts (vector_of S o.heap) o.site o.n known in
-      let counter = (vector_is K S o.heap (world_part K S W within world)).counter o.site in
-      known_in S within closed o i (omega (arith, parts.1, counter))
-
   -- what it made by then
   own : (before after : List Event) → events ≡ before ++ after → (o : Operation) → IsIn o (made_of before) → IsIn o (has_at W o.site before)
   own before after is o i =
@@ -71,7 +64,7 @@ module _ (limits : ℕ → TailLimits) (rule : Rule) (K : ℕ) (two : 2 ≤ K) (
       let other = (vector_is K S o.heap part).counter o.site in
       let same : slice_index (vector_of mine o.heap) o.site ≡ slice_index (vector_of S o.heap) o.site = ap (λ v. slice_index v o.site) vectors in
       let low = last_above mine o.heap o.site o (stands.own o i) refl refl in
-      known_in S its.within its.closed o (in_later o events before after is i) (omega (arith, one, other, same, low))
+      known_in K W world S its.within its.closed o (in_later o events before after is i) (omega (arith, one, other, same, low))
 
   -- what it had
   stays : (s : ℕ) (before between : List Event) (o : Operation) → IsIn o (has_at W s before) → IsIn o (has_at W s (before ++ between))
@@ -116,8 +109,24 @@ module _ (limits : ℕ → TailLimits) (rule : Rule) (K : ℕ) (two : 2 ≤ K) (
         by : (t : Taken) (o : Operation) → IsIn o W → t ≡ taken_of (vector_of S o.heap) o → (t ≡ Early → ⊥) → IsIn o (gathered_in W o.heap (steps_when t e.call.note.stamp o) S)
         by New o i same late = inl refl
         by Known o i same late =
-            let its = images e.site before (e ∷ after) is in known_at S its.within its.closed o i (taken_known (vector_of S o.heap) o (sym same))
+            let its = images e.site before (e ∷ after) is in known_at K W world S its.within its.closed o i (taken_known (vector_of S o.heap) o (sym same))
         by Early o i same late = absurd (late refl)
+
+    -- each that it took of a list
+    taken_all : (heap : ℕ) (ops : List Placed) (answer : TakenAll) → e.call.note.asked ≡ ToTakeAll heap ops → e.call.note.answer ≡ HandedAll answer → (op : Placed) → IsIn op (take answer.taken ops) → IsIn op.operation W →
+        IsIn op.operation (has_at W e.site (before ++ e ∷ []))
+    taken_all heap ops answer asked answered op here i =
+        let off = off_as limits rule K two meant sites events are before e after is (ToTakeAll heap ops) (HandedAll answer) asked answered in
+        let does = does_as limits rule K two meant sites events are before e after is (ToTakeAll heap ops) (HandedAll answer) asked answered in
+        let so = off.3 in
+        let its = images e.site before (e ∷ after) is in
+        let done : take answer.taken ops ≡ so.taken = (λ k. take (so.number k) (so.split k)) ∙ take_front so.taken so.left in
+        let steps : e.call.note.steps ≡ steps_of_all e.call.note.stamp so.taken (heap_as rule K S heap) ∷ [] = off.2 ∙ ap (λ (l : List Step). l ∷ []) so.steps_are in
+        let of : AreOf W heap (steps_of_all e.call.note.stamp so.taken (heap_as rule K S heap)) =
+        (subst (λ hs. AreOfIn W hs (steps_of_all e.call.note.stamp so.taken (heap_as rule K S heap) ∷ [])) does.0
+        (subst (AreOfIn W e.call.note.heaps) steps (of_world_at limits rule K two meant sites events are before e after is))).0 in
+        subst (IsIn op.operation) (sym (led heap (steps_of_all e.call.note.stamp so.taken (heap_as rule K S heap)) does.0 steps))
+        (taken_in K W world heap e.call.note.stamp so.taken S (heap_as rule K S heap) (record { within = its.within; closed = its.closed; image = refl; heap = refl }) so.are of op (subst (IsIn op) done here) i)
 
     -- and what an image that it merged covers
     merged : (other : HeapImage) (done : Unit {0}) → e.call.note.asked ≡ ToMerge other → e.call.note.answer ≡ Joined (Ok done) → (o : Operation) → IsIn o W → o.heap ≡ other.heap →
@@ -126,6 +135,16 @@ module _ (limits : ℕ → TailLimits) (rule : Rule) (K : ℕ) (two : 2 ≤ K) (
         let off = off_as limits rule K two meant sites events are before e after is (ToMerge other) (Joined (Ok done)) asked answered in
         let does = does_as limits rule K two meant sites events are before e after is (ToMerge other) (Joined (Ok done)) asked answered in
         subst (IsIn o) (sym (led other.heap (Merged e.call.note.stamp other.image ∷ []) does.0 off))
+        (in_left o (covered_by W other.heap other.image) S
+        (in_filter (λ p. (p.heap == other.heap) && has other.image.vector p.site p.n) W o i (rw (eq-eqb o.heap other.heap here, known) refl)))
+
+    -- or took over
+    over : (other : HeapImage) (done : Unit {0}) → e.call.note.asked ≡ ToTakeOver other → e.call.note.answer ≡ TakenOver (Ok done) → (o : Operation) → IsIn o W → o.heap ≡ other.heap →
+        has other.image.vector o.site o.n ≡ true → IsIn o (has_at W e.site (before ++ e ∷ []))
+    over other done asked answered o i here known =
+        let off = off_as limits rule K two meant sites events are before e after is (ToTakeOver other) (TakenOver (Ok done)) asked answered in
+        let does = does_as limits rule K two meant sites events are before e after is (ToTakeOver other) (TakenOver (Ok done)) asked answered in
+        subst (IsIn o) (sym (led other.heap (TookOver e.call.note.stamp other.image ∷ []) does.0 off.1))
         (in_left o (covered_by W other.heap other.image) S
         (in_filter (λ p. (p.heap == other.heap) && has other.image.vector p.site p.n) W o i (rw (eq-eqb o.heap other.heap here, known) refl)))
 
@@ -138,7 +157,9 @@ module _ (limits : ℕ → TailLimits) (rule : Rule) (K : ℕ) (two : 2 ≤ K) (
     converges = converges;
     own = own;
     taken = taken;
+    taken_all = taken_all;
     merged = merged;
+    taken_over = over;
     stays = λ s before between after is o i. stays s before between o i;
     answers = all_answers limits rule K two meant sites events are;
   }

@@ -1,7 +1,8 @@
 -- What calls make: a command the operations of its moves, and any other call none.
 
-use Rattle.std.proofs.Common.{Err, Ok, inl, inr, refl, subst, sym}
-use Rattle.std.specs.Prelude.{List, [], false, if◌then◌else◌, map, slice_index, slice_set, true, ℕ, ◌+◌, ◌==◌, ◌∷◌, ◌≡◌, ◌⊎◌}
+use Rattle.std.proofs.Common.{Err, Ok, ap, inl, inr, refl, subst, sym, ◌∙◌}
+use Rattle.std.specs.Prelude.{List, [], false, if◌then◌else◌, map, slice_index, slice_set, true, ℕ, ◌+◌, ◌++◌, ◌==◌, ◌∷◌, ◌≡◌, ◌⊎◌}
+use Rattle.zq_dots.specs.Placed.{Placed}
 use Rattle.zq_model.specs.Books.{HandedOn, Made, Step}
 use Rattle.zq_journal.specs.Books.{step_of, steps_when}
 use Rattle.zq_journal.specs.declared.since.Since.TheVariants.{Ops, TooOld}
@@ -11,9 +12,11 @@ use Rattle.zq_model.specs.Rule.{Rule}
 use Rattle.zq_model.specs.Sets.{Early, Known, New, Taken, taken_of, vector_of}
 use Rattle.zq_model.specs.Moves.{Move}
 use Rattle.zq_notes.proofs.MadeWorlds.{AllMade, AllMadeIn}
-use Rattle.zq_notes.specs.Notes.{Answer, Asked, Copied, Handed, Joined, Replied, Shown, ToCopy, ToDrain, ToMerge, ToRun, ToShow, ToTake, ToTell, Told}
-use Rattle.zq_notes.specs.Readings.{IsAnswerOf, MayHandOn, moved_in}
-use Rattle.zq_notes.specs.Sites.{made_in_all}
+use Rattle.zq_notes.specs.Notes.{Answer, Asked, Copied, Handed, HandedAll, Joined, Replied, Shown, TakenOver, ToCopy, ToDrain, ToMerge, ToRun, ToShow, ToTake, ToTakeAll, ToTakeOver, ToTell, Told}
+use Rattle.zq_notes.specs.Readings.{IsAnswerOf, MayHandOn, heap_as, moved_in}
+use Rattle.zq_notes.specs.Sites.{made_in, made_in_all}
+use Rattle.zq_shard.specs.Shard.{HeapImage}
+use Rattle.zq_spread.specs.Batches.{heap_after, judged_at, steps_of_all}
 
 all_moved : (K s stamp h : ℕ) (moves : List Move) (v : List ℕ) → AllMade s (moved_in K s stamp h moves v)
 all_moved K s stamp h [] v = tt
@@ -41,6 +44,18 @@ none_taken New stamp o = λ W. refl
 none_taken Known stamp o = λ W. refl
 none_taken Early stamp o = λ W. refl
 
+one_taken : (t : Taken) (stamp : ℕ) (o : Operation) (rest : List Step) → ((W : List Operation) → made_in rest W ≡ W) → (W : List Operation) → made_in (steps_when t stamp o ++ rest) W ≡ W
+one_taken New stamp o rest more = more
+one_taken Known stamp o rest more = more
+one_taken Early stamp o rest more = more
+
+all_taken : (stamp : ℕ) (ops : List Placed) (s : HeapImage) (W : List Operation) → made_in (steps_of_all stamp ops s) W ≡ W
+all_taken stamp [] s W = refl
+all_taken stamp (p ∷ ops) s W = one_taken (judged_at s p) stamp p.operation (steps_of_all stamp ops (heap_after p s)) (all_taken stamp ops (heap_after p s)) W
+
+pub none_in_turn : (stamp : ℕ) (ops : List Placed) (s : HeapImage) (steps : List (List Step)) → steps ≡ steps_of_all stamp ops s ∷ [] → MakeNone steps
+none_in_turn stamp ops s steps is = subst MakeNone (sym is) (all_taken stamp ops s)
+
 none_handed : (stamp : ℕ) (steps : List (List Step)) → MayHandOn stamp steps → MakeNone steps
 none_handed stamp steps (inl is) = none_of steps is
 none_handed stamp steps (inr told) = subst MakeNone (sym told.1) (λ W. refl)
@@ -52,9 +67,14 @@ kinds rule K site S (ToRun command w1 w2) stamp heaps (Replied reply) steps is =
 kinds rule K site S (ToTake op) stamp heaps (Handed (Ok taken)) steps is =
     inr (subst MakeNone (sym is.1) (none_taken (taken_of (vector_of S op.operation.heap) op.operation) stamp op.operation))
 kinds rule K site S (ToTake op) stamp heaps (Handed (Err fault)) steps is = inr (none_of steps is.2)
+kinds rule K site S (ToTakeAll heap ops) stamp heaps (HandedAll answer) steps is =
+    inr (none_in_turn stamp is.3.taken (heap_as rule K S heap) steps (is.2 ∙ ap (λ (l : List Step). l ∷ []) is.3.steps_are))
 kinds rule K site S (ToMerge other) stamp heaps (Joined (Ok done)) steps is =
     inr (subst MakeNone (sym is) (λ W. refl))
 kinds rule K site S (ToMerge other) stamp heaps (Joined (Err fault)) steps is = inr (none_of steps is.1)
+kinds rule K site S (ToTakeOver other) stamp heaps (TakenOver (Ok done)) steps is =
+    inr (subst MakeNone (sym is.1) (λ W. refl))
+kinds rule K site S (ToTakeOver other) stamp heaps (TakenOver (Err fault)) steps is = inr (none_of steps is.1)
 kinds rule K site S (ToTell heap vector) stamp heaps (Told (Ok since)) steps is = inr (none_of steps is.1)
 kinds rule K site S (ToTell heap vector) stamp heaps (Told (Err fault)) steps is = inr (none_of steps is.1)
 kinds rule K site S (ToDrain heap vector most) stamp heaps (Told (Ok (Ops ops))) steps is = inr (none_handed stamp steps is.1)

@@ -5,7 +5,7 @@ use Rattle.std.proofs.lemmas.Bool.{and_parts, cases_eq}
 use Rattle.std.specs.Cmp.Lexicographic.{same_text}
 use Rattle.std.specs.Prelude.{List, [], refl, slice_index, slice_set, true, ℕ, ◌+◌, ◌++◌, ◌<◌, ◌∷◌, ◌≡◌, ◌≤◌, ◌⊎◌}
 use Rattle.zq_model.proofs.NewRecords.{change_is}
-use Rattle.zq_model.specs.Books.{Book, Change, HandedOn, Made, Merged, Recorded, Step, Took, are_steps_over, is_change_over, operation_of}
+use Rattle.zq_model.specs.Books.{Book, Change, HandedOn, Made, Merged, Recorded, Step, Took, TookOver, are_steps_over, is_change_over, operation_of}
 use Rattle.zq_model.proofs.Membership.{in_left, in_right}
 use Rattle.zq_model.proofs.NewOperation.{last_elsewhere, last_here, world_after}
 use Rattle.zq_model.proofs.Worlds.{last_within}
@@ -26,6 +26,7 @@ IsMadeIn o [] = ⊥
 IsMadeIn o (Recorded r ∷ steps) = IsIn o (made_by r.change) ⊎ IsMadeIn o steps
 IsMadeIn o (Merged stamp other ∷ steps) = IsMadeIn o steps
 IsMadeIn o (HandedOn stamp handed ∷ steps) = IsMadeIn o steps
+IsMadeIn o (TookOver stamp other ∷ steps) = IsMadeIn o steps
 
 abbrev pub IsMadeInAll : Operation → List (List Step) → Type 0
 IsMadeInAll o [] = ⊥
@@ -36,6 +37,7 @@ in_more o [] W i = i
 in_more o (Recorded r ∷ steps) W i = in_more o steps (made_by r.change ++ W) (in_right o (made_by r.change) W i)
 in_more o (Merged stamp other ∷ steps) W i = in_more o steps W i
 in_more o (HandedOn stamp handed ∷ steps) W i = in_more o steps W i
+in_more o (TookOver stamp other ∷ steps) W i = in_more o steps W i
 
 pub in_more_all : (o : Operation) (steps : List (List Step)) (W : List Operation) → IsIn o W → IsIn o (made_in_all steps W)
 in_more_all o [] W i = i
@@ -47,6 +49,7 @@ made_there o (Recorded r ∷ steps) W (inl i) = in_more o steps (made_by r.chang
 made_there o (Recorded r ∷ steps) W (inr i) = made_there o steps (made_by r.change ++ W) i
 made_there o (Merged stamp other ∷ steps) W i = made_there o steps W i
 made_there o (HandedOn stamp handed ∷ steps) W i = made_there o steps W i
+made_there o (TookOver stamp other ∷ steps) W i = made_there o steps W i
 
 pub made_there_all : (o : Operation) (steps : List (List Step)) (W : List Operation) → IsMadeInAll o steps → IsIn o (made_in_all steps W)
 made_there_all o [] W i = absurd i
@@ -66,6 +69,7 @@ made_from_where o (Recorded r ∷ steps) W i = elim (made_from_where o steps (ma
 ]
 made_from_where o (Merged stamp other ∷ steps) W i = made_from_where o steps W i
 made_from_where o (HandedOn stamp handed ∷ steps) W i = made_from_where o steps W i
+made_from_where o (TookOver stamp other ∷ steps) W i = made_from_where o steps W i
 
 pub made_from_where_all : (o : Operation) (steps : List (List Step)) (W : List Operation) → IsIn o (made_in_all steps W) → IsIn o W ⊎ IsMadeInAll o steps
 made_from_where_all o [] W i = inl i
@@ -75,7 +79,7 @@ made_from_where_all o (ss ∷ steps) W i = elim (made_from_where_all o steps (ma
 ]
 
 -- what is gathered stays, and what is made is gathered
-gathered_stays : (W : List Operation) (h : ℕ) (o : Operation) (steps : List Step) (S : List Operation) → IsIn o S → IsIn o (gathered_in W h steps S)
+pub gathered_stays : (W : List Operation) (h : ℕ) (o : Operation) (steps : List Step) (S : List Operation) → IsIn o S → IsIn o (gathered_in W h steps S)
 gathered_stays W h o [] S i = i
 gathered_stays W h o (s ∷ steps) S i = gathered_stays W h o steps (brought W h s ++ S) (in_right o (brought W h s) S i)
 
@@ -95,6 +99,7 @@ gathers_made W h o (Recorded r ∷ steps) S (inl i) =
 gathers_made W h o (Recorded r ∷ steps) S (inr i) = gathers_made W h o steps (operation_of r.change ∷ [] ++ S) i
 gathers_made W h o (Merged stamp other ∷ steps) S i = gathers_made W h o steps (brought W h (Merged stamp other) ++ S) i
 gathers_made W h o (HandedOn stamp handed ∷ steps) S i = gathers_made W h o steps S i
+gathers_made W h o (TookOver stamp other ∷ steps) S i = gathers_made W h o steps (brought W h (TookOver stamp other) ++ S) i
 
 -- as many lists of steps as heaps
 abbrev pub AreAsMany : List ℕ → List (List Step) → Type 0
@@ -127,6 +132,7 @@ AllMade s [] = Unit {0}
 AllMade s (Recorded r ∷ steps) = IsMadeBy s r.change × AllMade s steps
 AllMade s (Merged stamp other ∷ steps) = ⊥
 AllMade s (HandedOn stamp handed ∷ steps) = ⊥
+AllMade s (TookOver stamp other ∷ steps) = ⊥
 
 abbrev pub AllMadeIn : ℕ → List (List Step) → Type 0
 AllMadeIn s [] = Unit {0}
@@ -189,6 +195,7 @@ module _ (K s : ℕ) where
       record { world = rest.world; heap = λ o i. elim i [ inl j ↦ one.heap o j | inr j ↦ rest.heap o j ] }
   made_world h (Merged stamp other ∷ steps) a W world over made abreast = absurd made
   made_world h (HandedOn stamp handed ∷ steps) a W world over made abreast = absurd made
+  made_world h (TookOver stamp other ∷ steps) a W world over made abreast = absurd made
 
   legal_at : (h stamp : ℕ) (b : Book) (steps : List Step) → b.heaps ≡ K → b.heap ≡ h → AreOwn stamp b steps → are_steps_over K h b.state steps ≡ true
   legal_at h stamp b steps heaps heap own =

@@ -3,7 +3,7 @@
 use Rattle.std.proofs.Common.{ap, arith, eq-eqb, inl, inr, refl, subst, sym, ◌∙◌}
 use Rattle.std.proofs.lemmas.Bool.{eqb-true}
 use Rattle.std.specs.Prelude.{List, [], false, if◌then◌else◌, length, map, slice_index, slice_set, true, ℕ, ◌+◌, ◌==◌, ◌∷◌, ◌≡◌, ◌≤◌, ◌⊎◌}
-use Rattle.zq_model.specs.Books.{Change, HandedOn, Made, Merged, Recorded, Step, Took, operation_of}
+use Rattle.zq_model.specs.Books.{Change, HandedOn, Made, Merged, Recorded, Step, Took, TookOver, operation_of}
 use Rattle.zq_journal.specs.Books.{step_of}
 use Rattle.zq_model.proofs.Membership.{in_or_not}
 use Rattle.zq_model.specs.Operation.{Operation}
@@ -166,6 +166,7 @@ gathered_from W s h o (Recorded r ∷ steps) S made i = elim (gathered_from W s 
 ]
 gathered_from W s h o (Merged stamp other ∷ steps) S made i = absurd made
 gathered_from W s h o (HandedOn stamp handed ∷ steps) S made i = absurd made
+gathered_from W s h o (TookOver stamp other ∷ steps) S made i = absurd made
 
 pub gathered_from_all : (W : List Operation) (s : ℕ) (o : Operation) (heaps : List ℕ) (steps : List (List Step)) (S : List Operation) → AllMadeIn s steps → IsIn o (gathered_by W heaps steps S) →
     IsIn o S ⊎ IsMadeInAll o steps

@@ -8,16 +8,18 @@ use Rattle.zq_dots.specs.Rule.{rule_of}
 use Rattle.zq_model.specs.Books.{Book, Step}
 use Rattle.zq_model.specs.Reach.{begun, worked as done_by}
 use Rattle.zq_journal.specs.declared.faults.MergeFault.{MergeFault}
+use Rattle.zq_journal.specs.declared.faults.TakeOverFault.{TakeOverFault}
 use Rattle.zq_journal.specs.declared.faults.TakeFault.{TakeFault}
 use Rattle.zq_journal.specs.declared.since.Since.{Since}
 use Rattle.zq_model.specs.Heaps.{heap_of}
 use Rattle.zq_notes.specs.Calls.{HasNote, HeldNone, HeldNoneIn}
 use Rattle.zq_notes.specs.Does.{AreHeapsFor, Does, IsOfHeaps, IsTold}
-use Rattle.zq_notes.specs.Notes.{Answer, Asked, Copied, Handed, Joined, Replied, Shown, ToCopy, ToDrain, ToMerge, ToRun, ToShow, ToTake, ToTell, Told}
+use Rattle.zq_notes.specs.Notes.{Answer, Asked, Copied, Handed, HandedAll, Joined, Replied, Shown, TakenOver, ToCopy, ToDrain, ToMerge, ToRun, ToShow, ToTake, ToTakeAll, ToTakeOver, ToTell, Told}
 use Rattle.zq_semantics.specs.Doing.{drawn}
 use Rattle.zq_shard.specs.Shard.{HeapImage}
 use Rattle.zq_shard.specs.declared.taken.Taken.{Taken}
-use Rattle.zq_spread.specs.Answers.{IsAsked, IsCopied, IsDrained, IsMerged, IsShown, IsSince, IsTaken, read_of}
+use Rattle.zq_spread.specs.Answers.{IsAsked, IsCopied, IsDrained, IsMerged, IsShown, IsSince, IsTaken, IsTakenOver, read_of}
+use Rattle.zq_spread.specs.Batches.{IsTakenAll}
 use Rattle.zq_spread.specs.Calls.{AreWorkedIn, HasSeenBook, IsCall, IsLikeSite, IsOfSite, heaps_of}
 use Rattle.zq_spread.specs.Dispatch.{DoesCommand, DoesNear, IsCalled, IsCalledIn, IsCommand, all_heaps}
 use Rattle.zq_spread.specs.declared.faults.ReadFault.{ReadFault}
@@ -25,6 +27,7 @@ use Rattle.zq_spread.specs.declared.faults.ReadFault.TheVariants as unread
 use Rattle.zq_spread.specs.declared.locked_heap.LockedHeap.{LockedHeap}
 use Rattle.zq_spread.specs.declared.pass.Pass.{Pass}
 use Rattle.zq_spread.specs.declared.site.Site.{Site}
+use Rattle.zq_spread.specs.declared.taken_all.TakenAll.{TakenAll}
 use Rattle.zq_words.specs.Command.{Command}
 use Rattle.zq_words.specs.Heaps as named
 use Rattle.zq_words.specs.Words.{Word}
@@ -64,9 +67,17 @@ module _ (site : Site) (p : ℕ) (before after : Pass) where
   pub takes : (op : Placed) (result : Result Taken TakeFault) → IsOfSite site op → IsCall (IsTaken after.stamp op result) before after (op.operation.heap ∷ []) → HasNote site p before after (ToTake op) (Handed result)
   takes op result of call = noted (IsTaken after.stamp op result) (ToTake op) (op.operation.heap ∷ []) (Handed result) (λ found steps is. (refl, is, of_heaps op of)) call
 
+  pub takes_all : (heap : ℕ) (ops : List Placed) (answer : TakenAll) → IsCall (IsTakenAll after.stamp ops answer) before after (heap ∷ []) → HasNote site p before after (ToTakeAll heap ops) (HandedAll answer)
+  takes_all heap ops answer call = noted (IsTakenAll after.stamp ops answer) (ToTakeAll heap ops) (heap ∷ []) (HandedAll answer) (λ found steps is. (refl, is)) call
+
   pub merges : (other : HeapImage) (result : Result (Unit {0}) MergeFault) → IsLikeSite site other → IsCall (IsMerged after.stamp other result) before after (other.heap ∷ []) → HasNote site p before after (ToMerge other) (Joined result)
   merges other result like call =
       noted (IsMerged after.stamp other result) (ToMerge other) (other.heap ∷ []) (Joined result) (λ found steps is. (refl, is, record { heaps = like.heaps; ruled = like.rule })) call
+
+  pub takes_over : (other : HeapImage) (result : Result (Unit {0}) TakeOverFault) → IsLikeSite site other → IsCall (IsTakenOver after.stamp other result) before after (other.heap ∷ []) →
+      HasNote site p before after (ToTakeOver other) (TakenOver result)
+  takes_over other result like call =
+      noted (IsTakenOver after.stamp other result) (ToTakeOver other) (other.heap ∷ []) (TakenOver result) (λ found steps is. (refl, is, record { heaps = like.heaps; ruled = like.rule })) call
 
   pub copies : (heap : ℕ) (result : Result HeapImage ReadFault) → IsCall (IsCopied result) before after (heap ∷ []) → HasNote site p before after (ToCopy heap) (Copied result)
   copies heap result call = noted (IsCopied result) (ToCopy heap) (heap ∷ []) (Copied result) (λ found steps is. (refl, is)) call

@@ -1,13 +1,15 @@
 -- Sites whose calls are given in one order: what they made is one world, and each has a closed set of it.
 
-use Rattle.std.proofs.Common.{ap, arith, inl, inr, subst, suc, sym, zero, ◌∙◌}
+use Rattle.std.proofs.Common.{ap, ap₂, arith, inl, inr, subst, suc, sym, zero, ◌∙◌}
 use Rattle.std.proofs.lemmas.Bool.{cases_eq, eq-eqb, ne_eqb}
 use Rattle.std.proofs.lemmas.List.{append-nil, append_assoc, length-append, map-append}
 use Rattle.std.specs.Prelude.{List, [], if◌then◌else◌, false, length, map, refl, true, ℕ, ◌+◌, ◌++◌, ◌==◌, ◌∷◌, ◌≡◌, ◌≤◌, ◌⊎◌}
-use Rattle.zq_model.specs.Books.{Change, HandedOn, Made, Merged, Recorded, Step, Took, operation_of}
+use Rattle.zq_model.specs.Books.{Change, HandedOn, Made, Merged, Recorded, Step, Took, TookOver, operation_of}
 use Rattle.zq_model.proofs.Dots.{last_above, last_below}
-use Rattle.zq_model.proofs.Worlds.{last_within, vector_is, world_part}
-use Rattle.zq_model.specs.Image.{Image}
+use Rattle.zq_model.proofs.JoinImages.{join-union}
+use Rattle.zq_model.proofs.Membership.{in_union}
+use Rattle.zq_model.proofs.Worlds.{closed_union, last_within, vector_is, world_part}
+use Rattle.zq_model.specs.Image.{Image, join}
 use Rattle.zq_model.specs.Limits.{TailLimits}
 use Rattle.zq_model.specs.Operation.{Operation}
 use Rattle.zq_model.specs.Rule.{Rule}
@@ -146,7 +148,7 @@ module _ (limits : ℕ → TailLimits) (rule : Rule) (K : ℕ) where
         of_change (Made o) made sent = made o (inl refl)
         of_change (Took o) made sent = more o (in_more_all o note.steps (made_of before) sent)
 
-        of_each : (h : ℕ) (steps : List Step) → ((o : Operation) → IsMadeIn o steps → IsIn o X) → AreBrought limits rule K before h steps → AreOf X h steps
+        of_each : (h : ℕ) (steps : List Step) → ((o : Operation) → IsMadeIn o steps → IsIn o X) → AreBrought limits rule K before e.site h steps → AreOf X h steps
         of_each h [] made brought = tt
         of_each h (Recorded r ∷ steps) made brought = (of_change r.change (λ o i. made o (inl i)) brought.0, of_each h steps (λ o i. made o (inr i)) brought.1)
         of_each h (Merged stamp other ∷ steps) made brought =
@@ -162,8 +164,25 @@ module _ (limits : ℕ → TailLimits) (rule : Rule) (K : ℕ) where
               of_each h steps made brought.1,
             )
         of_each h (HandedOn stamp handed ∷ steps) made brought = (tt, of_each h steps made brought.1)
+        of_each h (TookOver stamp other ∷ steps) made brought =
+            let from = brought.0 in
+            let stood : IsStanding from.1 = earlier from.1 from.2 from.3 in
+            let now : IsStanding before = earlier before [] (sym (append-nil before)) in
+            let its = stood.images from.0 in
+            let mine = now.images e.site in
+            let S : List Operation = now.has e.site in
+            let T : List Operation = stood.has from.0 in
+            let inside : (o : Operation) → IsIn o (S ++ T) → IsIn o (made_of before) = λ o i. elim (in_union o S T i) [ inl j ↦ mine.within o j | inr j ↦ in_later o before from.1 from.2 from.3 (its.within o j) ] in (
+              (
+                S ++ T,
+                closed_union S T mine.closed its.closed,
+                (λ o i. more o (in_more_all o note.steps (made_of before) (inside o i))),
+                from.4 ∙ ap₂ join (mine.each h).state (its.each h).state ∙ join-union K S T h (world_part K (S ++ T) (made_of before) inside now.world) mine.closed its.closed,
+              ),
+              of_each h steps made brought.1,
+            )
 
-        of_all : (heaps : List ℕ) (steps : List (List Step)) → ((o : Operation) → IsMadeInAll o steps → IsIn o X) → AreBroughtIn limits rule K before heaps steps → AreOfIn X heaps steps
+        of_all : (heaps : List ℕ) (steps : List (List Step)) → ((o : Operation) → IsMadeInAll o steps → IsIn o X) → AreBroughtIn limits rule K before e.site heaps steps → AreOfIn X heaps steps
         of_all [] steps made brought = tt
         of_all (h ∷ heaps) [] made brought = tt
         of_all (h ∷ heaps) (ss ∷ steps) made brought = (of_each h ss (λ o i. made o (inl i)) brought.0, of_all heaps steps (λ o i. made o (inr i)) brought.1)
@@ -326,6 +345,10 @@ module _ (limits : ℕ → TailLimits) (rule : Rule) (K : ℕ) where
           )
           | inr apart ↦ subst (AreOfWorld (made_of events)) (sym (notes_apart s e rest apart)) more
         ]
+
+    pub of_world_at : (before : List Event) (e : Event) (after : List Event) → events ≡ before ++ e ∷ after → AreOfIn (made_of events) e.call.note.heaps e.call.note.steps
+    of_world_at before e after is =
+        of_event two meant sites before e (are before e after is) (λ past later cut. stands_at past (later ++ e ∷ after) (cut_in before past later e after is cut)) (made_of events) (made_by_then before e after is)
 
     pub all_answers : (before : List Event) (e : Event) (after : List Event) → events ≡ before ++ e ∷ after → IsReadOff rule K e.site (has_at (made_of events) e.site before) e.call.note
     all_answers before e after is =

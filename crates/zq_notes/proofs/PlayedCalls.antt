@@ -1,6 +1,6 @@
 -- A call of a running site is an event of the run of a world.
 
-use Rattle.std.proofs.Common.{ap, arith, inl, inr, lt-ltb, refl, subst, sym, ◌∙◌}
+use Rattle.std.proofs.Common.{ap, ap₂, arith, inl, inr, lt-ltb, refl, subst, sym, ◌∙◌}
 use Rattle.std.proofs.lemmas.Bool.{and_from, cases_lt, or_from}
 use Rattle.std.proofs.lemmas.List.{append_assoc, length-append}
 use Rattle.std.specs.Prelude.{Err, List, None, Ok, Some, [], false, if◌then◌else◌, length, map, pos, slice_get, take, true, ℕ, ◌+◌, ◌++◌, ◌<◌, ◌∷◌, ◌≡◌, ◌≤◌}
@@ -9,11 +9,12 @@ use Rattle.zq_model.specs.Books as book
 use Rattle.zq_model.specs.Books.{Step, Took}
 use Rattle.zq_journal.specs.Books.{step_of, steps_when}
 use Rattle.zq_journal.specs.declared.since.Since.TheVariants.{Ops, TooOld}
+use Rattle.zq_model.proofs.JoinImages.{join-union}
 use Rattle.zq_model.proofs.Membership.{in_left, in_right, in_union}
 use Rattle.zq_model.proofs.OfHeaps.{in_heap_too, of_heap}
 use Rattle.zq_model.proofs.Same.{image_of-same}
-use Rattle.zq_model.proofs.Worlds.{world_part}
-use Rattle.zq_model.specs.Image.{Image, image_of}
+use Rattle.zq_model.proofs.Worlds.{closed_union, world_part}
+use Rattle.zq_model.specs.Image.{Image, image_of, join}
 use Rattle.zq_model.specs.Limits.{TailLimits}
 use Rattle.zq_model.specs.Operation.{Operation}
 use Rattle.zq_model.specs.Queue.{queue_of}
@@ -22,21 +23,23 @@ use Rattle.zq_model.specs.Sets as sets
 use Rattle.zq_model.specs.Sets.{AreSame, IsClosed, IsHeaps, IsIn, IsWorld, in_heap, taken_of, vector_of}
 use Rattle.zq_model.specs.Lent.{queues_of}
 use Rattle.zq_model.specs.Moves.{Move, Queues}
-use Rattle.zq_notes.proofs.Alike.{IsAlike, IsNext, after_none, after_one, closed_same, place_of, same_by, steps_of-append, take_front}
+use Rattle.zq_notes.proofs.Alike.{HasMoment, IsAlike, IsNext, after_none, after_one, closed_same, place_of, same_by, same_through, sets_next, stands, steps_of-append, take_front}
 use Rattle.zq_notes.proofs.GatheredSets.{AreOnce, covered_is, covered_parts, covers_it}
 use Rattle.zq_notes.proofs.HeldOnce.{once_of}
-use Rattle.zq_notes.proofs.MadeKinds.{all_moved_in}
+use Rattle.zq_notes.proofs.MadeKinds.{all_moved_in, none_in_turn}
 use Rattle.zq_notes.proofs.MadeWorlds.{AllMadeIn, IsMadeInAll, as_many, gathered_stays_all, gathers_made_all, in_more_all, made_from_where_all, made_there_all}
 use Rattle.zq_notes.proofs.MoveSteps.{AreHome, all_home, all_steps, from_all_steps, gathered_from_all, no_more, to_all_steps}
-use Rattle.zq_notes.proofs.OfSites.{all_world, does_as, images_by, made_by_then, note_over, notes_apart, off_as}
+use Rattle.zq_notes.proofs.OfSites.{all_world, does_as, images_by, in_later, made_by_then, note_over, notes_apart, off_as}
+use Rattle.zq_notes.proofs.PlayedTakes.{ArePossible, IsTakenRun, mid_first, taken_run}
 use Rattle.zq_notes.proofs.ReadOff.{AreScoresMeant, alone, queues_are, run_found}
 use Rattle.zq_notes.proofs.RunMoves.{IsAt, IsMoved, all_done, apart_is, counts_with, done_all, here_is, moved, next_within, not_full, not_worn, numbers_with, operations}
 use Rattle.zq_notes.proofs.SaidCommands.{all_made, for_drawn, for_other, for_rest, is_near, not_ping, popping, popping_asks, popping_plans, popping_reads, some_there}
+use Rattle.zq_notes.proofs.TakenInTurn.{gathers_alike}
 use Rattle.zq_notes.specs.Does.{AreHeapsFor, Does}
 use Rattle.zq_notes.specs.Gathered.{AreImagesOf, covered_by, gathered, gathered_by, gathered_in}
-use Rattle.zq_notes.specs.Notes.{Answer, Asked, Books, Copied, Handed, Joined, Note, Replied, Shown, ToCopy, ToDrain, ToMerge, ToRun, ToShow, ToTake, ToTell, Told}
-use Rattle.zq_notes.specs.Played.{IsAskedAs, IsNone, IsPlayed, IsPlayedAs, itself, popped}
-use Rattle.zq_notes.specs.Readings.{IsAnswerOf, IsRunOver, MayHandOn, moved_in}
+use Rattle.zq_notes.specs.Notes.{Answer, Asked, Books, Copied, Handed, HandedAll, Joined, Note, Replied, Shown, TakenOver, ToCopy, ToDrain, ToMerge, ToRun, ToShow, ToTake, ToTakeAll, ToTakeOver, ToTell, Told}
+use Rattle.zq_notes.specs.Played.{ArePlayedAs, AreTakes, IsAskedAs, IsNone, IsPlayed, IsPlayedAs, itself, popped}
+use Rattle.zq_notes.specs.Readings.{IsAnswerOf, IsRunOver, MayHandOn, heap_as, moved_in}
 use Rattle.zq_notes.specs.Sites.{AreBroughtIn, AreEventsOf, Event, IsBrought, books_at, has_at, made_in, made_in_all, made_of, notes_at}
 use Rattle.zq_notes.specs.Uncut.{AreRunnable, IsInFull, IsRunnable, IsThere, IsUncut, steps_in, steps_of}
 use Rattle.zq_semantics.specs.Plan.{Plan, is_there, plan_of}
@@ -46,13 +49,15 @@ use Rattle.zq_semantics.specs.Doing.{Done, done, drawn, is_ping, queues_for}
 use Rattle.zq_semantics.specs.Events as runs
 use Rattle.zq_semantics.specs.Events.{Do, Merge, Run, Take, after_take, after_taken, answer_taken, answer_to, answer_to_take, is_blocked, is_possible, judged, set_at, state_after}
 use Rattle.zq_semantics.specs.Reading.{heaps_in, queues_over}
-use Rattle.zq_semantics.specs.Runs.{IsEvent, after_event}
+use Rattle.zq_semantics.specs.Runs.{AreEvents, IsEvent, after_event, run_on}
 use Rattle.zq_semantics.specs.State.{State, after_moves, counted, is_full, is_worn, next_stamp, standing}
 use Rattle.zq_shard.specs.Shard.{HeapImage}
 use Rattle.zq_shard.specs.Taken.{answer_of}
 use Rattle.zq_shard.specs.declared.taken.Taken as code
+use Rattle.zq_spread.specs.Batches.{IsTakenSoFar, steps_of_all}
 use Rattle.zq_spread.specs.Dispatch.{HasNear}
 use Rattle.zq_spread.specs.declared.site.Site.{Site}
+use Rattle.zq_spread.specs.declared.taken_all.TakenAll.{TakenAll}
 use Rattle.zq_words.specs.Command.{Command, Zpopmin, Zpopnear, command_of}
 use Rattle.zq_words.specs.Heaps.{heaps_of}
 use Rattle.zq_words.specs.Words.{Word}
@@ -60,9 +65,53 @@ use Rattle.zq_words.specs.declared.heaps.Heaps.{Heaps}
 use Rattle.zq_words.specs.declared.heaps.Heaps.TheVariants.{All, Near, NoHeap, One}
 
 -- what one call comes to in a run that stands as the sites do before it
-pub data IsOne (rule : Rule) (K count : ℕ) (W : List Operation) (before : List Event) (e : Event) (r : Run) : Type 0 where
-  no_event : IsNone e.call.note.asked → IsAlike W (before ++ e ∷ []) r → IsOne rule K count W before e r
-  event : (p : runs.Event) → IsPlayed rule K r e p → is_possible K count r p ≡ true → IsEvent p → IsAlike W (before ++ e ∷ []) (after_event rule K r p) → IsOne rule K count W before e r
+pub record IsOne (rule : Rule) (K count : ℕ) (W : List Operation) (before : List Event) (e : Event) (r : Run) : Type 0 where
+  pub events : List runs.Event
+  pub played : IsPlayed rule K r e events
+  pub possible : ArePossible rule K count r events
+  pub each : AreEvents events
+  pub alike : IsAlike W (before ++ e ∷ []) (run_on rule K events r)
+
+none_played : (rule : Rule) (K : ℕ) (r : Run) (s : ℕ) (heaps : List ℕ) (asked : Asked) (answer : Answer) → IsNone asked → ArePlayedAs rule K r s heaps asked answer []
+none_played rule K r s heaps (ToRun command w1 w2) answer none = absurd none
+none_played rule K r s heaps (ToTake op) answer none = absurd none
+none_played rule K r s heaps (ToTakeAll heap ops) answer none = absurd none
+none_played rule K r s heaps (ToMerge other) answer none = absurd none
+none_played rule K r s heaps (ToTakeOver other) answer none = absurd none
+none_played rule K r s heaps (ToTell heap vector) answer none = none
+none_played rule K r s heaps (ToCopy heap) answer none = none
+none_played rule K r s heaps (ToShow heap) answer none = none
+none_played rule K r s heaps (ToDrain heap vector most) answer none = none
+
+one_played : (rule : Rule) (K : ℕ) (r : Run) (s : ℕ) (heaps : List ℕ) (asked : Asked) (answer : Answer) (p : runs.Event) → IsPlayedAs rule K r s heaps asked answer p → ArePlayedAs rule K r s heaps asked answer (p ∷ [])
+one_played rule K r s heaps (ToRun command w1 w2) answer p is = is
+one_played rule K r s heaps (ToTake op) answer p is = is
+one_played rule K r s heaps (ToTakeAll heap ops) answer p is = absurd is
+one_played rule K r s heaps (ToMerge other) answer p is = is
+one_played rule K r s heaps (ToTakeOver other) answer p is = is
+one_played rule K r s heaps (ToTell heap vector) answer p is = is
+one_played rule K r s heaps (ToCopy heap) answer p is = is
+one_played rule K r s heaps (ToShow heap) answer p is = is
+one_played rule K r s heaps (ToDrain heap vector most) answer p is = is
+
+no_event : {rule : Rule} {K count : ℕ} {W : List Operation} {before : List Event} {e : Event} {r : Run} → IsNone e.call.note.asked → IsAlike W (before ++ e ∷ []) r → IsOne rule K count W before e r
+no_event {rule = rule} {K = K} {e = e} {r = r} none stands = record {
+  events = [];
+  played = none_played rule K r e.site e.call.note.heaps e.call.note.asked e.call.note.answer none;
+  possible = tt;
+  each = tt;
+  alike = stands;
+}
+
+event : {rule : Rule} {K count : ℕ} {W : List Operation} {before : List Event} {e : Event} {r : Run} (p : runs.Event) → IsPlayedAs rule K r e.site e.call.note.heaps e.call.note.asked e.call.note.answer p →
+    is_possible K count r p ≡ true → IsEvent p → IsAlike W (before ++ e ∷ []) (after_event rule K r p) → IsOne rule K count W before e r
+event {rule = rule} {K = K} {e = e} {r = r} p is possible request stands = record {
+  events = p ∷ [];
+  played = one_played rule K r e.site e.call.note.heaps e.call.note.asked e.call.note.answer p is;
+  possible = (possible, tt);
+  each = (request, tt);
+  alike = stands;
+}
 
 -- words that ask for what the event of a call asks, and a plan that is that of the call
 pub record IsSaid (rule : Rule) (K : ℕ) (S : List Operation) (w1 w2 : ℕ) (heaps : List ℕ) (command : Command) (plan : Plan) : Type 0 where
@@ -73,6 +122,11 @@ pub record IsSaid (rule : Rule) (K : ℕ) (S : List Operation) (w1 w2 : ℕ) (he
   pub fits : IsAskedAs rule K S w1 w2 heaps command said
   pub ping : is_ping said ≡ false
   pub plans : plan_of said (queues_for rule K S w1 w2 said) ≡ plan
+
+in_front : (p : Placed) (xs ys : List Placed) → IsIn p xs → IsIn p (xs ++ ys)
+in_front p [] ys i = absurd i
+in_front p (x ∷ xs) ys (inl same) = inl same
+in_front p (x ∷ xs) ys (inr there) = inr (in_front p xs ys there)
 
 -- from whom the run merges what a set has
 pub record HasSource (count : ℕ) (r : Run) (T : List Operation) : Type 0 where
@@ -250,6 +304,76 @@ module _ (limits : ℕ → TailLimits) (rule : Rule) (K count : ℕ) (two : 2 �
           (and_from _ _ (lt-ltb _ _ own.site) (lt-ltb _ _ place.2)) tt
           (after_one W before e r alike (after_taken K st s o t) (next_taken t off_take.1) take_event rule K now)
 
+    -- ---- a list of them
+
+    module _ (heap : ℕ) (ops : List Placed) (answer : TakenAll) (asked : n.asked ≡ ToTakeAll heap ops) (answered : n.answer ≡ HandedAll answer) where
+      does_all : Does rule K s n.stamp (ToTakeAll heap ops) n.heaps (HandedAll answer) (map books n.heaps) n.steps
+      does_all = does_as limits rule K two meant sites events are before e after is (ToTakeAll heap ops) (HandedAll answer) asked answered
+
+      off_all : IsAnswerOf rule K s S (ToTakeAll heap ops) n.stamp n.heaps (HandedAll answer) n.steps
+      off_all = off_as limits rule K two meant sites events are before e after is (ToTakeAll heap ops) (HandedAll answer) asked answered
+
+      so : IsTakenSoFar n.stamp ops answer (heap_as rule K S heap) off_all.0 off_all.1
+      so = off_all.3
+
+      abbrev x : HeapImage
+      x = heap_as rule K S heap
+
+      abbrev own_steps : List Step
+      own_steps = steps_of_all n.stamp so.taken x
+
+      steps_all : n.steps ≡ own_steps ∷ []
+      steps_all = off_all.2 ∙ ap (λ (l : List Step). l ∷ []) so.steps_are
+
+      number_all : steps_in n.steps ≡ length own_steps
+      number_all = let all : steps_in n.steps ≡ length own_steps + 0 = ap steps_in steps_all in omega (arith, all)
+
+      front_all : take answer.taken ops ≡ so.taken
+      front_all = (λ k. take (so.number k) (so.split k)) ∙ take_front so.taken so.left
+
+      sent_all : (p : Placed) → IsIn p ops → IsIn p.operation (made_of before)
+      sent_all = subst (IsThere K before) asked own.asked
+
+      run_all : IsTakenRun rule K count W world before r alike s heap n.stamp own.site (λ o i. in_later o events before (e ∷ after) is i) so.taken (st.sets s) x 0 r
+      run_all =
+          taken_run rule K count W world before r alike s heap n.stamp own.site (λ o i. in_later o events before (e ∷ after) is i) so.taken (st.sets s) x 0 r
+          (mid_first rule K count W world before r alike s heap n.stamp own.site (λ o i. in_later o events before (e ∷ after) is i))
+          (record { within = inside; closed = closed; image = image_is heap; heap = refl }) so.are
+          (λ p i. sent_all p (subst (IsIn p) (sym so.split) (in_front p so.taken so.left i)))
+          (let few = room in let number = number_all in omega (arith, few, number))
+
+      abbrev q : Run
+      q = run_on rule K run_all.events r
+
+      next_all : IsNext W before e st q.now
+      next_all =
+          let mid = run_all.mid in
+          let number = number_all in
+          record {
+            here = same_by (q.now.sets s) _ _ (subst (λ X. AreSame X (gathered_in W heap own_steps S)) (sym mid.here) (gathers_alike W heap own_steps (st.sets s) S (alike.sets s))) (sym (gathers heap own_steps does_all.0 steps_all));
+            others = mid.others;
+            made = same_by q.now.made (made_of before) _ (subst (λ X. AreSame X (made_of before)) (sym mid.made) alike.made) (sym (none_in_turn n.stamp so.taken x n.steps steps_all (made_of before)));
+            stamps = λ a b. let low = mid.stamps a b in omega (arith, low, number);
+            counts = λ a b. let low = mid.counts a b in omega (arith, low, number);
+          }
+
+      takes_all : IsOne rule K count W before e r
+      takes_all =
+          let mid = run_all.mid in
+          let last : HasMoment W q (before ++ e ∷ []) = record {
+            moment = mid.moment;
+            there = mid.there;
+            sets = λ t. same_through _ (q.now.sets t) _ (mid.at t) (sets_next W before e r alike q.now next_all t);
+          } in
+          record {
+            events = run_all.events;
+            played = named_so (λ a b. ArePlayedAs rule K r s n.heaps a b run_all.events) n.asked (ToTakeAll heap ops) n.answer (HandedAll answer) asked answered
+                (subst (λ l. AreTakes rule K r s l run_all.events) (sym front_all) run_all.takes);
+            possible = run_all.possible;
+            each = run_all.each;
+            alike = stands W before e r alike q.now next_all q refl mid.earlier last;
+          }
+
     -- ---- a merge
 
     module _ (other : HeapImage) (finished : Unit {0}) (asked : n.asked ≡ ToMerge other) (answered : n.answer ≡ Joined (Ok finished)) where
@@ -262,10 +386,10 @@ module _ (limits : ℕ → TailLimits) (rule : Rule) (K count : ℕ) (two : 2 �
       off_merge : IsAnswerOf rule K s S (ToMerge other) n.stamp n.heaps (Joined (Ok finished)) n.steps
       off_merge = off_as limits rule K two meant sites events are before e after is (ToMerge other) (Joined (Ok finished)) asked answered
 
-      brought : IsBrought limits rule K before h (book.Merged n.stamp other.image)
+      brought : IsBrought limits rule K before s h (book.Merged n.stamp other.image)
       brought =
-          (subst (λ hs. AreBroughtIn limits rule K before hs ((book.Merged n.stamp other.image ∷ []) ∷ [])) does_merge.0
-          (subst (AreBroughtIn limits rule K before n.heaps) off_merge (are before e after is).brought)).0.0
+          (subst (λ hs. AreBroughtIn limits rule K before s hs ((book.Merged n.stamp other.image ∷ []) ∷ [])) does_merge.0
+          (subst (AreBroughtIn limits rule K before s n.heaps) off_merge (are before e after is).brought)).0.0
 
       abbrev past : List Event
       past = brought.1
@@ -344,6 +468,119 @@ module _ (limits : ℕ → TailLimits) (rule : Rule) (K count : ℕ) (two : 2 �
           (and_from _ _ (lt-ltb _ _ own.site) (and_from _ _ (lt-ltb _ _ source.below) (and_from _ _ (lt-ltb _ _ heap_low) (lt-ltb _ _ source.there)))) tt
           (after_one W before e r alike (counted st s h stamp st.made T_now)
           (recorded h (book.Merged n.stamp other.image ∷ []) T_now does_merge.0 off_merge refl merged_same refl) merge_event rule K now)
+
+    -- ---- a heap in the place of the site's own
+
+    module _ (other : HeapImage) (finished : Unit {0}) (asked : n.asked ≡ ToTakeOver other) (answered : n.answer ≡ TakenOver (Ok finished)) where
+      abbrev at_over : ℕ
+      at_over = other.heap
+
+      does_over : Does rule K s n.stamp (ToTakeOver other) n.heaps (TakenOver (Ok finished)) (map books n.heaps) n.steps
+      does_over = does_as limits rule K two meant sites events are before e after is (ToTakeOver other) (TakenOver (Ok finished)) asked answered
+
+      off_over : IsAnswerOf rule K s S (ToTakeOver other) n.stamp n.heaps (TakenOver (Ok finished)) n.steps
+      off_over = off_as limits rule K two meant sites events are before e after is (ToTakeOver other) (TakenOver (Ok finished)) asked answered
+
+      brought_over : IsBrought limits rule K before s at_over (book.TookOver n.stamp other.image)
+      brought_over =
+          (subst (λ hs. AreBroughtIn limits rule K before s hs ((book.TookOver n.stamp other.image ∷ []) ∷ [])) does_over.0
+          (subst (AreBroughtIn limits rule K before s n.heaps) off_over.1 (are before e after is).brought)).0.0
+
+      abbrev past_over : List Event
+      past_over = brought_over.1
+
+      abbrev T_over : List Operation
+      T_over = has_at W brought_over.0 past_over
+
+      cut_over : events ≡ past_over ++ (brought_over.2 ++ e ∷ after)
+      cut_over = is ∙ ap (λ l. l ++ e ∷ after) brought_over.3 ∙ append_assoc past_over brought_over.2 (e ∷ after)
+
+      theirs_over : AreImagesOf rule K W T_over (books_at limits rule K brought_over.0 past_over)
+      theirs_over = images_by limits rule K two meant sites events are brought_over.0 past_over (brought_over.2 ++ e ∷ after) cut_over
+
+      -- what the site has and the other one had
+      both_inside : (p : Operation) → IsIn p (S ++ T_over) → IsIn p W
+      both_inside p i = elim (in_union p S T_over i) [ inl j ↦ images.within p j | inr j ↦ theirs_over.within p j ]
+
+      both_closed : IsClosed (S ++ T_over)
+      both_closed = closed_union S T_over images.closed theirs_over.closed
+
+      both_world : IsWorld K (S ++ T_over)
+      both_world = world_part K (S ++ T_over) W both_inside world
+
+      joined_was : other.image ≡ join (image_of S at_over) (image_of T_over at_over)
+      joined_was = brought_over.4 ∙ ap₂ join (images.each at_over).state (theirs_over.each at_over).state
+
+      image_over : other.image ≡ image_of (S ++ T_over) at_over
+      image_over = joined_was ∙ join-union K S T_over at_over both_world images.closed theirs_over.closed
+
+      source_over : HasSource count r T_over
+      source_over = elim (cases_lt brought_over.0 count) [
+        | inl low ↦ (
+            let shorter : length before ≡ length past_over + length brought_over.2 = ap length brought_over.3 ∙ length-append past_over brought_over.2 in
+            let at = alike.past (length past_over) (omega (arith, shorter)) in
+            let same : take (length past_over) before ≡ past_over = ap (take (length past_over)) brought_over.3 ∙ take_front past_over brought_over.2 in
+            record {
+              from = brought_over.0;
+              moment = at.moment;
+              below = low;
+              there = at.there;
+              same = subst (λ p. AreSame (set_at r at.moment brought_over.0) (has_at W brought_over.0 p)) same (at.sets brought_over.0);
+            })
+        | inr far ↦ (
+            let at = alike.past 0 (omega arith) in
+            let none : T_over ≡ [] = ap (λ notes. gathered W notes []) (nobody brought_over.0 far [] past_over (brought_over.2 ++ e ∷ after) cut_over) in
+            record {
+              from = s;
+              moment = at.moment;
+              below = own.site;
+              there = at.there;
+              same = same_by (set_at r at.moment s) [] T_over (at.sets s) (sym none);
+            })
+      ]
+
+      abbrev F_over : List Operation
+      F_over = set_at r source_over.moment source_over.from
+
+      abbrev over_event : runs.Event
+      over_event = Merge s source_over.from at_over source_over.moment
+
+      covers_over : covered_by W at_over other.image ≡ covered_by W at_over (image_of (S ++ T_over) at_over)
+      covers_over = ap (covered_by W at_over) image_over
+
+      over_same : AreSame (st.sets s ++ in_heap at_over F_over) (covered_by W at_over other.image ++ S)
+      over_same = record {
+        forth = λ p i. elim (in_union p (st.sets s) (in_heap at_over F_over) i) [
+          | inl j ↦ in_right p (covered_by W at_over other.image) S ((alike.sets s).forth p j)
+          | inr j ↦ (
+              let both_parts = of_heap at_over F_over p j in
+              in_left p (covered_by W at_over other.image) S (subst (IsIn p) (sym covers_over) (covers_it K W world at_over (S ++ T_over) both_closed both_inside p (in_right p S T_over (source_over.same.forth p both_parts.0)) both_parts.1)))
+        ];
+        back = λ p i. elim (in_union p (covered_by W at_over other.image) S i) [
+          | inl j ↦ (
+              let k = subst (IsIn p) covers_over j in
+              let there = (covered_parts K W world at_over (image_of (S ++ T_over) at_over) p k).1 in
+              elim (in_union p S T_over (covered_is K W world at_over (S ++ T_over) both_closed both_inside p k)) [
+                | inl own_too ↦ in_left p (st.sets s) (in_heap at_over F_over) ((alike.sets s).back p own_too)
+                | inr theirs_too ↦ in_right p (st.sets s) (in_heap at_over F_over) (in_heap_too at_over F_over p (source_over.same.back p theirs_too) there)
+              ])
+          | inr j ↦ in_left p (st.sets s) (in_heap at_over F_over) ((alike.sets s).back p j)
+        ];
+      }
+
+      takes_over : IsOne rule K count W before e r
+      takes_over =
+          let T_now : List Operation = st.sets s ++ in_heap at_over F_over in
+          let now : state_after rule K r over_event ≡ counted st s at_over stamp st.made T_now = ap (λ b. if b then st else counted st s at_over stamp st.made T_now) (unblocked at_over) in
+          let theirs_now : image_of T_over at_over ≡ image_of F_over at_over = sym (image_of-same K F_over T_over at_over source_over.same (world_part K F_over W (λ p i. theirs_over.within p (source_over.same.forth p i)) world)) in
+          let mine_now : image_of S at_over ≡ image_of (st.sets s) at_over = sym (image_is at_over) in
+          let image : other.image ≡ join (image_of (st.sets s) at_over) (image_of F_over at_over) = joined_was ∙ ap₂ join mine_now theirs_now in
+          let heap_low : at_over < K = subst (IsThere K before) asked own.asked in
+          event over_event
+          (named_so (λ q a. IsPlayedAs rule K r s n.heaps q a over_event) n.asked (ToTakeOver other) n.answer (TakenOver (Ok finished)) asked answered (refl, refl, image))
+          (and_from _ _ (lt-ltb _ _ own.site) (and_from _ _ (lt-ltb _ _ source_over.below) (and_from _ _ (lt-ltb _ _ heap_low) (lt-ltb _ _ source_over.there)))) tt
+          (after_one W before e r alike (counted st s at_over stamp st.made T_now)
+          (recorded at_over (book.TookOver n.stamp other.image ∷ []) T_now does_over.0 off_over.1 refl over_same refl) over_event rule K now)
 
     -- ---- a command
 
@@ -549,9 +786,13 @@ module _ (limits : ℕ → TailLimits) (rule : Rule) (K count : ℕ) (two : 2 �
         by (ToTake op) (Handed (Ok taken)) asked answered = takes op taken asked answered
         by (ToTake op) (Handed (Err fault)) asked answered =
             absurd (subst (λ a. IsUncut rule (ToTake op) a (map books n.heaps) n.steps) answered (subst (λ q. IsUncut rule q n.answer (map books n.heaps) n.steps) asked own.uncut))
+        by (ToTakeAll heap ops) (HandedAll answer) asked answered = takes_all heap ops answer asked answered
         by (ToMerge other) (Joined (Ok finished)) asked answered = merges other finished asked answered
         by (ToMerge other) (Joined (Err fault)) asked answered =
             absurd (subst (λ a. IsUncut rule (ToMerge other) a (map books n.heaps) n.steps) answered (subst (λ q. IsUncut rule q n.answer (map books n.heaps) n.steps) asked own.uncut))
+        by (ToTakeOver other) (TakenOver (Ok finished)) asked answered = takes_over other finished asked answered
+        by (ToTakeOver other) (TakenOver (Err fault)) asked answered =
+            absurd (subst (λ a. IsUncut rule (ToTakeOver other) a (map books n.heaps) n.steps) answered (subst (λ q. IsUncut rule q n.answer (map books n.heaps) n.steps) asked own.uncut))
         by (ToTell heap vector) (Told (Ok since)) asked answered =
             reads_books heap (does_as limits rule K two meant sites events are before e after is (ToTell heap vector) (Told (Ok since)) asked answered).0
             (off_as limits rule K two meant sites events are before e after is (ToTell heap vector) (Told (Ok since)) asked answered).1 (subst IsNone (sym asked) tt)

@@ -2,24 +2,25 @@
 
 use Rattle.std.proofs.Common.{ap, arith, refl, subst, suc, sym, zero, ◌∙◌}
 use Rattle.std.proofs.lemmas.List.{append-nil, append_assoc, length-append, take_all}
-use Rattle.std.specs.Prelude.{List, None, Option, Some, [], if◌then◌else◌, length, take, ℕ, ◌+◌, ◌++◌, ◌∷◌, ◌≡◌, ◌≤◌}
+use Rattle.std.specs.Prelude.{List, None, [], length, take, ℕ, ◌+◌, ◌++◌, ◌∷◌, ◌≡◌, ◌≤◌}
 use Rattle.zq_model.specs.Limits.{TailLimits}
 use Rattle.zq_model.specs.Operation.{Operation}
 use Rattle.zq_model.specs.Rule.{Rule}
 use Rattle.zq_model.specs.Sets.{AreSame}
 use Rattle.zq_notes.proofs.Alike.{HasMoment, IsAlike, same_self, take_front}
-use Rattle.zq_notes.proofs.PlayedCalls.{IsOne, event, no_event, one_call}
+use Rattle.zq_notes.proofs.PlayedCalls.{IsOne, one_call}
+use Rattle.zq_notes.proofs.PlayedTakes.{all_events, none_missing, runs_on}
 use Rattle.zq_notes.proofs.ReadOff.{AreScoresMeant}
 use Rattle.zq_notes.specs.Played.{ArePlayed, IsPlay, events_in}
 use Rattle.zq_notes.specs.Sites.{AreEventsOf, Event, has_at, made_of}
 use Rattle.zq_notes.specs.Uncut.{AreRunnable}
 use Rattle.zq_semantics.specs.Events as runs
 use Rattle.zq_semantics.specs.Events.{Run}
-use Rattle.zq_semantics.specs.Runs.{AreEvents, after_event, missing_from, run, run_on, start}
+use Rattle.zq_semantics.specs.Runs.{AreEvents, missing_from, run, run_on, start}
 use Rattle.zq_spread.specs.declared.site.Site.{Site}
 
 -- the rest of the calls, in a run that stands as the sites do before them
-pub record IsRest (rule : Rule) (K count : ℕ) (W : List Operation) (before rest : List Event) (r : Run) (plays : List (Option runs.Event)) : Type 0 where
+pub record IsRest (rule : Rule) (K count : ℕ) (W : List Operation) (before rest : List Event) (r : Run) (plays : List (List runs.Event)) : Type 0 where
   pub calls : ArePlayed rule K r rest plays
   pub there : (i : ℕ) → missing_from rule K count i (events_in plays) r ≡ None
   pub each : AreEvents (events_in plays)
@@ -60,54 +61,39 @@ module _ (rule : Rule) (K count : ℕ) (W : List Operation) (before : List Event
   further k q stands = subst (λ l. IsAlike W l q) (append_assoc before (e ∷ []) (take k rest)) stands
 
   longer : IsOne rule K count W before e r →
-      ((q : Run) → IsAlike W (before ++ e ∷ []) q → (more : List (Option runs.Event)) × IsRest rule K count W (before ++ e ∷ []) rest q more) →
-      (more : List (Option runs.Event)) × IsRest rule K count W before (e ∷ rest) r more
-  longer (no_event idle stands) on =
-      let more = on r stands in
+      ((q : Run) → IsAlike W (before ++ e ∷ []) q → (more : List (List runs.Event)) × IsRest rule K count W (before ++ e ∷ []) rest q more) →
+      (more : List (List runs.Event)) × IsRest rule K count W before (e ∷ rest) r more
+  longer one on =
+      let next : Run = run_on rule K one.events r in
+      let more = on next one.alike in
       let is = more.1 in (
-        None ∷ more.0,
+        one.events ∷ more.0,
         record {
-          calls = (idle, is.calls);
-          there = is.there;
-          each = is.each;
+          calls = (one.played, is.calls);
+          there = none_missing rule K count one.events (events_in more.0) r one.possible is.there;
+          each = all_events one.events (events_in more.0) one.each is.each;
           alike = each_of more.0 is.alike;
         },
       )
     where
-      each_of : (more : List (Option runs.Event)) → ((k : ℕ) → k ≤ length rest → IsAlike W ((before ++ e ∷ []) ++ take k rest) (run_on rule K (events_in (take k more)) r)) →
-          (k : ℕ) → k ≤ length (e ∷ rest) → IsAlike W (before ++ take k (e ∷ rest)) (run_on rule K (events_in (take k (None ∷ more))) r)
+      each_of : (more : List (List runs.Event)) → ((k : ℕ) → k ≤ length rest → IsAlike W ((before ++ e ∷ []) ++ take k rest) (run_on rule K (events_in (take k more)) (run_on rule K one.events r))) →
+          (k : ℕ) → k ≤ length (e ∷ rest) → IsAlike W (before ++ take k (e ∷ rest)) (run_on rule K (events_in (take k (one.events ∷ more))) r)
       each_of more alike_on zero few = first_of
-      each_of more alike_on (suc k) few = further k (run_on rule K (events_in (take k more)) r) (alike_on k (omega (arith, few)))
-  longer (event p played possible is_event stands) on =
-      let next : Run = after_event rule K r p in
-      let more = on next stands in
-      let is = more.1 in (
-        Some p ∷ more.0,
-        record {
-          calls = (played, is.calls);
-          there = λ i. ap (λ b. if b then missing_from rule K count (i + 1) (events_in more.0) next else Some i) possible ∙ is.there (i + 1);
-          each = (is_event, is.each);
-          alike = each_of next more.0 is.alike refl;
-        },
-      )
-    where
-      each_of : (next : Run) (more : List (Option runs.Event)) → ((k : ℕ) → k ≤ length rest → IsAlike W ((before ++ e ∷ []) ++ take k rest) (run_on rule K (events_in (take k more)) next)) → next ≡ after_event rule K r p →
-          (k : ℕ) → k ≤ length (e ∷ rest) → IsAlike W (before ++ take k (e ∷ rest)) (run_on rule K (events_in (take k (Some p ∷ more))) r)
-      each_of next more alike_on same zero few = first_of
-      each_of next more alike_on same (suc k) few =
-          further k (run_on rule K (events_in (take k more)) (after_event rule K r p)) (subst (λ q. IsAlike W ((before ++ e ∷ []) ++ take k rest) (run_on rule K (events_in (take k more)) q)) same (alike_on k (omega (arith, few))))
+      each_of more alike_on (suc k) few =
+          further k (run_on rule K (one.events ++ events_in (take k more)) r)
+          (subst (IsAlike W ((before ++ e ∷ []) ++ take k rest)) (sym (runs_on rule K one.events (events_in (take k more)) r)) (alike_on k (omega (arith, few))))
 
 module _ (limits : ℕ → TailLimits) (rule : Rule) (K count : ℕ) (two : 2 ≤ K) (meant : AreScoresMeant) (sites : ℕ → Site) (events : List Event) (are : AreEventsOf limits rule K sites events) (runnable : AreRunnable limits rule K count events) where
   abbrev W : List Operation
   W = made_of events
 
-  play_on : (before rest : List Event) → events ≡ before ++ rest → (r : Run) → IsAlike W before r → (plays : List (Option runs.Event)) × IsRest rule K count W before rest r plays
+  play_on : (before rest : List Event) → events ≡ before ++ rest → (r : Run) → IsAlike W before r → (plays : List (List runs.Event)) × IsRest rule K count W before rest r plays
   play_on before [] is r alike = ([], ended rule K count W before r alike)
   play_on before (e ∷ rest) is r alike =
       longer rule K count W before e rest r alike (one_call limits rule K count two meant sites events are runnable before e rest is r alike)
       (λ q stands. play_on (before ++ e ∷ []) rest (is ∙ sym (append_assoc before (e ∷ []) rest)) q stands)
 
-  pub plays : (played : List (Option runs.Event)) × IsPlay rule K count events played
+  pub plays : (played : List (List runs.Event)) × IsPlay rule K count events played
   plays =
       let all = play_on [] events refl start (started W) in
       let is = all.1 in
@@ -125,14 +111,13 @@ module _ (limits : ℕ → TailLimits) (rule : Rule) (K count : ℕ) (two : 2 �
       )
     where
       -- as many as the calls
-      as_long : (calls : List Event) (r : Run) (played : List (Option runs.Event)) → ArePlayed rule K r calls played → length played ≡ length calls
+      as_long : (calls : List Event) (r : Run) (played : List (List runs.Event)) → ArePlayed rule K r calls played → length played ≡ length calls
       as_long [] r [] are = refl
       as_long [] r (p ∷ played) are = absurd are
       as_long (e ∷ calls) r [] are = absurd are
-      as_long (e ∷ calls) r (None ∷ played) are = ap suc (as_long calls r played are.1)
-      as_long (e ∷ calls) r (Some p ∷ played) are = ap suc (as_long calls (after_event rule K r p) played are.1)
+      as_long (e ∷ calls) r (events ∷ played) are = ap suc (as_long calls (run_on rule K events r) played are.1)
 
-      made_all : (played : List (Option runs.Event)) → IsAlike W (take (length events) events) (run_on rule K (events_in (take (length events) played)) start) → ArePlayed rule K start events played →
+      made_all : (played : List (List runs.Event)) → IsAlike W (take (length events) events) (run_on rule K (events_in (take (length events) played)) start) → ArePlayed rule K start events played →
           AreSame (run rule K (events_in played)).now.made (made_of events)
       made_all played at calls =
           let same : take (length events) played ≡ played = take_all (length events) played (let long = as_long events start played calls in omega (arith, long)) in

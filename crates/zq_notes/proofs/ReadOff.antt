@@ -7,10 +7,12 @@ use Rattle.zq_dots.specs.Placed.{Placed}
 use Rattle.zq_model.specs.Books.{Book, Step, operations_of}
 use Rattle.zq_model.specs.Reach.{begun}
 use Rattle.zq_journal.specs.Answers.{IfOps}
-use Rattle.zq_journal.specs.Books.{steps_when}
+use Rattle.zq_journal.specs.Books.{state_of, steps_when}
 use Rattle.zq_journal.specs.Records.{placed_at}
 use Rattle.zq_journal.specs.declared.faults.MergeFault.{MergeFault}
 use Rattle.zq_journal.specs.declared.faults.MergeFault.TheVariants as unjoined
+use Rattle.zq_journal.specs.declared.faults.TakeOverFault.{TakeOverFault}
+use Rattle.zq_journal.specs.declared.faults.TakeOverFault.TheVariants as kept
 use Rattle.zq_journal.specs.declared.faults.TakeFault.{TakeFault}
 use Rattle.zq_journal.specs.declared.faults.TakeFault.TheVariants as unheld
 use Rattle.zq_journal.specs.declared.since.Since.{Since}
@@ -37,10 +39,10 @@ use Rattle.zq_model.specs.Moves.{Move, Queues, score_in}
 use Rattle.zq_notes.specs.Does.{AreHeapsFor, Does, IsTold}
 use Rattle.zq_notes.proofs.Tails.{in_tail_set, tail_begun}
 use Rattle.zq_notes.specs.Gathered.{AreImagesOf, HasTailOf}
-use Rattle.zq_notes.specs.Notes.{Answer, Asked, Books, Copied, Handed, Joined, Replied, Shown, ToCopy, ToDrain, ToMerge, ToRun, ToShow, ToTake, ToTell, Told}
+use Rattle.zq_notes.specs.Notes.{Answer, Asked, Books, Copied, Handed, HandedAll, Joined, Replied, Shown, TakenOver, ToCopy, ToDrain, ToMerge, ToRun, ToShow, ToTake, ToTakeAll, ToTakeOver, ToTell, Told}
 use Rattle.zq_notes.proofs.HomeMoves.{at_home}
 use Rattle.zq_notes.proofs.MovedSteps.{moves_are}
-use Rattle.zq_notes.specs.Readings.{AreFirstLacked, AreLacked, IsAnswerOf, IsCutAt, IsOrShort, IsRunOf, IsRunOff, IsRunOver, MayHandOn, cut_off, in_full, is_list, moved_in, over_all, over_drawn}
+use Rattle.zq_notes.specs.Readings.{AreFirstLacked, AreLacked, IsAnswerOf, IsCutAt, IsOrShort, IsRunOf, IsRunOff, IsRunOver, MayHandOn, cut_off, heap_as, in_full, is_list, moved_in, over_all, over_drawn}
 use Rattle.zq_semantics.proofs.FewMembers.{few_members}
 use Rattle.zq_semantics.proofs.Lifted.{cut_same, not_popping, takes_same}
 use Rattle.zq_semantics.proofs.Narrow.{plans_same}
@@ -51,11 +53,13 @@ use Rattle.zq_semantics.specs.Run.{ForCopies, ForMoves, ForReply, IsReadShort, I
 use Rattle.zq_semantics.specs.Reading.{heaps_in, is_reading, queues_over}
 use Rattle.zq_shard.specs.Shard.{HeapImage}
 use Rattle.zq_shard.specs.declared.taken.Taken.{Taken}
-use Rattle.zq_spread.specs.Answers.{AreHandings, IsCopied, IsDrained, IsFirstSince, IsMerged, IsShown, IsSince, IsTaken, unhanded_of}
+use Rattle.zq_spread.specs.Answers.{AreHandings, IsCopied, IsDrained, IsFirstSince, IsMerged, IsShown, IsSince, IsTaken, IsTakenOver, unhanded_of}
+use Rattle.zq_spread.specs.Batches.{IsTakenAll, IsTakenSoFar}
 use Rattle.zq_spread.specs.Commanded.{IsAnswered}
 use Rattle.zq_spread.specs.Dispatch.{HasNear}
 use Rattle.zq_spread.specs.declared.faults.ReadFault.{ReadFault}
 use Rattle.zq_spread.specs.declared.faults.ReadFault.TheVariants as unread
+use Rattle.zq_spread.specs.declared.taken_all.TakenAll.{TakenAll}
 use Rattle.zq_words.specs.Command.{Command, Del, Ping, Zadd, ZaddIncr, Zcard, Zcount, Zincrby, Zpopmin, Zpopnear, Zrange, Zrank, Zrem, Zrevrank, Zscore}
 use Rattle.zq_words.specs.Heaps.{heaps_of}
 use Rattle.zq_words.specs.Words.{Word}
@@ -235,6 +239,15 @@ module _ (named : AreScoresMeant) (rule : Rule) (K : ℕ) (W S : List Operation)
   take_off site stamp op heaps (Err unheld.NoMemory) (ss ∷ []) is = (inr refl, sym (ap (λ v. taken_of v op.operation) (vector_at op.operation.heap)) ∙ is.0, ap (λ (l : List Step). l ∷ []) is.1)
   take_off site stamp op heaps (Err fault) (ss ∷ more ∷ steps) is = absurd is
 
+  take_all_off : (site stamp heap : ℕ) (ops : List Placed) (heaps : List ℕ) (answer : TakenAll) (steps : List (List Step)) → IsTakenAll stamp ops answer (map books (heap ∷ [])) steps →
+      IsAnswerOf rule K site S (ToTakeAll heap ops) stamp heaps (HandedAll answer) steps
+  take_all_off site stamp heap ops heaps answer [] is = absurd is
+  take_all_off site stamp heap ops heaps answer (ss ∷ []) is =
+      let its = are.each heap in
+      let same : state_of (books heap) ≡ heap_as rule K S heap = (λ i. record { heap = its.heap i; heaps = its.heaps i; rule = its.ruled i; image = its.state i }) in
+      ((books heap).count, ss, refl, subst (λ (s : HeapImage). IsTakenSoFar stamp ops answer s (books heap).count ss) same is)
+  take_all_off site stamp heap ops heaps answer (ss ∷ more ∷ steps) is = absurd is
+
   merge_off : (site stamp : ℕ) (other : HeapImage) (heaps : List ℕ) (result : Result (Unit {0}) MergeFault) (steps : List (List Step)) → IsMerged stamp other result (map books (other.heap ∷ [])) steps →
       IsAnswerOf rule K site S (ToMerge other) stamp heaps (Joined result) steps
   merge_off site stamp other heaps (Ok done) [] is = absurd is
@@ -246,6 +259,18 @@ module _ (named : AreScoresMeant) (rule : Rule) (K : ℕ) (W S : List Operation)
   merge_off site stamp other heaps (Err unjoined.Worn) (ss ∷ []) is = (inl refl, ap (λ (l : List Step). l ∷ []) is.1)
   merge_off site stamp other heaps (Err unjoined.NoMemory) (ss ∷ []) is = (inr refl, ap (λ (l : List Step). l ∷ []) is.1)
   merge_off site stamp other heaps (Err fault) (ss ∷ more ∷ steps) is = absurd is
+
+  take_over_off : (site stamp : ℕ) (other : HeapImage) (heaps : List ℕ) (result : Result (Unit {0}) TakeOverFault) (steps : List (List Step)) → IsTakenOver stamp other result (map books (other.heap ∷ [])) steps →
+      IsAnswerOf rule K site S (ToTakeOver other) stamp heaps (TakenOver result) steps
+  take_over_off site stamp other heaps (Ok done) [] is = absurd is
+  take_over_off site stamp other heaps (Ok done) (ss ∷ []) is = (sym (ap (covers other.image.vector) (vector_at other.heap)) ∙ is.0, ap (λ (l : List Step). l ∷ []) is.2)
+  take_over_off site stamp other heaps (Ok done) (ss ∷ more ∷ steps) is = absurd is
+  take_over_off site stamp other heaps (Err fault) [] is = absurd is
+  take_over_off site stamp other heaps (Err kept.WrongHeap) (ss ∷ []) is = absurd is
+  take_over_off site stamp other heaps (Err kept.WrongRule) (ss ∷ []) is = absurd is
+  take_over_off site stamp other heaps (Err kept.Worn) (ss ∷ []) is = (inl refl, ap (λ (l : List Step). l ∷ []) is.1)
+  take_over_off site stamp other heaps (Err kept.Lacks) (ss ∷ []) is = (inr (refl, sym (ap (covers other.image.vector) (vector_at other.heap)) ∙ is.0), ap (λ (l : List Step). l ∷ []) is.1)
+  take_over_off site stamp other heaps (Err fault) (ss ∷ more ∷ steps) is = absurd is
 
   show_off : (site stamp heap : ℕ) (heaps : List ℕ) (vector : List ℕ) (steps : List (List Step)) → IsShown vector (map books (heap ∷ [])) steps →
       IsAnswerOf rule K site S (ToShow heap) stamp heaps (Shown vector) steps
@@ -341,8 +366,12 @@ module _ (named : AreScoresMeant) (rule : Rule) (K : ℕ) (W S : List Operation)
   read_off site stamp (ToRun command w1 w2) heaps (Replied reply) steps some is = run_off site stamp command w1 w2 heaps reply steps some is.0 is.1
   read_off site stamp (ToTake op) heaps (Handed result) steps some is =
       take_off site stamp op heaps result steps (subst (λ hs. IsTaken stamp op result (map books hs) steps) is.0 is.1)
+  read_off site stamp (ToTakeAll heap ops) heaps (HandedAll answer) steps some is =
+      take_all_off site stamp heap ops heaps answer steps (subst (λ hs. IsTakenAll stamp ops answer (map books hs) steps) is.0 is.1)
   read_off site stamp (ToMerge other) heaps (Joined result) steps some is =
       merge_off site stamp other heaps result steps (subst (λ hs. IsMerged stamp other result (map books hs) steps) is.0 is.1)
+  read_off site stamp (ToTakeOver other) heaps (TakenOver result) steps some is =
+      take_over_off site stamp other heaps result steps (subst (λ hs. IsTakenOver stamp other result (map books hs) steps) is.0 is.1)
   read_off site stamp (ToShow heap) heaps (Shown vector) steps some is =
       show_off site stamp heap heaps vector steps (subst (λ hs. IsShown vector (map books hs) steps) is.0 is.1)
   read_off site stamp (ToCopy heap) heaps (Copied result) steps some is =

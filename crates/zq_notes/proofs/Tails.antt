@@ -3,7 +3,7 @@
 use Rattle.std.proofs.Common.{ap, arith, inl, inr, refl, subst, sym, take-append-drop, ◌∙◌}
 use Rattle.std.proofs.lemmas.List.{map-append}
 use Rattle.std.specs.Prelude.{List, [], drop, take, ℕ, ◌++◌, ◌∷◌, ◌≡◌, ◌⊎◌}
-use Rattle.zq_model.specs.Books.{Book, Change, Record, merged, operation_of, operations_of, recorded, steps_image, steps_of}
+use Rattle.zq_model.specs.Books.{Book, Change, Record, merged, operation_of, operations_of, recorded, steps_image, steps_of, taken_over}
 use Rattle.zq_model.specs.Reach.{begun, cut_of}
 use Rattle.zq_model.proofs.Membership.{in_left, in_right, in_union}
 use Rattle.zq_model.proofs.TailSets.{tail_closed, tail_replayed}
@@ -141,3 +141,6 @@ module _ (K : ℕ) (W : List Operation) (world : IsWorld K W) (h : ℕ) where
 
   pub tail_merged : (T : List Operation) (b : Book) (stamp : ℕ) (other : Image) → IsClosed T → join b.state other ≡ image_of T h → HasTailOf T h (merged b stamp other)
   tail_merged T b stamp other closed image = all_in_base T h (merged b stamp other) closed image refl
+
+  pub tail_taken_over : (T : List Operation) (b : Book) (stamp : ℕ) (other : Image) → IsClosed T → other ≡ image_of T h → HasTailOf T h (taken_over b stamp other)
+  tail_taken_over T b stamp other closed image = all_in_base T h (taken_over b stamp other) closed image refl

@@ -8,10 +8,11 @@ use Rattle.zq_model.specs.Reach.{begun}
 use Rattle.zq_journal.specs.declared.since.Since.{Since}
 use Rattle.zq_model.specs.Heaps.{heap_of}
 use Rattle.zq_model.specs.Rule.{Rule}
-use Rattle.zq_notes.specs.Notes.{Answer, Asked, Copied, Handed, Joined, Replied, Shown, ToCopy, ToDrain, ToMerge, ToRun, ToShow, ToTake, ToTell, Told}
+use Rattle.zq_notes.specs.Notes.{Answer, Asked, Copied, Handed, HandedAll, Joined, Replied, Shown, TakenOver, ToCopy, ToDrain, ToMerge, ToRun, ToShow, ToTake, ToTakeAll, ToTakeOver, ToTell, Told}
 use Rattle.zq_semantics.specs.Doing.{drawn}
 use Rattle.zq_shard.specs.Shard.{HeapImage}
-use Rattle.zq_spread.specs.Answers.{IsCopied, IsDrained, IsMerged, IsShown, IsSince, IsTaken, read_of}
+use Rattle.zq_spread.specs.Answers.{IsCopied, IsDrained, IsMerged, IsShown, IsSince, IsTaken, IsTakenOver, read_of}
+use Rattle.zq_spread.specs.Batches.{IsTakenAll}
 use Rattle.zq_spread.specs.Commanded.{IsAnswered}
 use Rattle.zq_spread.specs.Dispatch.{HasNear}
 use Rattle.zq_spread.specs.declared.faults.ReadFault.{ReadFault}
@@ -56,8 +57,12 @@ Does rule K site stamp (ToRun command w1 w2) heaps (Replied reply) found steps =
     × IsAnswered rule site stamp command reply found steps
 Does rule K site stamp (ToTake op) heaps (Handed result) found steps =
     (heaps ≡ op.operation.heap ∷ []) × IsTaken stamp op result found steps × IsOfHeaps K op
+Does rule K site stamp (ToTakeAll heap ops) heaps (HandedAll answer) found steps =
+    (heaps ≡ heap ∷ []) × IsTakenAll stamp ops answer found steps
 Does rule K site stamp (ToMerge other) heaps (Joined result) found steps = (heaps ≡ other.heap ∷ [])
     × IsMerged stamp other result found steps × IsLike rule K other
+Does rule K site stamp (ToTakeOver other) heaps (TakenOver result) found steps =
+    (heaps ≡ other.heap ∷ []) × IsTakenOver stamp other result found steps × IsLike rule K other
 Does rule K site stamp (ToTell heap vector) heaps (Told result) found steps = (heaps ≡ heap ∷ [])
     × IsTold stamp vector result found steps
 Does rule K site stamp (ToCopy heap) heaps (Copied result) found steps = (heaps ≡ heap ∷ [])

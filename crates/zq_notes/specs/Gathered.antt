@@ -1,7 +1,8 @@
--- The operations that a site gathers: what it makes and takes, and what merged images cover.
+-- The operations that a site gathers: what it makes and takes, and what the images cover that it
+-- merges or takes over.
 
 use Rattle.std.specs.Prelude.{List, [], filter, ℕ, ◌&&◌, ◌++◌, ◌==◌, ◌∷◌, ◌≡◌}
-use Rattle.zq_model.specs.Books.{Book, HandedOn, Merged, Recorded, Step, operation_of, operations_of}
+use Rattle.zq_model.specs.Books.{Book, HandedOn, Merged, Recorded, Step, TookOver, operation_of, operations_of}
 use Rattle.zq_model.specs.Image.{Image, image_of}
 use Rattle.zq_model.specs.Operation.{Operation, has}
 use Rattle.zq_model.specs.Rule.{Rule}
@@ -18,6 +19,7 @@ abbrev pub brought : List Operation → ℕ → Step → List Operation
 brought W h (Recorded r) = operation_of r.change ∷ []
 brought W h (Merged stamp other) = covered_by W h other
 brought W h (HandedOn stamp handed) = []
+brought W h (TookOver stamp other) = covered_by W h other
 
 -- the set after steps in the heap h, the oldest first
 abbrev pub gathered_in : List Operation → ℕ → List Step → List Operation → List Operation
@@ -36,13 +38,17 @@ abbrev pub gathered : List Operation → List Note → List Operation → List O
 gathered W [] S = S
 gathered W (n ∷ notes) S = gathered W notes (gathered_by W n.heaps n.steps S)
 
--- what the step records is of the world, and so is what it merges: the image of a closed set of it
+-- what the step records is of the world, and so is what it merges or takes over: the image of a
+-- closed set of it
 abbrev pub IsOf : List Operation → ℕ → Step → Type 0
 IsOf W h (Recorded r) = IsIn (operation_of r.change) W
 IsOf W h (Merged stamp other) =
     (U : List Operation) × IsClosed U × ((o : Operation) → IsIn o U → IsIn o W)
     × (other ≡ image_of U h)
 IsOf W h (HandedOn stamp handed) = Unit {0}
+IsOf W h (TookOver stamp other) =
+    (U : List Operation) × IsClosed U × ((o : Operation) → IsIn o U → IsIn o W)
+    × (other ≡ image_of U h)
 
 abbrev pub AreOf : List Operation → ℕ → List Step → Type 0
 AreOf W h [] = Unit {0}

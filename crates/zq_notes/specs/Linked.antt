@@ -1,6 +1,6 @@
 -- What is so of the calls of sites that are linked.
 
-use Rattle.std.specs.Prelude.{List, Ok, [], map, true, ℕ, ◌++◌, ◌∷◌, ◌≡◌}
+use Rattle.std.specs.Prelude.{List, Ok, [], map, take, true, ℕ, ◌++◌, ◌∷◌, ◌≡◌}
 use Rattle.zq_dots.specs.Placed.{Placed}
 use Rattle.zq_model.specs.Limits.{TailLimits}
 use Rattle.zq_model.specs.Operation.{Operation, has}
@@ -8,7 +8,7 @@ use Rattle.zq_model.specs.Rule.{Rule}
 use Rattle.zq_model.specs.Sets.{AreSame, Early, IsIn, IsWorld}
 use Rattle.zq_model.specs.Lent.{queues_of}
 use Rattle.zq_notes.specs.Gathered.{AreImagesOf}
-use Rattle.zq_notes.specs.Notes.{Books, Handed, Joined, ToMerge, ToTake}
+use Rattle.zq_notes.specs.Notes.{Books, Handed, HandedAll, Joined, TakenOver, ToMerge, ToTake, ToTakeAll, ToTakeOver}
 use Rattle.zq_notes.specs.Readings.{IsReadOff}
 use Rattle.zq_notes.specs.Sites.{Event, books_at, empty_books, has_at, made_of, notes_at}
 use Rattle.zq_notes.specs.Thread.{IsOneThread}
@@ -16,6 +16,7 @@ use Rattle.zq_semantics.specs.Reading.{heaps_in}
 use Rattle.zq_shard.specs.Shard.{HeapImage}
 use Rattle.zq_shard.specs.Taken.{answer_of}
 use Rattle.zq_shard.specs.declared.taken.Taken.{Taken}
+use Rattle.zq_spread.specs.declared.taken_all.TakenAll.{TakenAll}
 
 -- the books of two sites of K heaps hold the same: each heap's image, and so the queue of each key
 pub record HoldSame (rule : Rule) (K : ℕ) (first second : Books) : Type 0 where
@@ -54,11 +55,25 @@ pub record IsLinked (limits : ℕ → TailLimits) (rule : Rule) (K : ℕ) (event
       e.call.note.answer ≡ Handed (Ok answer) → (answer_of answer ≡ Early → ⊥) →
       IsIn op.operation (made_of events) →
       IsIn op.operation (has_at (made_of events) e.site (before ++ e ∷ []))
+  -- each that it took of a list
+  pub taken_all : (before : List Event) (e : Event) (after : List Event) →
+      events ≡ before ++ e ∷ after → (heap : ℕ) (ops : List Placed) (answer : TakenAll) →
+      e.call.note.asked ≡ ToTakeAll heap ops →
+      e.call.note.answer ≡ HandedAll answer → (op : Placed) → IsIn op (take answer.taken ops) →
+      IsIn op.operation (made_of events) →
+      IsIn op.operation (has_at (made_of events) e.site (before ++ e ∷ []))
   -- what an image that it merged covers
   pub merged : (before : List Event) (e : Event) (after : List Event) →
       events ≡ before ++ e ∷ after → (other : HeapImage) (done : Unit {0}) →
       e.call.note.asked ≡ ToMerge other →
       e.call.note.answer ≡ Joined (Ok done) → (o : Operation) → IsIn o (made_of events) →
+      o.heap ≡ other.heap → has other.image.vector o.site o.n ≡ true →
+      IsIn o (has_at (made_of events) e.site (before ++ e ∷ []))
+  -- or took over
+  pub taken_over : (before : List Event) (e : Event) (after : List Event) →
+      events ≡ before ++ e ∷ after → (other : HeapImage) (done : Unit {0}) →
+      e.call.note.asked ≡ ToTakeOver other →
+      e.call.note.answer ≡ TakenOver (Ok done) → (o : Operation) → IsIn o (made_of events) →
       o.heap ≡ other.heap → has other.image.vector o.site o.n ≡ true →
       IsIn o (has_at (made_of events) e.site (before ++ e ∷ []))
   -- and what it had: no call loses an operation

@@ -5,10 +5,12 @@ use Rattle.zq_dots.specs.Placed.{Placed}
 use Rattle.zq_model.specs.Books.{Book, Step}
 use Rattle.zq_journal.specs.declared.faults.MergeFault.{MergeFault}
 use Rattle.zq_journal.specs.declared.faults.TakeFault.{TakeFault}
+use Rattle.zq_journal.specs.declared.faults.TakeOverFault.{TakeOverFault}
 use Rattle.zq_journal.specs.declared.since.Since.{Since}
 use Rattle.zq_shard.specs.Shard.{HeapImage}
 use Rattle.zq_shard.specs.declared.taken.Taken.{Taken}
 use Rattle.zq_spread.specs.declared.faults.ReadFault.{ReadFault}
+use Rattle.zq_spread.specs.declared.taken_all.TakenAll.{TakenAll}
 use Rattle.zq_words.specs.Command.{Command}
 use Rattle.zq_words.specs.Words.{Word}
 
@@ -18,8 +20,12 @@ pub data Asked : Type 0 where
   ToRun : (command : Command) → (w1 w2 : ℕ) → Asked
   -- to take an operation of another site
   ToTake : (op : Placed) → Asked
+  -- to take operations of other sites in a heap, one after the other
+  ToTakeAll : (heap : ℕ) → (ops : List Placed) → Asked
   -- to merge a heap of another site
   ToMerge : (other : HeapImage) → Asked
+  -- to take a heap in the place of its own
+  ToTakeOver : (other : HeapImage) → Asked
   -- to tell what a peer of this vector lacks of a heap
   ToTell : (heap : ℕ) → (vector : List ℕ) → Asked
   -- to copy a heap
@@ -33,7 +39,9 @@ pub data Asked : Type 0 where
 pub data Answer : Type 0 where
   Replied : (reply : Word) → Answer
   Handed : (result : Result Taken TakeFault) → Answer
+  HandedAll : (answer : TakenAll) → Answer
   Joined : (result : Result (Unit {0}) MergeFault) → Answer
+  TakenOver : (result : Result (Unit {0}) TakeOverFault) → Answer
   Told : (result : Result Since ReadFault) → Answer
   Copied : (result : Result HeapImage ReadFault) → Answer
   Shown : (vector : List ℕ) → Answer

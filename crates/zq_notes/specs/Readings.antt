@@ -11,16 +11,18 @@ use Rattle.zq_journal.specs.declared.faults.MergeFault.{MergeFault}
 use Rattle.zq_journal.specs.declared.faults.MergeFault.TheVariants as unmerged
 use Rattle.zq_journal.specs.declared.faults.TakeFault.{TakeFault}
 use Rattle.zq_journal.specs.declared.faults.TakeFault.TheVariants as untaken
+use Rattle.zq_journal.specs.declared.faults.TakeOverFault.{TakeOverFault}
+use Rattle.zq_journal.specs.declared.faults.TakeOverFault.TheVariants as kept
 use Rattle.zq_journal.specs.declared.since.Since.{Since}
 use Rattle.zq_journal.specs.declared.since.Since.TheVariants.{Ops, TooOld}
 use Rattle.zq_model.specs.Heaps.{heap_of}
 use Rattle.zq_model.specs.Image.{image_of}
 use Rattle.zq_model.specs.Operation.{Operation, operation_over}
 use Rattle.zq_model.specs.Rule.{Rule}
-use Rattle.zq_model.specs.Sets.{AreSame, IsIn, New, in_heap, taken_of, vector_of}
+use Rattle.zq_model.specs.Sets.{AreSame, IsIn, New, covers, in_heap, taken_of, vector_of}
 use Rattle.zq_model.specs.Tail.{lacking}
 use Rattle.zq_model.specs.Moves.{Move, Queues}
-use Rattle.zq_notes.specs.Notes.{Answer, Asked, Copied, Handed, Joined, Note, Replied, Shown, ToCopy, ToDrain, ToMerge, ToRun, ToShow, ToTake, ToTell, Told}
+use Rattle.zq_notes.specs.Notes.{Answer, Asked, Copied, Handed, HandedAll, Joined, Note, Replied, Shown, TakenOver, ToCopy, ToDrain, ToMerge, ToRun, ToShow, ToTake, ToTakeAll, ToTakeOver, ToTell, Told}
 use Rattle.zq_semantics.specs.Doing.{drawn}
 use Rattle.zq_semantics.specs.Plan.{is_there, plan_of}
 use Rattle.zq_semantics.specs.Ranges.{ranged, turned_if}
@@ -30,8 +32,10 @@ use Rattle.zq_semantics.specs.Reading.{heaps_in, queues_over}
 use Rattle.zq_shard.specs.Shard.{HeapImage}
 use Rattle.zq_shard.specs.Taken.{answer_of}
 use Rattle.zq_shard.specs.declared.taken.Taken.{Taken}
+use Rattle.zq_spread.specs.Batches.{IsTakenSoFar}
 use Rattle.zq_spread.specs.declared.faults.ReadFault.{ReadFault}
 use Rattle.zq_spread.specs.declared.faults.ReadFault.TheVariants as unread
+use Rattle.zq_spread.specs.declared.taken_all.TakenAll.{TakenAll}
 use Rattle.zq_words.specs.Command.{Command, Reading, Zpopnear, Zrange}
 use Rattle.zq_words.specs.Words.{Word}
 
@@ -120,11 +124,34 @@ IsTakenOff S op stamp (Err fault) steps =
     ((fault ≡ untaken.Worn) ⊎ (fault ≡ untaken.NoMemory))
     × (taken_of (vector_of S op.operation.heap) op.operation ≡ New) × (steps ≡ [] ∷ [])
 
+-- the heap, of K, as a site of this rule has it that has the set
+abbrev pub heap_as : Rule → ℕ → List Operation → ℕ → HeapImage
+heap_as rule K S heap = record { heap = heap; heaps = K; rule = rule; image = image_of S heap }
+
+-- operations of other sites in turn, as far as they were taken: whether the book counts no further,
+-- so that a new one is refused, a set does not say
+abbrev pub IsTakenAllOff : Rule → ℕ → List Operation → ℕ → List Placed → ℕ → TakenAll →
+    List (List Step) → Type 0
+IsTakenAllOff rule K S heap ops stamp answer steps = (count : ℕ) × (own : List Step)
+    × (steps ≡ own ∷ []) × IsTakenSoFar stamp ops answer (heap_as rule K S heap) count own
+
 -- a heap of another site, or it is refused for the same reasons
 abbrev pub IsMergedOff : HeapImage → ℕ → Result (Unit {0}) MergeFault → List (List Step) → Type 0
 IsMergedOff other stamp (Ok done) steps = steps ≡ (book.Merged stamp other.image ∷ []) ∷ []
 IsMergedOff other stamp (Err fault) steps =
     ((fault ≡ unmerged.Worn) ⊎ (fault ≡ unmerged.NoMemory)) × (steps ≡ [] ∷ [])
+
+-- a heap in the place of the site's own, whose vector covers what the site has there, or it is
+-- refused, since it does not, or the book counts no further
+abbrev pub IsTakenOverOff : HeapImage → List Operation → ℕ → Result (Unit {0}) TakeOverFault →
+    List (List Step) → Type 0
+IsTakenOverOff other S stamp (Ok done) steps =
+    (covers other.image.vector (vector_of S other.heap) ≡ true)
+    × (steps ≡ (book.TookOver stamp other.image ∷ []) ∷ [])
+IsTakenOverOff other S stamp (Err fault) steps =
+    ((fault ≡ kept.Worn)
+    ⊎ ((fault ≡ kept.Lacks) × (covers other.image.vector (vector_of S other.heap) ≡ false)))
+    × (steps ≡ [] ∷ [])
 
 -- what a peer of this vector lacks of a heap: where it is not too old for the book's tail, which a
 -- set does not say; or there was no memory
@@ -163,8 +190,12 @@ IsAnswerOf rule K site S (ToRun command w1 w2) stamp heaps (Replied reply) steps
     IsRunOff rule K site S command w1 w2 stamp heaps reply steps
 IsAnswerOf rule K site S (ToTake op) stamp heaps (Handed result) steps =
     IsTakenOff S op stamp result steps
+IsAnswerOf rule K site S (ToTakeAll heap ops) stamp heaps (HandedAll answer) steps =
+    IsTakenAllOff rule K S heap ops stamp answer steps
 IsAnswerOf rule K site S (ToMerge other) stamp heaps (Joined result) steps =
     IsMergedOff other stamp result steps
+IsAnswerOf rule K site S (ToTakeOver other) stamp heaps (TakenOver result) steps =
+    IsTakenOverOff other S stamp result steps
 IsAnswerOf rule K site S (ToTell heap vector) stamp heaps (Told result) steps =
     IsToldOff K S heap vector result steps
 IsAnswerOf rule K site S (ToDrain heap vector most) stamp heaps (Told result) steps =

@@ -1,9 +1,10 @@
 -- Several sites: their calls in one order, in which what a site takes was made before, and what it
--- merges was had before.
+-- merges or takes over was had before.
 
 use Rattle.std.specs.Prelude.{List, [], if◌then◌else◌, ℕ, ◌++◌, ◌==◌, ◌∷◌, ◌≡◌}
 use Rattle.zq_dots.specs.Rule.{rule_of}
-use Rattle.zq_model.specs.Books.{Change, HandedOn, Made, Merged, Recorded, Step, Took}
+use Rattle.zq_model.specs.Books.{Change, HandedOn, Made, Merged, Recorded, Step, Took, TookOver}
+use Rattle.zq_model.specs.Image.{join}
 use Rattle.zq_model.specs.Limits.{TailLimits}
 use Rattle.zq_model.specs.Operation.{Operation}
 use Rattle.zq_model.specs.Rule.{Rule}
@@ -49,6 +50,7 @@ made_in [] W = W
 made_in (Recorded r ∷ steps) W = made_in steps (made_by r.change ++ W)
 made_in (Merged stamp other ∷ steps) W = made_in steps W
 made_in (HandedOn stamp handed ∷ steps) W = made_in steps W
+made_in (TookOver stamp other ∷ steps) W = made_in steps W
 
 abbrev pub made_in_all : List (List Step) → List Operation → List Operation
 made_in_all [] W = W
@@ -62,8 +64,8 @@ made_from (e ∷ events) W = made_from events (made_in_all e.call.note.steps W)
 abbrev pub made_of : List Event → List Operation
 made_of events = made_from events []
 
--- what a site has after these events: what it made and took, and what the images that it merged
--- cover
+-- what a site has after these events: what it made and took, and what the images that it merged or
+-- took over cover
 abbrev pub has_at : List Operation → ℕ → List Event → List Operation
 has_at W s events = gathered W (notes_at s events) []
 
@@ -74,35 +76,40 @@ abbrev pub IsSent : List Event → Change → Type 0
 IsSent before (Made o) = Unit {0}
 IsSent before (Took o) = IsIn o (made_of before)
 
--- and an image that is merged in the heap h is what some site had there, now or before
-abbrev pub IsBrought : (ℕ → TailLimits) → Rule → ℕ → List Event → ℕ → Step → Type 0
-IsBrought limits rule K before h (Recorded r) = IsSent before r.change
-IsBrought limits rule K before h (Merged stamp other) = (t : ℕ) × (past : List Event)
+-- an image that a site merges in the heap h is what some site had there, now or before; and one that
+-- the site s takes over there is what it has and some site had, joined
+abbrev pub IsBrought : (ℕ → TailLimits) → Rule → ℕ → List Event → ℕ → ℕ → Step → Type 0
+IsBrought limits rule K before s h (Recorded r) = IsSent before r.change
+IsBrought limits rule K before s h (Merged stamp other) = (t : ℕ) × (past : List Event)
     × (later : List Event) × (before ≡ past ++ later)
     × (other ≡ (books_at limits rule K t past h).state)
-IsBrought limits rule K before h (HandedOn stamp handed) = Unit {0}
+IsBrought limits rule K before s h (HandedOn stamp handed) = Unit {0}
+IsBrought limits rule K before s h (TookOver stamp other) = (t : ℕ) × (past : List Event)
+    × (later : List Event) × (before ≡ past ++ later)
+    × (other ≡ join (books_at limits rule K s before h).state
+    (books_at limits rule K t past h).state)
 
-abbrev pub AreBrought : (ℕ → TailLimits) → Rule → ℕ → List Event → ℕ → List Step → Type 0
-AreBrought limits rule K before h [] = Unit {0}
-AreBrought limits rule K before h (s ∷ steps) = IsBrought limits rule K before h s
-    × AreBrought limits rule K before h steps
+abbrev pub AreBrought : (ℕ → TailLimits) → Rule → ℕ → List Event → ℕ → ℕ → List Step → Type 0
+AreBrought limits rule K before s h [] = Unit {0}
+AreBrought limits rule K before s h (step ∷ steps) = IsBrought limits rule K before s h step
+    × AreBrought limits rule K before s h steps
 
-abbrev pub AreBroughtIn : (ℕ → TailLimits) → Rule → ℕ → List Event → List ℕ → List (List Step) →
-    Type 0
-AreBroughtIn limits rule K before [] steps = Unit {0}
-AreBroughtIn limits rule K before (h ∷ heaps) [] = Unit {0}
-AreBroughtIn limits rule K before (h ∷ heaps) (ss ∷ steps) = AreBrought limits rule K before h ss
-    × AreBroughtIn limits rule K before heaps steps
+abbrev pub AreBroughtIn : (ℕ → TailLimits) → Rule → ℕ → List Event → ℕ → List ℕ →
+    List (List Step) → Type 0
+AreBroughtIn limits rule K before s [] steps = Unit {0}
+AreBroughtIn limits rule K before s (h ∷ heaps) [] = Unit {0}
+AreBroughtIn limits rule K before s (h ∷ heaps) (ss ∷ steps) =
+    AreBrought limits rule K before s h ss × AreBroughtIn limits rule K before s heaps steps
 
 -- the event is a call of the site of its number, over what that site's calls before it left, and
--- what it takes and merges reached it
+-- what it takes, merges and takes over reached it
 pub record IsEventAfter (limits : ℕ → TailLimits) (rule : Rule) (K : ℕ) (sites : ℕ → Site)
     (before : List Event) (e : Event) : Type 0 where
   pub number : (sites e.site).number ≡ e.site
   pub heaps : heaps_of (sites e.site) ≡ K
   pub ruled : rule_of (sites e.site).rule ≡ rule
   pub call : IsCallOver (sites e.site) (books_at limits rule K e.site before) e.call
-  pub brought : AreBroughtIn limits rule K before e.call.note.heaps e.call.note.steps
+  pub brought : AreBroughtIn limits rule K before e.site e.call.note.heaps e.call.note.steps
 
 -- such events, of sites that were new in the beginning, each with its limits
 abbrev pub AreEventsOf : (ℕ → TailLimits) → Rule → ℕ → (ℕ → Site) → List Event → Type 0

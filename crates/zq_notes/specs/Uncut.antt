@@ -1,13 +1,14 @@
 -- Events that the run of a world can have: no call was cut, and what it was asked is there.
 
 use Rattle.std.specs.Prelude.{Err, List, Ok, [], length, map, ℕ, ◌+◌, ◌++◌, ◌<◌, ◌∷◌, ◌≡◌, ◌≤◌}
+use Rattle.zq_dots.specs.Placed.{Placed}
 use Rattle.zq_model.specs.Books.{Book, Step}
 use Rattle.zq_model.specs.Limits.{TailLimits}
 use Rattle.zq_model.specs.Rule.{Rule}
 use Rattle.zq_model.specs.Sets.{IsIn, SITES}
 use Rattle.zq_model.specs.Lent.{queues_of}
 use Rattle.zq_model.specs.Moves.{Queues}
-use Rattle.zq_notes.specs.Notes.{Answer, Asked, Handed, Joined, Replied, ToMerge, ToRun, ToTake}
+use Rattle.zq_notes.specs.Notes.{Answer, Asked, Handed, Joined, Replied, TakenOver, ToMerge, ToRun, ToTake, ToTakeAll, ToTakeOver}
 use Rattle.zq_notes.specs.Sites.{Event, books_at, made_of}
 use Rattle.zq_semantics.specs.Plan.{plan_of}
 use Rattle.zq_semantics.specs.Replies.{bytes_of}
@@ -33,21 +34,26 @@ pub record IsInFull (queues : Queues) (command : Command) (reply : Word)
   pub says : reply ≡ bytes_of (plan_of command queues).reply
   pub moves : steps_in steps ≡ length (plan_of command queues).moves
 
--- a call was not cut: a command did all that it plans over the books found, and nothing was refused
+-- a call was not cut: a command did all that it plans over the books found, and no operation or heap
+-- that it was handed alone was refused. A list of operations may be taken in part
 abbrev pub IsUncut : Rule → Asked → Answer → List Book → List (List Step) → Type 0
 IsUncut rule (ToRun command w1 w2) (Replied reply) found steps =
     IsInFull (queues_of rule found) command reply steps
 IsUncut rule (ToTake op) (Handed (Err fault)) found steps = ⊥
 IsUncut rule (ToMerge other) (Joined (Err fault)) found steps = ⊥
+IsUncut rule (ToTakeOver other) (TakenOver (Err fault)) found steps = ⊥
 IsUncut rule asked answer found steps = Unit {0}
 
--- what a call was asked is there: a request has such a command, the operation was made before, and
--- the heap is one of K
+-- what a call was asked is there: a request has such a command, the operation was made before, or
+-- each of the list, and the heap is one of K
 abbrev pub IsThere : ℕ → List Event → Asked → Type 0
 IsThere K before (ToRun command w1 w2) =
     (words : List Word) × IsRequest words × (command_of words ≡ Ok command)
 IsThere K before (ToTake op) = IsIn op.operation (made_of before)
+IsThere K before (ToTakeAll heap ops) = (op : Placed) → IsIn op ops →
+    IsIn op.operation (made_of before)
 IsThere K before (ToMerge other) = other.heap < K
+IsThere K before (ToTakeOver other) = other.heap < K
 IsThere K before asked = Unit {0}
 
 -- the event is such a call, of one of so many sites

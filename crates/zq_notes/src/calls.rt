@@ -4,24 +4,27 @@ ghost use Rattle.std.specs.Prelude.{IfOk, List, Result as Results, [], ℕ, ◌�
 ghost use Rattle.zq_dots.specs.Placed.{Placed};
 ghost use Rattle.zq_journal.specs.declared.faults.MergeFault.{MergeFault};
 ghost use Rattle.zq_journal.specs.declared.faults.TakeFault.{TakeFault};
+ghost use Rattle.zq_journal.specs.declared.faults.TakeOverFault.{TakeOverFault};
 ghost use Rattle.zq_journal.specs.declared.since.Since.{Since};
 ghost use Rattle.zq_notes.specs.Calls.{HasNote, HeldNone};
-ghost use Rattle.zq_notes.specs.Notes.{Copied, Handed, Joined, Replied, Shown, ToCopy, ToDrain, ToMerge, ToRun, ToShow, ToTake, ToTell, Told};
+ghost use Rattle.zq_notes.specs.Notes.{Copied, Handed, HandedAll, Joined, Replied, Shown, TakenOver, ToCopy, ToDrain, ToMerge, ToRun, ToShow, ToTake, ToTakeAll, ToTakeOver, ToTell, Told};
 ghost use Rattle.zq_shard.specs.Shard.{HeapImage};
 ghost use Rattle.zq_shard.specs.declared.taken.Taken.{Taken};
-ghost use Rattle.zq_spread.specs.Answers.{IsAsked, IsCopied, IsDrained, IsMerged, IsShown, IsSince, IsTaken};
+ghost use Rattle.zq_spread.specs.Answers.{IsAsked, IsCopied, IsDrained, IsMerged, IsShown, IsSince, IsTaken, IsTakenOver};
+ghost use Rattle.zq_spread.specs.Batches.{IsTakenAll};
 ghost use Rattle.zq_spread.specs.Calls.{HasSeenBook, IsCall, IsLikeSite, IsOfSite};
 ghost use Rattle.zq_spread.specs.Dispatch.{IsCalled};
 ghost use Rattle.zq_spread.specs.declared.faults.ReadFault.{ReadFault};
 ghost use Rattle.zq_spread.specs.declared.pass.Pass.{Pass};
 ghost use Rattle.zq_spread.specs.declared.site.Site.{Site};
+ghost use Rattle.zq_spread.specs.declared.taken_all.TakenAll.{TakenAll};
 ghost use Rattle.zq_words.specs.Command.{Command};
 ghost use Rattle.zq_words.specs.Words.{Word};
 
 /// Each call of a site that held a heap leaves a note: what [`zq_spread::Site::call`], `try_call`,
-/// `take`, `merge`, `since`, `drain`, `state` and `vector` promise is that there is one. A command
-/// that held none needs none, or was refused before it held any. An operation or a heap that is not
-/// of the site's kind is refused with no lock taken.
+/// `take`, `take_all`, `merge`, `take_over`, `since`, `drain`, `state` and `vector` promise is that
+/// there is one. A command that held none needs none, or was refused before it held any. An
+/// operation or a heap that is not of the site's kind is refused with no lock taken.
 pub fn noting()
     ensures calls { (site : Site) (p : ℕ) (before after : Pass) (command : Command) (w1 w2 : ℕ)
         (reply : Word) → IsCalled site command w1 w2 reply before after →
@@ -31,10 +34,18 @@ pub fn noting()
         (result : Results Taken TakeFault) → IsOfSite site op →
         IsCall (IsTaken after.stamp op result) before after (op.operation.heap ∷ []) →
         HasNote site p before after (ToTake op) (Handed result) }
+    ensures takes_all { (site : Site) (p : ℕ) (before after : Pass) (heap : ℕ)
+        (ops : List Placed) (answer : TakenAll) →
+        IsCall (IsTakenAll after.stamp ops answer) before after (heap ∷ []) →
+        HasNote site p before after (ToTakeAll heap ops) (HandedAll answer) }
     ensures merges { (site : Site) (p : ℕ) (before after : Pass) (other : HeapImage)
         (result : Results (Unit {0}) MergeFault) → IsLikeSite site other →
         IsCall (IsMerged after.stamp other result) before after (other.heap ∷ []) →
         HasNote site p before after (ToMerge other) (Joined result) }
+    ensures takes_over { (site : Site) (p : ℕ) (before after : Pass) (other : HeapImage)
+        (result : Results (Unit {0}) TakeOverFault) → IsLikeSite site other →
+        IsCall (IsTakenOver after.stamp other result) before after (other.heap ∷ []) →
+        HasNote site p before after (ToTakeOver other) (TakenOver result) }
     ensures tells { (site : Site) (p : ℕ) (before after : Pass) (heap : ℕ) (vector : List ℕ)
         (result : Results Since ReadFault) → IsCall (IsAsked result) before after (heap ∷ []) →
         IfOk result (λ since. HasSeenBook after heap (IsSince vector since)) →

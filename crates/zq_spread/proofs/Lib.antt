@@ -6,6 +6,7 @@ pub mod Twins
 pub mod Commanded
 pub mod Readings
 pub mod Drained
+pub mod InTurn
 pub mod Alone
 pub mod Places
 pub mod Settled

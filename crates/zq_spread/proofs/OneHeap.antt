@@ -2,15 +2,17 @@
 
 use Rattle.std.proofs.Common.{ap, arith, inl, subst, sym, ◌∙◌}
 use Rattle.std.proofs.Math.Nat.{le-max_right, max-zero}
-use Rattle.std.specs.Prelude.{Err, IfOk, IfSome, IsErrOf, IsSome, List, Ok, OnErr, OnOk, Option, Result, Some, [], max, refl, slice_get, ℕ, ◌+◌, ◌++◌, ◌<◌, ◌≡◌, ◌≢◌, ◌≤◌, ◌∷◌, ◌↔◌}
+use Rattle.std.specs.Prelude.{Err, IfOk, IfSome, IsErrOf, IsSome, List, Ok, OnErr, OnOk, Option, Result, Some, [], false, max, refl, slice_get, true, ℕ, ◌+◌, ◌++◌, ◌<◌, ◌≡◌, ◌≢◌, ◌≤◌, ◌∷◌, ◌↔◌}
 use Rattle.zq_dots.specs.Placed.{Placed}
 use Rattle.zq_dots.specs.Rule.{rule_of}
-use Rattle.zq_model.specs.Books.{Book, Merged, Step}
+use Rattle.zq_model.specs.Books.{Book, Merged, Step, TookOver}
 use Rattle.zq_model.specs.Reach as reach
 use Rattle.zq_model.specs.Reach.{IsWorked}
 use Rattle.zq_journal.specs.Books.{LAST_STAMP, state_of, steps_taken, steps_when}
 use Rattle.zq_journal.specs.declared.faults.MergeFault.{MergeFault}
 use Rattle.zq_journal.specs.declared.faults.MergeFault.TheVariants as unmerged
+use Rattle.zq_journal.specs.declared.faults.TakeOverFault.{TakeOverFault}
+use Rattle.zq_journal.specs.declared.faults.TakeOverFault.TheVariants as kept
 use Rattle.zq_journal.specs.declared.faults.TakeFault.{TakeFault}
 use Rattle.zq_journal.specs.declared.faults.TakeFault.TheVariants.{NoMemory, WrongHeap, Worn}
 use Rattle.zq_model.specs.Heaps.{heap_of}
@@ -21,7 +23,7 @@ use Rattle.zq_shard.specs.Taken.{answer_of}
 use Rattle.zq_shard.specs.declared.taken.Taken.{Taken}
 use Rattle.zq_spread.proofs.Counted.{if_some}
 use Rattle.zq_spread.proofs.LeftAsGiven.{worked_once}
-use Rattle.zq_spread.specs.Answers.{HasWorked, IsMerged, IsTaken}
+use Rattle.zq_spread.specs.Answers.{HasWorked, IsMerged, IsTaken, IsTakenOver}
 use Rattle.zq_spread.specs.Calls.{IsCall, IsLikeSite, IsOfSite, heaps_of}
 use Rattle.zq_spread.specs.Passes.{IsSlotAt, seen_at, steps_at}
 use Rattle.zq_spread.specs.HeapSlots.{IsBegun, IsOf, IsWorkedOn}
@@ -94,6 +96,26 @@ merged_by old new a stamp s (Err unmerged.NoMemory) same rule worn heap other wo
     let count : old.count ≡ a.count = let e = begun.count in omega (arith, e) in
     let not_worn : a.count ≢ LAST_STAMP = λ last. let e = worn.1 (same, rule, count ∙ last) in absurd (cc) in
     ([], subst (λ b. IsWorked b a stamp []) (sym stays) begun, (not_worn, refl))
+
+-- and what it answers to one that is to take its heap's place
+pub taken_over_by : (old new a : Book) (stamp : ℕ) (s : HeapImage) (r : Result (Unit {0}) TakeOverFault) → IsSameHeap (state_of old) s → old.rule ≡ s.rule →
+    IsErrOf r kept.Worn ↔ (IsSameHeap (state_of old) s × (old.rule ≡ s.rule) × (old.count ≡ LAST_STAMP)) →
+    IsErrOf r kept.WrongHeap ↔ (IsSameHeap (state_of old) s → ⊥) → IsErrOf r kept.WrongRule ↔ (IsSameHeap (state_of old) s × (old.rule ≢ s.rule)) →
+    (IsErrOf r kept.Lacks → sets.covers s.image.vector old.state.vector ≡ false) → OnOk r (sets.covers s.image.vector old.state.vector ≡ true) →
+    OnOk r ((b : Book) (steps : List Step) → IsWorked old b stamp steps → IsWorked new b stamp (steps ++ TookOver stamp s.image ∷ [])) →
+    OnErr r (new ≡ old) → IsWorked old a stamp [] → HasWorked (IsTakenOver stamp s r) new a stamp
+taken_over_by old new a stamp s (Ok done) same rule worn heap other lacks covered worked stays begun =
+    let count : old.count ≡ a.count = let e = begun.count in omega (arith, e) in
+    let not_worn : a.count ≢ LAST_STAMP = λ last. let e = worn.1 (same, rule, count ∙ last) in absurd (cc) in
+    (TookOver stamp s.image ∷ [], worked a [] begun, (ap (λ b. sets.covers s.image.vector b.vector) (sym begun.state) ∙ covered, not_worn, refl))
+taken_over_by old new a stamp s (Err kept.WrongHeap) same rule worn heap other lacks covered worked stays begun = absurd (heap.0 refl same)
+taken_over_by old new a stamp s (Err kept.WrongRule) same rule worn heap other lacks covered worked stays begun = absurd ((other.0 refl).1 rule)
+taken_over_by old new a stamp s (Err kept.Worn) same rule worn heap other lacks covered worked stays begun =
+    let why = worn.0 refl in
+    let count : a.count ≡ LAST_STAMP = let e = begun.count in omega (arith, why.2, e) in
+    ([], subst (λ b. IsWorked b a stamp []) (sym stays) begun, (count, refl))
+taken_over_by old new a stamp s (Err kept.Lacks) same rule worn heap other lacks covered worked stays begun =
+    ([], subst (λ b. IsWorked b a stamp []) (sym stays) begun, (ap (λ b. sets.covers s.image.vector b.vector) (sym begun.state) ∙ lacks refl, refl))
 
 -- the heap of an operation of the site, where a call has begun
 pub begun_of_heap : (site : Site) (slot : HeapSlot) (h floor stamp : ℕ) (p : Placed) (now found : LockedHeap) → IsSlotAt site h slot → IsWorked now.book found.book stamp [] → IsOf slot found →

@@ -1,15 +1,17 @@
 -- What calls answer and do, over the books that they hold, and their own steps in each.
 
 use Rattle.std.specs.List.{All}
-use Rattle.std.specs.Prelude.{Err, List, Ok, Result, Some, [], map, not, take, ℕ, ◌+◌, ◌-◌, ◌∷◌, ◌≡◌, ◌≢◌, ◌⊎◌}
+use Rattle.std.specs.Prelude.{Err, List, Ok, Result, Some, [], false, map, not, take, true, ℕ, ◌+◌, ◌-◌, ◌∷◌, ◌≡◌, ◌≢◌, ◌⊎◌}
 use Rattle.zq_dots.specs.Placed.{Placed}
-use Rattle.zq_model.specs.Books.{Book, HandedOn, Merged, Step, operations_of}
+use Rattle.zq_model.specs.Books.{Book, HandedOn, Merged, Step, TookOver, operations_of}
 use Rattle.zq_model.specs.Reach.{IsWorked, begun}
 use Rattle.zq_journal.specs.Answers.{IfOps, is_too_old}
 use Rattle.zq_journal.specs.Books.{IsPeer, LAST_STAMP, base_of, state_of, steps_taken}
 use Rattle.zq_journal.specs.Records.{placed_at}
 use Rattle.zq_journal.specs.declared.faults.MergeFault.{MergeFault}
 use Rattle.zq_journal.specs.declared.faults.MergeFault.TheVariants as unmerged
+use Rattle.zq_journal.specs.declared.faults.TakeOverFault.{TakeOverFault}
+use Rattle.zq_journal.specs.declared.faults.TakeOverFault.TheVariants as kept
 use Rattle.zq_journal.specs.declared.faults.TakeFault.{TakeFault}
 use Rattle.zq_journal.specs.declared.faults.TakeFault.TheVariants.{NoMemory, WrongHeap, Worn}
 use Rattle.zq_journal.specs.declared.since.Since.{Since}
@@ -51,6 +53,24 @@ abbrev pub IsMerged : ℕ → HeapImage → Result (Unit {0}) MergeFault → Lis
     Type 0
 IsMerged stamp other result (b ∷ []) (steps ∷ []) = merged_in stamp other result b steps
 IsMerged stamp other result books steps = ⊥
+
+-- another heap, which has all that the book has, took the place of its own, or was refused as the
+-- book refuses it
+abbrev pub taken_over_in : ℕ → HeapImage → Result (Unit {0}) TakeOverFault → Book → List Step →
+    Type 0
+taken_over_in stamp other (Ok done) b steps =
+    (sets.covers other.image.vector b.state.vector ≡ true) × (b.count ≢ LAST_STAMP)
+    × (steps ≡ TookOver stamp other.image ∷ [])
+taken_over_in stamp other (Err kept.WrongHeap) b steps = ⊥
+taken_over_in stamp other (Err kept.WrongRule) b steps = ⊥
+taken_over_in stamp other (Err kept.Worn) b steps = (b.count ≡ LAST_STAMP) × (steps ≡ [])
+taken_over_in stamp other (Err kept.Lacks) b steps =
+    (sets.covers other.image.vector b.state.vector ≡ false) × (steps ≡ [])
+
+abbrev pub IsTakenOver : ℕ → HeapImage → Result (Unit {0}) TakeOverFault → List Book →
+    List (List Step) → Type 0
+IsTakenOver stamp other result (b ∷ []) (steps ∷ []) = taken_over_in stamp other result b steps
+IsTakenOver stamp other result books steps = ⊥
 
 -- the book is a after the own steps of one call of this stamp, and these do what is asked
 abbrev pub HasWorked : (List Book → List (List Step) → Type 0) → Book → Book → ℕ → Type 0

@@ -2,6 +2,7 @@ pub mod LockedHeaps
 pub mod HeapSlots
 pub mod Turns
 pub mod Passes
+pub mod Batches
 pub mod Answers
 pub mod Calls
 pub mod Holdings

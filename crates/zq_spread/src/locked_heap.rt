@@ -1,15 +1,17 @@
 //! What the lock of a heap keeps.
-ghost use Rattle.std.specs.Prelude.{◌≡◌, ◌≤◌, [], length};
+ghost use Rattle.std.specs.Prelude.{◌≡◌, ◌≤◌, [], IfErr, OnErr, OnOk, length};
 ghost use Rattle.zq_model.specs.Books.{Book as Books};
 ghost use Rattle.zq_model.specs.Reach.{IsWorked};
 ghost use Rattle.zq_journal.specs.Books.{LAST_STAMP, state_of};
 ghost use Rattle.zq_shard.specs.Shard.{IsOfHeap, IsSameHeap};
-ghost use Rattle.zq_spread.specs.Answers.{HasWorked, IsCopyOf, IsDrained, IsHandedOn, IsMerged, IsSince, IsTaken, read_of};
+ghost use Rattle.zq_spread.specs.Batches.{IsNotTaken, IsTakenAll, IsTakenNext};
+ghost use Rattle.zq_spread.specs.Answers.{HasWorked, IsCopyOf, IsDrained, IsHandedOn, IsMerged, IsSince, IsTaken, IsTakenOver, read_of};
 
 use crate::faults::ReadFault;
+use crate::taken_all::{TakeEnd, TakenAll};
 use std::alloc::Global;
 use zq_dots::{Op, Vector};
-use zq_journal::{Book, LAST_COUNT, MergeFault, Since, TakeFault};
+use zq_journal::{Book, LAST_COUNT, MergeFault, Since, TakeFault, TakeOverFault};
 use zq_shard::{Shard, Taken};
 use zq_tally::Total;
 use zq_ticketlock::Keeps;
@@ -59,6 +61,51 @@ impl LockedHeap {
         self.book.take(alloc, stamp, op)
     }
 
+    /// Takes operations in turn, as its book does, up to the first that is Early or that the book
+    /// refuses.
+    pub(crate) fn take_all(&mut self, alloc: Global, stamp: u64, ops: &[Op]) -> TakenAll
+        requires stamp { self.old.book.stamp ≤ stamp }
+        requires bounded { stamp ≤ LAST_STAMP }
+        ensures total { self.new.total ≡ self.old.total }
+        ensures worked { (a : Books) → IsWorked self.old.book a stamp [] →
+            HasWorked (IsTakenAll stamp ops.now result) self.new.book a stamp }
+    {
+        let before = self.book.count();
+        let mut taken = 0;
+        for op in ops {
+            if let Err(end) = self.take_next(alloc, stamp, op) {
+                let fresh = self.book.count() - before;
+                return TakenAll { taken, fresh, end };
+            }
+            taken += 1;
+        }
+        let fresh = self.book.count() - before;
+        TakenAll {
+            taken,
+            fresh,
+            end: TakeEnd::All,
+        }
+    }
+
+    /// Takes an operation that is New or Known, or says why it takes it not: then nothing has
+    /// changed.
+    fn take_next(&mut self, alloc: Global, stamp: u64, op: &Op) -> Result<(), TakeEnd>
+        requires stamp { self.old.book.stamp ≤ stamp }
+        requires bounded { stamp ≤ LAST_STAMP }
+        ensures total { self.new.total ≡ self.old.total }
+        ensures taken { OnOk result
+            (IsTakenNext stamp op.now self.old.book self.new.book) }
+        ensures end { IfErr result
+            (λ end. IsNotTaken end op.now (state_of self.old.book) self.old.book.count) }
+        ensures refused { OnErr result (self.new ≡ self.old) }
+    {
+        match self.book.take(alloc, stamp, op) {
+            Ok(Taken::Early) => Err(TakeEnd::Early),
+            Ok(_) => Ok(()),
+            Err(fault) => Err(TakeEnd::Refused(fault)),
+        }
+    }
+
     /// Takes all that another heap of its number and its rule has, as its book does.
     pub(crate) fn merge(
         &mut self,
@@ -75,6 +122,21 @@ impl LockedHeap {
             HasWorked (IsMerged stamp other.now result) self.new.book a stamp }
     {
         self.book.merge(alloc, stamp, other)
+    }
+
+    /// Takes another heap of its number and its rule in the place of its own, as its book does.
+    pub(crate) fn take_over(&mut self, stamp: u64, other: &mut Shard) -> Result<(), TakeOverFault>
+        requires stamp { self.old.book.stamp ≤ stamp }
+        requires bounded { stamp ≤ LAST_STAMP }
+        requires same_heap { IsSameHeap (state_of self.old.book) other.old }
+        requires same_rule { self.old.book.rule ≡ other.old.rule }
+        ensures total { self.new.total ≡ self.old.total }
+        ensures worked { (a : Books) → IsWorked self.old.book a stamp [] →
+            HasWorked (IsTakenOver stamp other.old result) self.new.book a stamp }
+        ensures handed_back { OnOk result (other.new ≡ state_of self.old.book) }
+        ensures kept { OnErr result (other.new ≡ other.old) }
+    {
+        self.book.take_over(stamp, other)
     }
 
     /// A copy of the heap.

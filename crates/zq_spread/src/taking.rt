@@ -1,17 +1,20 @@
 //! Operations of other sites.
-ghost use Rattle.std.specs.Prelude.{◌≡◌, ◌↔◌, ◌⊎◌, ◌∷◌, [], IsErrOf, true};
+ghost use Rattle.std.specs.Prelude.{◌≡◌, ◌<◌, ◌↔◌, ◌⊎◌, ◌∷◌, [], IfOk, IsErrOf, OnErr, true};
 ghost use Rattle.zq_spread.specs.Answers.{IsTaken};
-ghost use Rattle.zq_spread.specs.Calls.{IsCall, IsOfSite};
+ghost use Rattle.zq_spread.specs.Batches.{IsTakenAll};
+ghost use Rattle.zq_spread.specs.Calls.{IsCall, IsOfSite, heaps_of};
 ghost use Rattle.zq_spread.specs.Passes.{IsPassOf};
 ghost use Rattle.zq_spread.specs.Worn.{IsWornIn};
 
 use crate::pass::Pass;
 use crate::site::Site;
+use crate::taken_all::TakenAll;
 use std::alloc::Global;
 use std::sync::Wait;
 use zq_dots::{Op, heap_of};
 use zq_journal::TakeFault;
 use zq_shard::Taken;
+use zq_ticketlock::Worn;
 
 impl Site {
     /// Whether the operation was made among as many heaps as the site has, and lies in its own.
@@ -55,5 +58,41 @@ impl Site {
         let taken = held.value_mut().take(alloc, stamp, op);
         self.end_in(pass, heap, held, stamp);
         taken
+    }
+
+    /// Takes operations of other sites in one heap, under one hold of its lock and with one stamp,
+    /// one after the other up to the first that is Early or that the heap's book refuses. It answers
+    /// how many it took and why it took no more: `WrongHeap` where the heap, the number of heaps or
+    /// the member's heap of the next one is another, `Worn` where that is New and the book's count is
+    /// at its last value, `NoMemory` where it is New and a growth was refused. Those before it stay
+    /// taken.
+    ///
+    /// Other calls wait for the heap until all are taken, so its caller hands over few at a time.
+    ///
+    /// `Worn` where the heap's lock or the stamp is at its last value, and then no image, book or
+    /// stamp has changed.
+    pub fn take_all<R: Wait>(
+        &self,
+        rt: &R,
+        alloc: Global,
+        pass: &mut Pass,
+        heap: u8,
+        ops: &[Op],
+    ) -> Result<TakenAll, Worn>
+        requires pass { IsPassOf self.now pass.old }
+        requires heap { heap < heaps_of self.now }
+        ensures pass { IsPassOf self.now pass.new }
+        ensures called { IfOk result
+            (λ taken. IsCall (IsTakenAll pass.new.stamp ops.now taken) pass.old pass.new
+            (heap ∷ [])) }
+        ensures refused { OnErr result (IsWornIn (heap ∷ []) pass.old pass.new) }
+    {
+        let heap = usize::from(heap);
+        let Ok((mut held, stamp)) = self.begin_in(rt, pass, heap) else {
+            return Err(Worn);
+        };
+        let taken = held.value_mut().take_all(alloc, stamp, ops);
+        self.end_in(pass, heap, held, stamp);
+        Ok(taken)
     }
 }

@@ -1,4 +1,4 @@
-use Rattle.zq_notes.proofs.Noted.{calls, copies, drains, merges, shows, takes, tells}
+use Rattle.zq_notes.proofs.Noted.{calls, copies, drains, merges, shows, takes, takes_all, takes_over, tells}
 use Rattle.zq_notes.proofs.calls.noting.Goals as goal
 
 pub returns-clause-calls : goal.returns-clause-calls
@@ -7,8 +7,14 @@ returns-clause-calls c = calls
 pub returns-clause-takes : goal.returns-clause-takes
 returns-clause-takes c = takes
 
+pub returns-clause-takes_all : goal.returns-clause-takes_all
+returns-clause-takes_all c = takes_all
+
 pub returns-clause-merges : goal.returns-clause-merges
 returns-clause-merges c = merges
+
+pub returns-clause-takes_over : goal.returns-clause-takes_over
+returns-clause-takes_over c = takes_over
 
 pub returns-clause-tells : goal.returns-clause-tells
 returns-clause-tells c = tells
