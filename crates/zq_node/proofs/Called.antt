@@ -19,7 +19,7 @@ use Rattle.zq_model.specs.Heaps.{heap_of}
 use Rattle.zq_model.specs.Image.{Image, image_after}
 use Rattle.zq_model.specs.Operation.{has}
 use Rattle.zq_model.specs.Sets as sets
-use Rattle.zq_node.specs.Calls.{AreCalled, Asked, Call, Copied, Drained, HadNoRoom, IsCalled, IsEarlyTo, IsKnownTo, MadeNoStep, Merged, Saw, Took, WasAtLast, WasTaken}
+use Rattle.zq_node.specs.Calls.{AreCalled, Asked, Call, Copied, Drained, HadNoRoom, IsCalled, IsEarlyTo, IsKnownTo, MadeNoStep, Merged, Saw, Took, TookAll, WasAtLast, WasTaken}
 use Rattle.zq_node.specs.Faults.{untaken}
 use Rattle.zq_node.specs.Hearing.{IsStopOf}
 use Rattle.zq_node.specs.declared.faults.NodeFault.{NodeFault}
@@ -105,6 +105,7 @@ seen_by Does P stays before after h k is had = elim (cases_eq k h) [
 
 seen_on : (P : Book → Type 0) → Stays P → (site : Site) (before after : Pass) (k : ℕ) (c : Call) → IsCalled site before after c → HasSeenBook before k P → HasSeenBook after k P
 seen_on P stays site before after k (Took op answer) is had = seen_by _ P stays before after op.operation.heap k is.1 had
+seen_on P stays site before after k (TookAll heap ops answer) is had = seen_by _ P stays before after heap k is had
 seen_on P stays site before after k (Merged shard) is had = seen_by _ P stays before after shard.heap k is.1 had
 seen_on P stays site before after k (Saw heap vector) is had = seen_by _ P stays before after heap k is had
 seen_on P stays site before after k (Asked heap vector answer) is had = seen_by _ P stays before after heap k is.0 had

@@ -4,6 +4,8 @@ pub mod Called
 pub mod Drains
 pub mod Works
 pub mod Nodes
+pub mod Grown
+pub mod Batched
 pub mod Told
 pub mod Haves
 pub mod Opened

@@ -7,7 +7,7 @@ use Rattle.zq_model.proofs.Membership.{in_left, in_right, in_union}
 use Rattle.zq_model.specs.Sets.{IsIn}
 use Rattle.zq_node.proofs.Called.{HasOperation, called_on, in_stays, known_by, seen_after}
 use Rattle.zq_node.proofs.Changed.{parked_before, parked_still}
-use Rattle.zq_node.specs.Calls.{Asked, Call, Copied, Drained, IsCalled, IsKnownTo, Merged, Saw, Took}
+use Rattle.zq_node.specs.Calls.{Asked, Call, Copied, Drained, IsCalled, IsKnownTo, Merged, Saw, Took, TookAll}
 use Rattle.zq_node.specs.Parked.{Entries, IsParked, IsUpdated, place_of}
 use Rattle.zq_node.specs.Work.{IsOwed, IsWork}
 use Rattle.zq_shard.specs.declared.taken.Taken.{Taken}
@@ -64,6 +64,7 @@ module _ (site : Site) (ops : List Placed) where
     | inl here ↦ inl here
     | inr there ↦ (elim (found o there) [ inl before ↦ inr before | inr here ↦ inl here ])
   ]
+  owed_before x y found (TookAll heap batch answer) owed = owed
   owed_before x y found (Merged shard) owed = absurd owed
   owed_before x y found (Saw heap vector) owed = tt
   owed_before x y found (Asked heap vector answer) owed = absurd owed
@@ -101,6 +102,7 @@ module _ (site : Site) (ops : List Placed) where
     where
       owed_more : (all : List Placed) (x : Entries) → ((o : Placed) → IsIn o ops → IsIn o all) → (c : Call) → IsOwed ops x c → IsOwed all x c
       owed_more all x within (Took o answer) owed = elim owed [ inl here ↦ inl (within o here) | inr there ↦ inr there ]
+      owed_more all x within (TookAll heap batch answer) owed = λ o here. within o (owed o here)
       owed_more all x within (Merged shard) owed = absurd owed
       owed_more all x within (Saw heap vector) owed = tt
       owed_more all x within (Asked heap vector answer) owed = absurd owed

@@ -10,17 +10,20 @@ use Rattle.zq_shard.specs.Shard.{HeapImage}
 use Rattle.zq_shard.specs.declared.taken.Taken.{Taken}
 use Rattle.zq_shard.specs.declared.taken.Taken.TheVariants as taken
 use Rattle.zq_spread.specs.Answers.{IsAsked, IsCopied, IsDrained, IsMerged, IsShown, IsSince, IsTaken}
+use Rattle.zq_spread.specs.Batches.{IsTakenAll}
 use Rattle.zq_spread.specs.Calls.{HasSeenBook, IsCall, IsLikeSite, IsOfSite}
 use Rattle.zq_spread.specs.Passes.{steps_at}
 use Rattle.zq_spread.specs.Worn.{IsWornIn}
 use Rattle.zq_spread.specs.declared.pass.Pass.{Pass}
 use Rattle.zq_spread.specs.declared.site.Site.{Site}
+use Rattle.zq_spread.specs.declared.taken_all.TakenAll.{TakenAll}
 
--- a call that the site answered: it took an operation, merged a heap, showed the vector of a heap,
+-- a call that the site answered: it took an operation, or several in a heap, merged a heap, showed the vector of a heap,
 -- said what a peer of a vector lacks, copied a heap, or gave a log of a vector what it lacks, at most
 -- so many operations
 pub data Call : Type 0 where
   Took : (op : Placed) (answer : Taken) → Call
+  TookAll : (heap : ℕ) (ops : List Placed) (answer : TakenAll) → Call
   Merged : (shard : HeapImage) → Call
   Saw : (heap : ℕ) (vector : List ℕ) → Call
   Asked : (heap : ℕ) (vector : List ℕ) (answer : Since) → Call
@@ -31,6 +34,8 @@ pub data Call : Type 0 where
 abbrev pub IsCalled : Site → Pass → Pass → Call → Type 0
 IsCalled site before after (Took op answer) = IsOfSite site op
     × IsCall (IsTaken after.stamp op (Ok answer)) before after (op.operation.heap ∷ [])
+IsCalled site before after (TookAll heap ops answer) =
+    IsCall (IsTakenAll after.stamp ops answer) before after (heap ∷ [])
 IsCalled site before after (Merged shard) = IsLikeSite site shard
     × IsCall (IsMerged after.stamp shard (Ok tt)) before after (shard.heap ∷ [])
 IsCalled site before after (Saw heap vector) = IsCall (IsShown vector) before after (heap ∷ [])

@@ -5,6 +5,7 @@ pub mod Calls
 pub mod Gained
 pub mod Node
 pub mod Work
+pub mod Batches
 pub mod Faults
 pub mod Hearing
 pub mod Workers

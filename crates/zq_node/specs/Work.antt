@@ -3,7 +3,7 @@
 use Rattle.std.specs.Prelude.{List, [], length, ℕ, ◌++◌, ◌<◌, ◌≡◌, ◌≤◌, ◌∷◌, ◌⊎◌}
 use Rattle.zq_dots.specs.Placed.{Placed}
 use Rattle.zq_model.specs.Sets.{IsIn}
-use Rattle.zq_node.specs.Calls.{AreCalled, Asked, Call, Copied, Drained, HadNoRoom, IsCalled, IsEarlyTo, IsKnownTo, MadeNoStep, Merged, Saw, Took, WasAtLast, WasTaken}
+use Rattle.zq_node.specs.Calls.{AreCalled, Asked, Call, Copied, Drained, HadNoRoom, IsCalled, IsEarlyTo, IsKnownTo, MadeNoStep, Merged, Saw, Took, TookAll, WasAtLast, WasTaken}
 use Rattle.zq_node.specs.Node.{IsSameHome, most_of, parked_of, pass_of, site_of}
 use Rattle.zq_node.specs.Parked.{Entries, HasPlaceOf, IsParked, IsPutAway}
 use Rattle.zq_node.specs.declared.node.Node.{Node}
@@ -12,9 +12,10 @@ use Rattle.zq_shard.specs.declared.taken.Taken.TheVariants.{Early, Known, New}
 use Rattle.zq_spread.specs.declared.pass.Pass.{Pass}
 use Rattle.zq_spread.specs.declared.site.Site.{Site}
 
--- it hands the site one of these operations or one that is parked, or looks at a vector
+-- it hands the site some of these operations or one that is parked, or looks at a vector
 abbrev pub IsOwed : List Placed → Entries → Call → Type 0
 IsOwed ops parked (Took op answer) = IsIn op ops ⊎ IsParked parked op
+IsOwed ops parked (TookAll heap batch answer) = (o : Placed) → IsIn o batch → IsIn o ops
 IsOwed ops parked (Saw heap vector) = Unit {0}
 IsOwed ops parked (Merged shard) = ⊥
 IsOwed ops parked (Asked heap vector answer) = ⊥

@@ -2,6 +2,7 @@
 //! come, and answers what a peer lacks. Beside it, workers: threads that make calls of the site.
 #![tactic(auto)]
 
+mod batching;
 mod duty;
 mod faults;
 mod gate;

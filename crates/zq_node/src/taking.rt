@@ -19,7 +19,7 @@ use zq_shard::Taken;
 
 /// Parks a copy of an operation, unless one of its heap and dot is parked. Where as many are parked
 /// as there may be, it is dropped, as if it had been lost.
-fn keep(parked: &mut Parked, alloc: Global, op: &Op) -> Result<(), AllocError>
+pub(crate) fn keep(parked: &mut Parked, alloc: Global, op: &Op) -> Result<(), AllocError>
     ensures put { OnOk result
         (IsPutAway parked.old.most op.now parked.old.entries parked.new.entries) }
     ensures most { parked.new.most ≡ parked.old.most }

@@ -36,12 +36,15 @@ pub enum Deed {
     Put(u32),
     /// A frame is heard, after which nothing is sent, and it has this.
     Hear(Heard, Has),
+    /// The operations of a frame are heard as a list, and it has this.
+    Take(Heard, Has),
     /// So many operations of the maker are heard in turn, each in a frame of its own, and each so
     /// often.
     Each(u32, u32),
     /// It has this.
     Look(Has),
-    /// A frame is refused with this, and changes nothing.
+    /// A frame is refused with this, as is the list of its operations where it has some, and changes
+    /// nothing.
     Refuse(Heard, NodeFault),
     /// This is sent to site 9, which says that it has so many operations of the maker in heap 0.
     Tell(u32, &'static [Told]),
@@ -100,6 +103,18 @@ fn hears<R: Wait + Abort>(rt: &R, alloc: Global, node: &mut Node, heard: Heard) 
     hear(rt, alloc, node, &frame).is_empty()
 }
 
+/// Whether the operations of a frame are heard as a list.
+fn takes<R: Wait + Abort>(rt: &R, alloc: Global, node: &mut Node, heard: Heard) -> bool
+    requires node { IsNode node.old }
+    ensures node { IsNode node.new }
+{
+    let frame = frame_of(rt, alloc, heard);
+    let Frame::Ops(ops) = &frame else {
+        return false;
+    };
+    node.hear_ops(rt, alloc, ops).is_ok()
+}
+
 /// Whether this is so each of so many times.
 fn hears_often<R: Wait + Abort>(
     rt: &R,
@@ -136,7 +151,7 @@ fn hears_each<R: Wait + Abort>(
     each
 }
 
-/// Why a frame is refused.
+/// Why a frame is refused, where the list of its operations is refused for the same.
 fn fault_of<R: Wait + Abort>(
     rt: &R,
     alloc: Global,
@@ -147,7 +162,15 @@ fn fault_of<R: Wait + Abort>(
     ensures node { IsNode node.new }
 {
     let frame = frame_of(rt, alloc, heard);
-    node.hear(rt, alloc, &frame).err()
+    let fault = node.hear(rt, alloc, &frame).err();
+    let Frame::Ops(ops) = &frame else {
+        return fault;
+    };
+    if node.hear_ops(rt, alloc, ops).err() == fault {
+        fault
+    } else {
+        None
+    }
 }
 
 /// Whether a frame is refused with this fault, after which what the site has and what is parked are
@@ -199,6 +222,9 @@ fn does<R: Wait + Abort>(rt: &R, alloc: Global, node: &mut Node, deed: Deed) -> 
         }
         Deed::Hear(heard, has) => {
             hears(rt, alloc, node, heard) && look_at(rt, alloc, node) == has
+        }
+        Deed::Take(heard, has) => {
+            takes(rt, alloc, node, heard) && look_at(rt, alloc, node) == has
         }
         Deed::Each(count, times) => hears_each(rt, alloc, node, count, times),
         Deed::Look(has) => look_at(rt, alloc, node) == has,

@@ -3,7 +3,7 @@
 
 use super::making::Heard;
 use super::nodes::Has;
-use super::playing::Deed::{Each, Hear, Look, Put, Refuse, Run, Tell};
+use super::playing::Deed::{Each, Hear, Look, Put, Refuse, Run, Take, Tell};
 use super::playing::Side::{One, Zero};
 use super::playing::Step::{Ask, At, Late, Same};
 use super::playing::{Step, Told, play};
@@ -149,4 +149,37 @@ const MANY: [Step; 1] = [At(One, Hear(Heard::Ops(0, 2049, 1), Has(0, 2, 2049)))]
 #[test]
 fn a_frame_of_more_than_may_be_parked_is_heard_whole(rt: HostRuntime) {
     play(&rt, rt.alloc(), 2, &MANY);
+}
+
+const MANY_AT_ONCE: [Step; 1] = [At(One, Take(Heard::Ops(0, 2049, 1), Has(0, 2, 2049)))];
+
+#[test]
+fn a_list_of_more_than_one_hold_is_heard_whole(rt: HostRuntime) {
+    play(&rt, rt.alloc(), 2, &MANY_AT_ONCE);
+}
+
+/// The first, third and fifth operation, of which the latter two wait; then the second, after which
+/// the third is tried; then all five, of which three are known and the fifth comes again.
+const GAPS: [Step; 3] = [
+    At(One, Take(Heard::Ops(0, 6, 2), Has(2, 1, 1))),
+    At(One, Take(Heard::Ops(1, 2, 1), Has(1, 2, 3))),
+    At(One, Take(Heard::Ops(0, 5, 1), Has(0, 2, 5))),
+];
+
+#[test]
+fn what_is_early_in_a_list_waits(rt: HostRuntime) {
+    play(&rt, rt.alloc(), 2, &GAPS);
+}
+
+/// As in `CROWD`; and then a list of the first and of the one more, before which what is parked is
+/// tried.
+const CROWD_AT_ONCE: [Step; 3] = [
+    At(One, Take(Heard::Ops(1, 1025, 1), Has(1024, 0, 0))),
+    At(One, Take(Heard::Ops(1025, 1026, 1), Has(1024, 0, 0))),
+    At(One, Take(Heard::Ops(0, 1026, 1025), Has(0, 2, 1026))),
+];
+
+#[test]
+fn a_full_node_tries_what_it_parked_before_it_drops_one(rt: HostRuntime) {
+    play(&rt, rt.alloc(), 2, &CROWD_AT_ONCE);
 }
