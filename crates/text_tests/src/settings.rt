@@ -1,6 +1,7 @@
 //! Texts with settings, and texts that are refused.
 
 mod given;
+mod name_refused;
 mod refused;
 mod site_given;
 mod site_refused;

@@ -1,10 +1,14 @@
 pub mod Apart
 pub mod Broken
 pub mod Faults
+pub mod HostBytes
 pub mod Meant
+pub mod MeantAccept
 pub mod MeantAddresses
 pub mod MeantNumbers
 pub mod MeantPeers
+pub mod NamedTexts
+pub mod NamesRead
 pub mod MeantPorts
 pub mod MeantSite
 pub mod Seen

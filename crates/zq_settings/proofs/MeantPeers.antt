@@ -1,7 +1,7 @@
 -- The peers of an array.
 use Rattle.zq_settings.proofs.Apart.{distinct_since, none_twice}
 use Rattle.zq_settings.proofs.Meant.{known_since, known_from}
-use Rattle.zq_settings.proofs.MeantAddresses.{address_at_since, address_at_from}
+use Rattle.zq_settings.proofs.MeantAddresses.{peer_address_since, peer_address_from}
 use Rattle.zq_settings.proofs.MeantNumbers.{required_since, required_from}
 use Rattle.zq_settings.proofs.Steps.{both_ok, some_since, array_since, table_since}
 use Rattle.std.proofs.Common.{◌≡◌, ◌≤◌, ℕ, suc, eqb, ltb, List, [], ◌∷◌, length, Option, Some, None, Result, Ok, Err, refl, ap, ◌∙◌, inl, inr, arith}
@@ -12,7 +12,7 @@ use Rattle.toml.specs.View.{items_of}
 use Rattle.zq_settings.specs.Peers.{sites_of}
 use Rattle.zq_settings.specs.Ports.{first_twice}
 use Rattle.zq_settings.specs.Settings.{count_of, each, known_keys, site_of}
-use Rattle.zq_settings.specs.Site.{address_at, apart, peer_at, peer_of, peers_in, peers_of, unless_met, unless_own}
+use Rattle.zq_settings.specs.Site.{apart, peer_address_at, peer_at, peer_of, peers_in, peers_of, unless_met, unless_own}
 use Rattle.zq_settings.specs.SiteRules.{AreEach, IsArrayOf, IsPeer, IsPeerTable}
 use Rattle.zq_settings.specs.Tables.{value_at}
 use Rattle.zq_settings.specs.declared.form.Form.TheVariants as form
@@ -62,14 +62,14 @@ peer_table_since own secret table peer h =
     let (known, known_read, h1) = both_ok (known_keys form.Peer table) _ peer h in
     let (number, number_read, h2) = both_ok (site_of key.PeerSite (value_at key.PeerSite table)) _ peer h1 in
     let (site, site_read, h3) = both_ok (unless_own own number) _ peer h2 in
-    let (address, address_read, h4) = both_ok (address_at (is_some secret) key.PeerAddress (value_at key.PeerAddress table)) _ peer h3 in
+    let (address, address_read, h4) = both_ok (peer_address_at (is_some secret) (value_at key.PeerAddress table)) _ peer h3 in
     let (same, other) = other_since own number site site_read in
     let whole : record { site = site; address = address } ≡ peer = cc in
     rw (← whole) (record {
       known = known_since form.Peer table known known_read;
       site = required_since key.PeerSite 0 63 site _ (number_read ∙ ap Ok same);
       other = other;
-      address = address_at_since secret key.PeerAddress _ address address_read;
+      address = peer_address_since secret _ address address_read;
     })
 
 peer_table_from : (own : ℕ) (secret : Option (List ℕ)) (table : Members) (peer : Peer) → IsPeerTable own secret table peer → peer_at own (is_some secret) table ≡ Ok peer
@@ -78,7 +78,7 @@ peer_table_from own secret table peer is =
       known_from form.Peer table is.known,
       required_from key.PeerSite 0 63 peer.site _ is.site,
       other_from own peer.site is.other,
-      address_at_from secret key.PeerAddress _ peer.address is.address,
+      peer_address_from secret _ peer.address is.address,
     )
 
 pub peer_since : (own : ℕ) (secret : Option (List ℕ)) (entry : Data) (peer : Peer) → peer_of own (is_some secret) entry ≡ Ok peer → IsPeer own secret entry peer

@@ -1,18 +1,19 @@
 -- A table's settings of one site are those that its keys say.
 use Rattle.zq_settings.proofs.Meant.{IsCommon, common_since, common_from, known_since, known_from}
+use Rattle.zq_settings.proofs.MeantAccept.{accept_from, accept_since}
 use Rattle.zq_settings.proofs.MeantAddresses.{address_at_since, address_at_from, bind_since, bind_from, secret_since, secret_from}
 use Rattle.zq_settings.proofs.MeantNumbers.{number_since, number_from, required_since, required_from, rule_since, rule_from}
 use Rattle.zq_settings.proofs.MeantPeers.{peers_since, peers_from}
 use Rattle.zq_settings.proofs.Steps.{both_ok, ok_same}
-use Rattle.std.proofs.Common.{◌≡◌, List, Ok, Option, Result, refl, true, ℕ}
+use Rattle.std.proofs.Common.{◌+◌, ◌≡◌, List, Ok, Option, Result, refl, true, ℕ}
 use Rattle.std.specs.List.{All}
 use Rattle.std.specs.Option.{is_some}
 use Rattle.std.specs.declared.net.ip_addr.IpAddr.{IpAddr}
 use Rattle.std.specs.declared.net.socket_addr.SocketAddr.{SocketAddr}
 use Rattle.toml.specs.Data.{Members}
 use Rattle.zq_settings.specs.Keys.{is_known}
-use Rattle.zq_settings.specs.Settings.{◌>>=◌, common_of, known_keys, required_of, rule_of, seed_of, site_of}
-use Rattle.zq_settings.specs.Site.{address_at, bind_of, if_given, link_backlog_of, peers_of, secret_of, site_settings_of}
+use Rattle.zq_settings.specs.Settings.{◌>>=◌, common_of, known_keys, required_of, rule_of, site_of}
+use Rattle.zq_settings.specs.Site.{accept_of, address_at, alone_of, bind_of, if_given, link_backlog_of, peers_of, secret_of, site_seed_of, site_settings_of}
 use Rattle.zq_settings.specs.SiteRules.{IsAddress, IsArrayOf, IsBind, IsRequired, IsSecret, IsSiteSettings, SiteSettingsAreOfTheTable}
 use Rattle.zq_settings.specs.Tables.{names_in, value_at}
 use Rattle.zq_settings.specs.declared.form.Form.TheVariants as form
@@ -27,7 +28,9 @@ abbrev later_of : Members → ℕ → ℕ → IpAddr → Option (List ℕ) → S
 later_of table site port bind secret listen peers =
     common_of table >>= (λ common.
     link_backlog_of (value_at key.LinkBacklog table) >>= (λ link_backlog.
-    seed_of (value_at key.Seed table) >>= (λ seed.
+    alone_of (value_at key.Alone table) >>= (λ alone.
+    accept_of (value_at key.Accept table) >>= (λ accept.
+    site_seed_of site (value_at key.Seed table) >>= (λ seed.
     rule_of (value_at key.Rule table) >>= (λ rule.
     Ok (record {
       site = site;
@@ -41,9 +44,11 @@ later_of table site port bind secret listen peers =
       connections = common.connections;
       limits = common.limits;
       link_backlog = link_backlog;
+      alone = alone;
+      accept = accept;
       seed = seed;
       secret = secret;
-    })))))
+    })))))))
 
 later_since : (table : Members) (site port : ℕ) (bind : IpAddr) (secret : Option (List ℕ)) (listen : SocketAddr) (peers : List Peer) (settings : SiteSettings)
     → All (λ name. is_known form.Site name ≡ true) (names_in table) → IsRequired 0 63 (value_at key.Site table) site → IsRequired 1 65535 (value_at key.Port table) port
@@ -52,9 +57,11 @@ later_since : (table : Members) (site port : ℕ) (bind : IpAddr) (secret : Opti
 later_since table site port bind secret listen peers settings known is_site is_port is_bind is_secret is_listen are_peers h =
     let (common, common_read, h1) = both_ok (common_of table) _ settings h in
     let (link_backlog, link_backlog_read, h2) = both_ok (link_backlog_of (value_at key.LinkBacklog table)) _ settings h1 in
-    let (seed, seed_read, h3) = both_ok (seed_of (value_at key.Seed table)) _ settings h2 in
-    let (rule, rule_read, h4) = both_ok (rule_of (value_at key.Rule table)) _ settings h3 in
-    let whole : record { site = site; port = port; bind = bind; listen = listen; peers = peers; heaps = common.heaps; rule = rule; workers = if_given common.workers (value_at key.Workers table); connections = common.connections; limits = common.limits; link_backlog = link_backlog; seed = seed; secret = secret } ≡ settings = ok_same _ settings _ _ refl refl h4 in
+    let (alone, alone_read, h3) = both_ok (alone_of (value_at key.Alone table)) _ settings h2 in
+    let (accept, accept_read, h4) = both_ok (accept_of (value_at key.Accept table)) _ settings h3 in
+    let (seed, seed_read, h5) = both_ok (site_seed_of site (value_at key.Seed table)) _ settings h4 in
+    let (rule, rule_read, h6) = both_ok (rule_of (value_at key.Rule table)) _ settings h5 in
+    let whole : record { site = site; port = port; bind = bind; listen = listen; peers = peers; heaps = common.heaps; rule = rule; workers = if_given common.workers (value_at key.Workers table); connections = common.connections; limits = common.limits; link_backlog = link_backlog; alone = alone; accept = accept; seed = seed; secret = secret } ≡ settings = ok_same _ settings _ _ refl refl h6 in
     let is = common_since table common common_read in
     rw (← whole) (record {
       known = known;
@@ -69,7 +76,9 @@ later_since table site port bind secret listen peers settings known is_site is_p
       connections = is.connections;
       limits = is.limits;
       link_backlog = number_since _ 1048576 1099511627776 67108864 link_backlog _ link_backlog_read;
-      seed = number_since _ 0 9223372036854775807 1 seed _ seed_read;
+      alone = number_since _ 0 1000000 10 alone _ alone_read;
+      accept = accept_since accept _ accept_read;
+      seed = number_since _ 0 9223372036854775807 (site + 1) seed _ seed_read;
       rule = rule_since rule _ rule_read;
     })
 
@@ -100,7 +109,9 @@ site_settings_from table settings is =
       peers_from settings.site settings.secret settings.peers _ is.peers,
       common_from table common is_common,
       number_from key.LinkBacklog 1048576 1099511627776 67108864 settings.link_backlog _ is.link_backlog,
-      number_from key.Seed 0 9223372036854775807 1 settings.seed _ is.seed,
+      number_from key.Alone 0 1000000 10 settings.alone _ is.alone,
+      accept_from settings.accept _ is.accept,
+      number_from key.Seed 0 9223372036854775807 (settings.site + 1) settings.seed _ is.seed,
       rule_from settings.rule _ is.rule,
       given,
     )

@@ -14,9 +14,8 @@ use Rattle.std.specs.declared.net.ip_addr.IpAddr.{IpAddr}
 use Rattle.std.specs.declared.net.ip_addr.IpAddr.TheVariants as ip
 use Rattle.std.specs.declared.net.socket_addr.SocketAddr.{SocketAddr}
 use Rattle.std.specs.declared.net.socket_addr.SocketAddr.TheVariants as socket
-use Rattle.zq_settings.specs.Addresses.{first_of_two, v4, v6, ip_of, socket_v4, socket_v6, socket_of, unless_zero, address_of, is_local}
-use Rattle.zq_settings.specs.Breaks.{IsNoAddress, IsNoIp}
-use Rattle.zq_settings.specs.SiteRules.{IsLoopback}
+use Rattle.zq_settings.specs.Addresses.{IsLoopback, IsNoAddress, first_of_two, v4, v6, ip_of, socket_v4, socket_v6, socket_of, unless_zero, address_of, is_local}
+use Rattle.zq_settings.specs.Breaks.{IsNoIp}
 
 -- what was read of a whole text
 whole_since : {A : Type 0} (r : Read A) (a : A) → whole_value r ≡ Some a → r ≡ Some (a, [])
@@ -25,11 +24,11 @@ whole_since (Some (x, [])) a h = let same : x ≡ a = cc in ap (λ y. Some (y, [
 whole_since (Some (x, (c ∷ rest))) a h = let none : None ≡ Some a = rw (ne_eqb (length (c ∷ rest)) 0 (omega arith)) at h in cc
 
 -- the first of two, or the second
-either_since : {A : Type 0} (first second : Option A) (a : A) → first_of_two first second ≡ Some a → (first ≡ Some a) ⊎ ((first ≡ None) × (second ≡ Some a))
+pub either_since : {A : Type 0} (first second : Option A) (a : A) → first_of_two first second ≡ Some a → (first ≡ Some a) ⊎ ((first ≡ None) × (second ≡ Some a))
 either_since (Some x) second a h = inl h
 either_since None second a h = inr (refl, h)
 
-mapped_since : {A B : Type 0} (f : A → B) (o : Option A) (b : B) → option_map f o ≡ Some b → (a : A) × (o ≡ Some a) × (f a ≡ b)
+pub mapped_since : {A B : Type 0} (f : A → B) (o : Option A) (b : B) → option_map f o ≡ Some b → (a : A) × (o ≡ Some a) × (f a ≡ b)
 mapped_since f (Some a) b h = (a, refl, cc)
 mapped_since f None b h = cc
 

@@ -1,6 +1,7 @@
 -- The addresses that texts write, as the library reads them.
-use Rattle.std.specs.Prelude.{ℕ, ◌==◌, List, [], ◌∷◌, take, Bool, Option, Some, None, option_map, if◌then◌else◌}
-use Rattle.std.specs.Net.Addr.{ipv4_octets, ipv6_segments}
+use Rattle.std.specs.Prelude.{◌≡◌, ℕ, ◌==◌, List, [], ◌∷◌, take, Bool, Option, Some, None, option_map, if◌then◌else◌}
+use Rattle.std.specs.Net.Addr.{MatchIp, IsLoopbackV4, IsLoopbackV6, ipv4_octets, ipv6_segments}
+use Rattle.std.specs.Net.Grammar.{IsSocketText}
 use Rattle.std.specs.Net.Reader.{read_ipv4, read_ipv6, read_socket_v4, read_socket_v6, whole_value}
 use Rattle.std.specs.Net.Socket.{socket_ip, socket_port}
 use Rattle.std.specs.Str.{bytes_eq}
@@ -59,3 +60,10 @@ is_loopback (ip.V6 a) = bytes_eq (ipv6_segments a) (0 ∷ 0 ∷ 0 ∷ 0 ∷ 0 �
 
 abbrev pub is_local : SocketAddr → Bool
 is_local address = is_loopback (socket_ip address)
+
+abbrev pub IsLoopback : SocketAddr → Type 0
+IsLoopback address = MatchIp (socket_ip address) IsLoopbackV4 IsLoopbackV6
+
+-- a text writes no address with a port that is not 0
+abbrev pub IsNoAddress : List ℕ → Type 0
+IsNoAddress text = (address : SocketAddr) → IsSocketText text address → socket_port address ≡ 0

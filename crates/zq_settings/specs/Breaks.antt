@@ -1,20 +1,22 @@
 -- The rules of settings of several sites that a table can break.
 use Rattle.std.specs.Prelude.{◌≡◌, ◌<◌, ◌⊎◌, ℕ, ℤ, false, List, ◌∷◌, ◌++◌, length, map, Some, None, Err}
-use Rattle.std.specs.Net.Grammar.{IsIpText, IsSocketText}
-use Rattle.std.specs.Net.Socket.{socket_port}
+use Rattle.std.specs.Net.Grammar.{IsIpText}
 use Rattle.std.specs.declared.net.ip_addr.IpAddr.{IpAddr}
-use Rattle.std.specs.declared.net.socket_addr.SocketAddr.{SocketAddr}
 use Rattle.toml.specs.Data.{Data, Members, integer, string, array, as_integer, as_array, as_str, as_table}
 use Rattle.toml.specs.View.{items_of}
+use Rattle.zq_settings.specs.Addresses.{IsNoAddress}
 use Rattle.zq_settings.specs.Keys.{is_known}
 use Rattle.zq_settings.specs.Numbers.{within}
+use Rattle.zq_settings.specs.PeerAddresses.{IsPeerText}
 use Rattle.zq_settings.specs.Rules.{entry_of}
 use Rattle.zq_settings.specs.Settings.{rule_named, settings_of}
+use Rattle.zq_settings.specs.Accepting.{accept_named}
 use Rattle.zq_settings.specs.Tables.{names_in, value_at}
 use Rattle.zq_settings.specs.declared.form.Form.{Form}
 use Rattle.zq_settings.specs.declared.form.Form.TheVariants as form
 use Rattle.zq_settings.specs.declared.key.Key.{Key}
 use Rattle.zq_settings.specs.declared.key.Key.TheVariants as key
+use Rattle.zq_settings.specs.declared.peer_address.PeerAddress.{PeerAddress}
 use Rattle.zq_settings.specs.declared.why.Why.{Why}
 use Rattle.zq_settings.specs.declared.why.Why.TheVariants.{Unknown, Missing, Count, Kind, Range, Twice}
 
@@ -36,12 +38,12 @@ HasItem P value = (before : List Data) × (entry : Data) × (others : List Data)
 abbrev pub IsText : (List ℕ → Type 0) → Data → Type 0
 IsText P value = (text : List ℕ) × (value ≡ string text) × P text
 
--- it writes no IP address, and no address with a port that is not 0
+-- it writes no IP address, and no address of a peer
 abbrev pub IsNoIp : List ℕ → Type 0
 IsNoIp text = (ip : IpAddr) → ¬ IsIpText text ip
 
-abbrev pub IsNoAddress : List ℕ → Type 0
-IsNoAddress text = (address : SocketAddr) → IsSocketText text address → socket_port address ≡ 0
+abbrev pub IsNoPeerAddress : List ℕ → Type 0
+IsNoPeerAddress text = (address : PeerAddress) → ¬ IsPeerText text address
 
 -- the value, or one of the entries of an array, is of another kind than the key takes
 abbrev pub IsOfOtherKind : Key → Data → Type 0
@@ -57,6 +59,8 @@ IsOfOtherKind key.Timeout value = as_integer value ≡ None
 IsOfOtherKind key.WriteTimeout value = as_integer value ≡ None
 IsOfOtherKind key.Output value = as_integer value ≡ None
 IsOfOtherKind key.LinkBacklog value = as_integer value ≡ None
+IsOfOtherKind key.Alone value = as_integer value ≡ None
+IsOfOtherKind key.Accept value = as_str value ≡ None
 IsOfOtherKind key.Seed value = as_integer value ≡ None
 IsOfOtherKind key.Site value = as_integer value ≡ None
 IsOfOtherKind key.Port value = as_integer value ≡ None
@@ -79,6 +83,8 @@ IsOutOfRange key.Timeout value = IsOutside 0 1000000 value
 IsOutOfRange key.WriteTimeout value = IsOutside 0 1000000 value
 IsOutOfRange key.Output value = IsOutside 1048576 1099511627776 value
 IsOutOfRange key.LinkBacklog value = IsOutside 1048576 1099511627776 value
+IsOutOfRange key.Alone value = IsOutside 0 1000000 value
+IsOutOfRange key.Accept value = IsText (λ word. accept_named word ≡ None) value
 IsOutOfRange key.Seed value = IsOutside 0 9223372036854775807 value
 IsOutOfRange key.Site value = IsOutside 0 63 value
 IsOutOfRange key.Port value = IsOutside 1 65535 value
@@ -87,7 +93,7 @@ IsOutOfRange key.Rule value = IsText (λ word. rule_named word ≡ None) value
 IsOutOfRange key.Bind value = IsText IsNoIp value
 IsOutOfRange key.Secret value = IsText (λ text. length text < 16) value
 IsOutOfRange key.Listen value = IsText IsNoAddress value
-IsOutOfRange key.PeerAddress value = IsText IsNoAddress value
+IsOutOfRange key.PeerAddress value = IsText IsNoPeerAddress value
 
 -- a key that such a table does not have
 abbrev pub HasUnknown : Form → List ℕ → Members → Type 0

@@ -1,9 +1,12 @@
+pub mod Accepting
 pub mod Numbers
 pub mod Keys
 pub mod Ports
 pub mod Peers
 pub mod Tables
 pub mod Addresses
+pub mod Hosts
+pub mod PeerAddresses
 pub mod Settings
 pub mod Site
 pub mod Memory

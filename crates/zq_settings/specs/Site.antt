@@ -1,18 +1,23 @@
 -- The settings of one site that a table has, or the first rule that it breaks.
-use Rattle.std.specs.Prelude.{ℕ, ◌==◌, nat_lt, ◌||◌, Bool, List, [], length, Option, Some, None, Result, Ok, Err, if◌then◌else◌, option_map}
+use Rattle.std.specs.Prelude.{ℕ, ◌+◌, ◌==◌, nat_lt, ◌||◌, Bool, List, [], length, Option, Some, None, Result, Ok, Err, if◌then◌else◌, option_map}
 use Rattle.std.specs.Option.{is_some, ok_or}
 use Rattle.std.specs.declared.net.ip_addr.IpAddr.{IpAddr}
 use Rattle.std.specs.declared.net.socket_addr.SocketAddr.{SocketAddr}
 use Rattle.toml.specs.Data.{Data, Items, Members, as_array, as_str, as_table}
 use Rattle.zq_settings.specs.Addresses.{address_of, ip_of, is_local, localhost}
+use Rattle.zq_settings.specs.Accepting.{accept_named}
+use Rattle.zq_settings.specs.PeerAddresses.{is_local_peer, peer_address_of}
 use Rattle.zq_settings.specs.Peers.{sites_of}
 use Rattle.zq_settings.specs.Ports.{first_twice}
-use Rattle.zq_settings.specs.Settings.{◌>>=◌, common_of, count_of, each, known_keys, number_of, required_of, rule_of, seed_of, site_of}
+use Rattle.zq_settings.specs.Settings.{◌>>=◌, common_of, count_of, each, known_keys, number_of, required_of, rule_of, site_of}
 use Rattle.zq_settings.specs.Tables.{value_at}
+use Rattle.zq_settings.specs.declared.accept.Accept.{Accept}
+use Rattle.zq_settings.specs.declared.accept.Accept.TheVariants.{Any}
 use Rattle.zq_settings.specs.declared.form.Form.TheVariants as form
 use Rattle.zq_settings.specs.declared.key.Key.{Key}
 use Rattle.zq_settings.specs.declared.key.Key.TheVariants as key
 use Rattle.zq_settings.specs.declared.peer.Peer.{Peer}
+use Rattle.zq_settings.specs.declared.peer_address.PeerAddress.{PeerAddress}
 use Rattle.zq_settings.specs.declared.values.SiteSettings.{SiteSettings}
 use Rattle.zq_settings.specs.declared.why.Why.{Why}
 use Rattle.zq_settings.specs.declared.why.Why.TheVariants.{Missing, Count, Kind, Range, PeerTwice, OwnPeer, Exposed}
@@ -28,6 +33,18 @@ address_at secured key None = Err (Missing key)
 address_at secured key (Some value) =
     ok_or (as_str value) (Kind key) >>=
     (λ text. ok_or (address_of text) (Range key) >>= unless_exposed secured key)
+
+-- the address of a peer, which without a secret is a loopback address or `localhost`
+abbrev pub unless_far : Bool → PeerAddress → Result PeerAddress Why
+unless_far secured address =
+    if secured || is_local_peer address then Ok address else Err (Exposed key.PeerAddress)
+
+-- the address of a peer, which has to be there
+abbrev pub peer_address_at : Bool → Option Data → Result PeerAddress Why
+peer_address_at secured None = Err (Missing key.PeerAddress)
+peer_address_at secured (Some value) =
+    ok_or (as_str value) (Kind key.PeerAddress) >>=
+    (λ text. ok_or (peer_address_of text) (Range key.PeerAddress) >>= unless_far secured)
 
 -- an address, and 127.0.0.1 where there is no value
 abbrev pub bind_of : Option Data → Result IpAddr Why
@@ -54,7 +71,7 @@ peer_at own secured table =
     known_keys form.Peer table >>= (λ known.
     site_of key.PeerSite (value_at key.PeerSite table) >>= (λ number.
     unless_own own number >>= (λ site.
-    address_at secured key.PeerAddress (value_at key.PeerAddress table) >>= (λ address.
+    peer_address_at secured (value_at key.PeerAddress table) >>= (λ address.
     Ok (record { site = site; address = address })))))
 
 -- an entry that is a peer
@@ -88,6 +105,20 @@ if_given n value = option_map (λ _. n) value
 abbrev pub link_backlog_of : Option Data → Result ℕ Why
 link_backlog_of value = number_of key.LinkBacklog 1048576 1099511627776 67108864 value
 
+-- how many seconds a site waits for its peers, and 10 where there is no value
+abbrev pub alone_of : Option Data → Result ℕ Why
+alone_of value = number_of key.Alone 0 1000000 10 value
+
+-- whom a site accepts by its word, and any where there is no value
+abbrev pub accept_of : Option Data → Result Accept Why
+accept_of None = Ok Any
+accept_of (Some value) = ok_or (as_str value) (Kind key.Accept) >>=
+    (λ word. ok_or (accept_named word) (Range key.Accept))
+
+-- what the draws of a site are made with, and its number and 1 where there is no value
+abbrev pub site_seed_of : ℕ → Option Data → Result ℕ Why
+site_seed_of site value = number_of key.Seed 0 9223372036854775807 (site + 1) value
+
 -- the values of the keys in turn, in a table with no other key
 abbrev pub site_values_of : Members → Result SiteSettings Why
 site_values_of table =
@@ -99,7 +130,9 @@ site_values_of table =
     peers_of site (is_some secret) (value_at key.Peers table) >>= (λ peers.
     common_of table >>= (λ common.
     link_backlog_of (value_at key.LinkBacklog table) >>= (λ link_backlog.
-    seed_of (value_at key.Seed table) >>= (λ seed.
+    alone_of (value_at key.Alone table) >>= (λ alone.
+    accept_of (value_at key.Accept table) >>= (λ accept.
+    site_seed_of site (value_at key.Seed table) >>= (λ seed.
     rule_of (value_at key.Rule table) >>= (λ rule.
     Ok (record {
       site = site;
@@ -113,9 +146,11 @@ site_values_of table =
       connections = common.connections;
       limits = common.limits;
       link_backlog = link_backlog;
+      alone = alone;
+      accept = accept;
       seed = seed;
       secret = secret;
-    })))))))))))
+    })))))))))))))
 
 -- the settings that a table has, or the first rule that it breaks
 abbrev pub site_settings_of : Members → Result SiteSettings Why

@@ -4,13 +4,15 @@ use Rattle.std.specs.Net.Grammar.{IsSocketText}
 use Rattle.std.specs.declared.net.socket_addr.SocketAddr.{SocketAddr}
 use Rattle.toml.specs.Data.{Data, Members, integer, string, array, table as subtable}
 use Rattle.toml.specs.View.{items_of}
+use Rattle.zq_settings.specs.Addresses.{IsLoopback}
 use Rattle.zq_settings.specs.Breaks.{HasUnknown, IsOfOtherKind, IsOutOfRange}
+use Rattle.zq_settings.specs.PeerAddresses.{IsLocalPeer, IsPeerText}
 use Rattle.zq_settings.specs.Site.{site_settings_of}
-use Rattle.zq_settings.specs.SiteRules.{IsLoopback}
 use Rattle.zq_settings.specs.Tables.{value_at}
 use Rattle.zq_settings.specs.declared.form.Form.TheVariants as form
 use Rattle.zq_settings.specs.declared.key.Key.{Key}
 use Rattle.zq_settings.specs.declared.key.Key.TheVariants as key
+use Rattle.zq_settings.specs.declared.peer_address.PeerAddress.{PeerAddress}
 use Rattle.zq_settings.specs.declared.why.Why.{Why}
 use Rattle.zq_settings.specs.declared.why.Why.TheVariants.{Unknown, Missing, Count, Kind, Range, PeerTwice, OwnPeer, Exposed}
 
@@ -41,9 +43,11 @@ HasTwice site table = (before : List Data) × (first : Members) × (between : Li
     × (value_at key.PeerSite first ≡ Some (integer (pos site)))
     × (value_at key.PeerSite second ≡ Some (integer (pos site)))
 
--- a text that writes an address that is no loopback address
-abbrev pub IsExposed : Data → Type 0
-IsExposed value = (text : List ℕ) × (address : SocketAddr) × (value ≡ string text)
+-- a text that writes an address that is no loopback address; of a peer, neither that nor `localhost`
+abbrev pub IsExposed : Key → Data → Type 0
+IsExposed key.PeerAddress value = (text : List ℕ) × (address : PeerAddress)
+    × (value ≡ string text) × IsPeerText text address × ¬ IsLocalPeer address
+IsExposed key value = (text : List ℕ) × (address : SocketAddr) × (value ≡ string text)
     × IsSocketText text address × ¬ IsLoopback address
 
 -- the rule that is broken, apart from the order of rules
@@ -60,7 +64,7 @@ SiteBreaks table (PeerTwice site) = HasTwice site table
 SiteBreaks table (OwnPeer site) = (value_at key.Site table ≡ Some (integer (pos site)))
     × HasPeer (λ peer. value_at key.PeerSite peer ≡ Some (integer (pos site))) table
 SiteBreaks table (Exposed address) = (value_at key.Secret table ≡ None)
-    × HasValue address IsExposed table
+    × HasValue address (IsExposed address) table
 SiteBreaks table _ = ⊥
 
 -- a table is refused for a rule that it breaks

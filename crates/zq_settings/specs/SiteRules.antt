@@ -1,21 +1,25 @@
 -- What a table of settings of one site has to say, key by key.
-use Rattle.std.specs.Prelude.{◌≡◌, ◌≤◌, ◌⊎◌, ◌↔◌, ℕ, pos, List, [], ◌∷◌, length, All, IsTrue, Option, Some, None, Ok}
-use Rattle.std.specs.Net.Addr.{MatchIp, IsLoopbackV4, IsLoopbackV6}
+use Rattle.std.specs.Prelude.{◌+◌, ◌≡◌, ◌≤◌, ◌⊎◌, ◌↔◌, ℕ, pos, List, [], ◌∷◌, length, All, IsTrue, Option, Some, None, Ok}
 use Rattle.std.specs.Net.Grammar.{IsIpText, IsSocketText}
-use Rattle.std.specs.Net.Socket.{socket_ip, socket_port}
+use Rattle.std.specs.Net.Socket.{socket_port}
 use Rattle.std.specs.declared.net.ip_addr.IpAddr.{IpAddr}
 use Rattle.std.specs.declared.net.socket_addr.SocketAddr.{SocketAddr}
 use Rattle.toml.specs.Data.{Data, Members, integer, string, array, table as subtable}
 use Rattle.toml.specs.View.{items_of}
-use Rattle.zq_settings.specs.Addresses.{localhost}
+use Rattle.zq_settings.specs.Accepting.{accept_word}
+use Rattle.zq_settings.specs.Addresses.{IsLoopback, localhost}
 use Rattle.zq_settings.specs.Keys.{is_known}
+use Rattle.zq_settings.specs.PeerAddresses.{IsLocalPeer, IsPeerText}
 use Rattle.zq_settings.specs.Peers.{ArePeers}
 use Rattle.zq_settings.specs.Rules.{AreClientLimits, IsLimit, IsNumber, IsRule}
 use Rattle.zq_settings.specs.Site.{if_given, site_settings_of}
 use Rattle.zq_settings.specs.Tables.{names_in, value_at}
+use Rattle.zq_settings.specs.declared.accept.Accept.{Accept}
+use Rattle.zq_settings.specs.declared.accept.Accept.TheVariants.{Any}
 use Rattle.zq_settings.specs.declared.form.Form.TheVariants as form
 use Rattle.zq_settings.specs.declared.key.Key.TheVariants as key
 use Rattle.zq_settings.specs.declared.peer.Peer.{Peer}
+use Rattle.zq_settings.specs.declared.peer_address.PeerAddress.{PeerAddress}
 use Rattle.zq_settings.specs.declared.values.SiteSettings.{SiteSettings}
 
 -- the value is the number, which lies between the bounds
@@ -30,15 +34,17 @@ IsBind value ip = ((value ≡ None) × (ip ≡ localhost)) ⊎ ((text : List ℕ
 abbrev pub IsSecret : Option Data → Option (List ℕ) → Type 0
 IsSecret value secret = ((value ≡ None) × (secret ≡ None)) ⊎ ((text : List ℕ) × (value ≡ Some (string text)) × (16 ≤ length text) × (secret ≡ Some text))
 
--- an address of this host alone
-abbrev pub IsLoopback : SocketAddr → Type 0
-IsLoopback address = MatchIp (socket_ip address) IsLoopbackV4 IsLoopbackV6
-
 -- the value is a text that writes the address, with a port that is not 0; where there is no secret,
 -- a loopback address
 abbrev pub IsAddress : Option (List ℕ) → Option Data → SocketAddr → Type 0
 IsAddress secret value address = (text : List ℕ) × (value ≡ Some (string text))
     × IsSocketText text address × (1 ≤ socket_port address) × (secret ≡ None → IsLoopback address)
+
+-- the value is a text that writes the address of a peer; where there is no secret, a loopback
+-- address or `localhost`
+abbrev pub IsPeerAddress : Option (List ℕ) → Option Data → PeerAddress → Type 0
+IsPeerAddress secret value address = (text : List ℕ) × (value ≡ Some (string text))
+    × IsPeerText text address × (secret ≡ None → IsLocalPeer address)
 
 -- a table has the keys of a peer alone, and they say this peer, which is another site than its own
 pub record IsPeerTable (own : ℕ) (secret : Option (List ℕ)) (table : Members) (peer : Peer) : Type 0
@@ -46,7 +52,7 @@ pub record IsPeerTable (own : ℕ) (secret : Option (List ℕ)) (table : Members
     pub known : All (λ name. IsTrue (is_known form.Peer name)) (names_in table)
     pub site : IsRequired 0 63 (value_at key.PeerSite table) peer.site
     pub other : ¬ (peer.site ≡ own)
-    pub address : IsAddress secret (value_at key.PeerAddress table) peer.address
+    pub address : IsPeerAddress secret (value_at key.PeerAddress table) peer.address
 
 abbrev pub IsPeer : ℕ → Option (List ℕ) → Data → Peer → Type 0
 IsPeer own secret entry peer = (table : Members) × (entry ≡ subtable table)
@@ -70,6 +76,11 @@ IsArrayOf own secret value peers =
 abbrev pub AreWorkers : Option Data → Option ℕ → Type 0
 AreWorkers value workers = (n : ℕ) × IsNumber 1 64 4 value n × (workers ≡ if_given n value)
 
+-- there is no value, and any site is accepted, or the value is the word of whom is
+abbrev pub IsAccept : Option Data → Accept → Type 0
+IsAccept value accept = ((value ≡ None) × (accept ≡ Any))
+    ⊎ (value ≡ Some (string (accept_word accept)))
+
 -- each key of the table is known, and each value is as its key wants it
 pub record IsSiteSettings (table : Members) (settings : SiteSettings) : Type 0 where
   pub known : All (λ name. IsTrue (is_known form.Site name)) (names_in table)
@@ -85,7 +96,10 @@ pub record IsSiteSettings (table : Members) (settings : SiteSettings) : Type 0 w
   pub limits : AreClientLimits table settings.limits
   pub link_backlog : IsNumber 1048576 1099511627776 67108864 (value_at key.LinkBacklog table)
       settings.link_backlog
-  pub seed : IsNumber 0 9223372036854775807 1 (value_at key.Seed table) settings.seed
+  pub alone : IsNumber 0 1000000 10 (value_at key.Alone table) settings.alone
+  pub accept : IsAccept (value_at key.Accept table) settings.accept
+  pub seed : IsNumber 0 9223372036854775807 (settings.site + 1) (value_at key.Seed table)
+      settings.seed
   pub rule : IsRule (value_at key.Rule table) settings.rule
 
 -- a table has settings where it breaks no rule, and no others

@@ -29,6 +29,8 @@ takes_of key.Timeout = codes "a whole number from 0 to 1000000"
 takes_of key.WriteTimeout = codes "a whole number from 0 to 1000000"
 takes_of key.Output = codes "a whole number from 1048576 to 1099511627776"
 takes_of key.LinkBacklog = codes "a whole number from 1048576 to 1099511627776"
+takes_of key.Alone = codes "a whole number from 0 to 1000000"
+takes_of key.Accept = codes "\"any\" or \"listed\""
 takes_of key.Seed = codes "a whole number from 0 to 9223372036854775807"
 takes_of key.Rule = codes "\"HIGH\" or \"LOW\""
 takes_of key.Site = codes "a whole number from 0 to 63"
@@ -38,14 +40,22 @@ takes_of key.Secret = codes "a text of at least 16 bytes"
 takes_of key.Listen = codes "an IP address with a port from 1 to 65535, as \"127.0.0.1:7101\""
 takes_of key.Peers = codes "an array of at most 63 tables of other sites"
 takes_of key.PeerSite = codes "a whole number from 0 to 63"
-takes_of key.PeerAddress = codes "an IP address with a port from 1 to 65535, as \"127.0.0.1:7101\""
+takes_of key.PeerAddress =
+    codes "an IP address or the name of a host, with a port from 1 to 65535, as \"127.0.0.1:7101\" or \"queue-0.example:7101\""
+
+-- that a key's address is open to others, and what belongs there
+abbrev pub exposed_of : Key → List ℕ
+exposed_of key.PeerAddress =
+    codes "neither a loopback address nor localhost: without a secret of at least 16 bytes it takes one of these"
+exposed_of other =
+    codes "no loopback address: without a secret of at least 16 bytes it takes one"
 
 -- what has the keys of a table, and which they are
 abbrev pub keys_text : Form → List ℕ
 keys_text form.Sites =
     codes "settings, which are ports, heaps, workers, connections, clients, timeout, write_timeout, output, seed and rule"
 keys_text form.Site =
-    codes "a site's settings, which are site, port, bind, secret, listen, peers, heaps, workers, connections, clients, timeout, write_timeout, output, link_backlog, seed and rule"
+    codes "a site's settings, which are site, port, bind, secret, listen, peers, heaps, workers, connections, clients, timeout, write_timeout, output, link_backlog, alone, accept, seed and rule"
 keys_text form.Peer = codes "a peer, which are site and address"
 
 -- what is wrong with a key's value, and what the key takes
@@ -70,8 +80,7 @@ words_of (why.PeerTwice site) =
 words_of (why.OwnPeer site) =
     Some (fault_text key.Peers (codes "has the site's own number " ++ decimal site))
 words_of (why.Exposed key) =
-    Some (owner_of key ++ name_of key
-    ++ codes " is no loopback address: without a secret of at least 16 bytes it takes one")
+    Some (owner_of key ++ (name_of key ++ (codes " is " ++ exposed_of key)))
 
 -- the same of a fault
 abbrev pub fault_words : SettingsFault → Option (List ℕ)

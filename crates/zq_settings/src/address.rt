@@ -1,14 +1,21 @@
 //! Addresses from texts.
 
-ghost use Rattle.std.specs.Prelude.{◌≡◌};
+ghost use Rattle.std.specs.Prelude.{◌≡◌, IfOk};
 ghost use Rattle.toml.specs.View.{table_view};
 ghost use Rattle.zq_settings.specs.Addresses.{address_of as address_in, ip_of as ip_in, is_local as is_local_in, socket_of as socket_in};
-ghost use Rattle.zq_settings.specs.Site.{bind_of as bind_at, address_at};
+ghost use Rattle.zq_settings.specs.PeerAddresses.{is_local_peer as is_local_peer_in, peer_address_of as peer_address_in};
+ghost use Rattle.zq_settings.specs.Site.{bind_of as bind_at, address_at, peer_address_at};
 ghost use Rattle.zq_settings.specs.Tables.{value_at as value_in};
+ghost use Rattle.zq_settings.specs.Texts.{Reads};
 
+use crate::fault::SettingsFault;
+use crate::host_name::HostName;
 use crate::key::Key;
 use crate::lookup::value_at;
+use crate::naming::{is_localhost, named_of};
+use crate::peer_address::PeerAddress;
 use crate::why::Why;
+use std::alloc::{AllocError, Global};
 use std::net::{IpAddr, Ipv4Addr, SocketAddr};
 use toml::Table;
 
@@ -27,6 +34,29 @@ pub fn read_address(table: &Table, key: Key, secured: bool) -> Result<SocketAddr
         Some(address) if secured || is_local(&address) => Ok(address),
         Some(_) => Err(Why::Exposed(key)),
         None => Err(Why::Range(key)),
+    }
+}
+
+/// Where a peer listens, which has to be there. Where there is no secret it has to be at a loopback
+/// address or at `localhost`.
+pub fn read_peer_address(
+    alloc: Global,
+    table: &Table,
+    secured: bool,
+) -> Result<PeerAddress, SettingsFault>
+    ensures { Reads result
+        (peer_address_at secured (value_in Key.PeerAddress (table_view table.now))) }
+{
+    let Some(value) = value_at(table, Key::PeerAddress) else {
+        return Err(Why::Missing(Key::PeerAddress).into());
+    };
+    let Some(text) = value.as_str() else {
+        return Err(Why::Kind(Key::PeerAddress).into());
+    };
+    match peer_address_of(alloc, text)? {
+        Some(address) if secured || is_local_peer(&address) => Ok(address),
+        Some(_) => Err(Why::Exposed(Key::PeerAddress).into()),
+        None => Err(Why::Range(Key::PeerAddress).into()),
     }
 }
 
@@ -55,6 +85,22 @@ fn address_of(text: &str) -> Option<SocketAddr>
     Some(address)
 }
 
+/// Where a peer listens by the text: an IP address with a port that is not 0, or a name and a port.
+fn peer_address_of(alloc: Global, text: &str) -> Result<Option<PeerAddress>, AllocError>
+    ensures { IfOk result (λ address. address ≡ peer_address_in text.now) }
+{
+    if let Some(address) = address_of(text) {
+        return Ok(Some(PeerAddress::Ip(address)));
+    }
+    match named_of(text) {
+        Some((name, port)) => {
+            let name = HostName::copy(alloc, name)?;
+            Ok(Some(PeerAddress::Named(name, port)))
+        }
+        None => Ok(None),
+    }
+}
+
 /// The address with a port that the text writes.
 #[tactic(auto, using(crate::proofs::Spelled::socket_parsed))]
 fn socket_of(text: &str) -> Option<SocketAddr>
@@ -69,6 +115,16 @@ fn ip_of(text: &str) -> Option<IpAddr>
     ensures { result ≡ ip_in text.now }
 {
     text.parse::<IpAddr>().ok()
+}
+
+/// Whether it is a loopback address, or `localhost`.
+fn is_local_peer(address: &PeerAddress) -> bool
+    ensures { result ≡ is_local_peer_in address.now }
+{
+    match address {
+        PeerAddress::Ip(address) => is_local(address),
+        PeerAddress::Named(name, _) => is_localhost(name.as_str()),
+    }
 }
 
 /// Whether it is a loopback address.

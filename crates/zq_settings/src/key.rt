@@ -2,7 +2,7 @@
 
 ghost use Rattle.std.specs.Prelude.{◌≡◌};
 ghost use Rattle.zq_settings.specs.Keys.{name_of};
-ghost use Rattle.zq_settings.specs.Words.{owner_of, takes_of};
+ghost use Rattle.zq_settings.specs.Words.{exposed_of, owner_of, takes_of};
 
 /// A key that settings may have.
 #[derive(Clone, Copy, Debug, PartialEq, Eq)]
@@ -25,6 +25,10 @@ pub enum Key {
     Output,
     /// How many bytes of operations the one site keeps written for its peers.
     LinkBacklog,
+    /// How long the one site waits for its peers before it takes writes.
+    Alone,
+    /// Which sites of greater numbers the one site accepts.
+    Accept,
     /// What draws are made with.
     Seed,
     /// Which of a member's values is its score.
@@ -62,6 +66,8 @@ impl Key {
             Key::WriteTimeout => "write_timeout",
             Key::Output => "output",
             Key::LinkBacklog => "link_backlog",
+            Key::Alone => "alone",
+            Key::Accept => "accept",
             Key::Seed => "seed",
             Key::Rule => "rule",
             Key::Site | Key::PeerSite => "site",
@@ -92,21 +98,35 @@ impl Key {
             Key::Ports => "an array of 1 to 64 different port numbers from 1 to 65535",
             Key::Heaps => "a whole number from 2 to 16",
             Key::Workers => "a whole number from 1 to 64",
-            Key::Connections | Key::Timeout | Key::WriteTimeout => {
+            Key::Connections | Key::Timeout | Key::WriteTimeout | Key::Alone => {
                 "a whole number from 0 to 1000000"
             }
             Key::Clients => "a whole number from 1 to 1000000",
             Key::Output | Key::LinkBacklog => "a whole number from 1048576 to 1099511627776",
             Key::Seed => "a whole number from 0 to 9223372036854775807",
             Key::Rule => "\"HIGH\" or \"LOW\"",
+            Key::Accept => "\"any\" or \"listed\"",
             Key::Site | Key::PeerSite => "a whole number from 0 to 63",
             Key::Port => "a whole number from 1 to 65535",
             Key::Bind => "an IP address, as \"127.0.0.1\"",
             Key::Secret => "a text of at least 16 bytes",
-            Key::Listen | Key::PeerAddress => {
-                "an IP address with a port from 1 to 65535, as \"127.0.0.1:7101\""
-            }
+            Key::Listen => "an IP address with a port from 1 to 65535, as \"127.0.0.1:7101\"",
             Key::Peers => "an array of at most 63 tables of other sites",
+            Key::PeerAddress => {
+                "an IP address or the name of a host, with a port from 1 to 65535, as \"127.0.0.1:7101\" or \"queue-0.example:7101\""
+            }
+        }
+    }
+
+    /// That the key's address is open to others, and what it takes without a secret, in words.
+    pub(crate) fn exposed(self) -> &'static str
+        ensures { result.now ≡ exposed_of self }
+    {
+        match self {
+            Key::PeerAddress => {
+                "neither a loopback address nor localhost: without a secret of at least 16 bytes it takes one of these"
+            }
+            _ => "no loopback address: without a secret of at least 16 bytes it takes one",
         }
     }
 }

@@ -2,17 +2,22 @@
 //! the first reason for which the text has none, in words that its author can act on.
 #![tactic(auto)]
 
+mod accept;
+mod accepting;
 mod address;
 mod common;
 mod entries;
 mod fault;
 mod form;
+mod host_name;
 mod key;
 pub mod laws;
 mod lookup;
 mod name;
+mod naming;
 mod number;
 mod peer;
+mod peer_address;
 mod peering;
 mod peers;
 mod ports;
@@ -24,11 +29,14 @@ mod values;
 mod why;
 mod within;
 
+pub use accept::Accept;
 pub use fault::SettingsFault;
 pub use form::Form;
+pub use host_name::HostName;
 pub use key::Key;
 pub use name::Name;
 pub use peer::Peer;
+pub use peer_address::PeerAddress;
 pub use peers::{MOST_PEERS, Peers};
 pub use ports::{MOST_PORTS, Port, Ports};
 pub use read::{settings, site_settings};

@@ -1,13 +1,13 @@
 //! Peers of a site.
 
-use std::net::SocketAddr;
+use crate::peer_address::PeerAddress;
 use zq_dots::SiteNo;
 
 /// Another site, with which a site links.
-#[derive(Clone, Copy, Debug, PartialEq, Eq)]
+#[derive(Debug, Drop)]
 pub struct Peer {
     /// Its number.
     pub site: SiteNo,
     /// Where it listens for its peers.
-    pub address: SocketAddr,
+    pub address: PeerAddress,
 }

@@ -8,7 +8,7 @@ ghost use Rattle.zq_settings.specs.Site.{peer_at, peer_of as peer_in, peers_in, 
 ghost use Rattle.zq_settings.specs.Tables.{value_at as value_in};
 ghost use Rattle.zq_settings.specs.Texts.{Reads, ReadsAll};
 
-use crate::address::read_address;
+use crate::address::read_peer_address;
 use crate::fault::SettingsFault;
 use crate::form::Form;
 use crate::key::Key;
@@ -23,7 +23,7 @@ use toml::{Table, Value};
 use zq_dots::SiteNo;
 
 /// The peers of the table, which are none where it does not have the key. None of them has the
-/// site's own number, and where there is no secret each is at a loopback address.
+/// site's own number, and where there is no secret each is at a loopback address or `localhost`.
 pub fn read_peers(
     alloc: Global,
     table: &Table,
@@ -109,6 +109,6 @@ fn read_peer(
     if site == own {
         return Err(Why::OwnPeer(site).into());
     }
-    let address = read_address(table, Key::PeerAddress, secured)?;
+    let address = read_peer_address(alloc, table, secured)?;
     Ok(Peer { site, address })
 }

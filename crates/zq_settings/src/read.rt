@@ -53,13 +53,16 @@ pub fn settings(alloc: Global, text: &str) -> Result<Settings, SettingsFault>
 /// | `bind` | the IP address at which that port is, as `"127.0.0.1"` | 127.0.0.1 |
 /// | `secret` | what it shares with its peers, a text of at least 16 bytes | there is none |
 /// | `listen` | where it listens for its peers: an IP address with a port that is not 0, as `"127.0.0.1:7101"` | refused |
-/// | `peers` | an array of at most 63 tables, each with the keys `site` and `address` and no other: the number of another site, and where it listens | there are none |
+/// | `peers` | an array of at most 63 tables, each with the keys `site` and `address` and no other: the number of another site, and where it listens, an IP address or the name of a host, with a port from 1 to 65535, as `"127.0.0.1:7101"` or `"queue-0.example:7101"` | there are none |
 /// | `workers` | 1 to 64 | as many as there are processors, 4 at most |
 /// | `link_backlog` | 1048576 to 1099511627776 | 67108864 |
-/// | `heaps`, `connections`, `clients`, `timeout`, `write_timeout`, `output`, `seed`, `rule` | as of [`settings`] | as of [`settings`] |
+/// | `alone` | 0 to 1000000 | 10 |
+/// | `accept` | `"any"` or `"listed"` | `"any"` |
+/// | `seed` | 0 to 9223372036854775807 | the site's number and 1 |
+/// | `heaps`, `connections`, `clients`, `timeout`, `write_timeout`, `output`, `rule` | as of [`settings`] | as of [`settings`] |
 ///
-/// No two peers have the same number. Where there is no `secret`, `listen` and each peer's
-/// `address` are loopback addresses.
+/// No two peers have the same number. Where there is no `secret`, `listen` is a loopback address,
+/// and so is each peer's `address`, or it has the name `localhost`.
 ///
 /// # Errors
 ///

@@ -1,6 +1,6 @@
 //! Settings from a table.
 
-ghost use Rattle.std.specs.Prelude.{◌≡◌, IsErrOf};
+ghost use Rattle.std.specs.Prelude.{◌+◌, ◌≡◌, IsErrOf};
 ghost use Rattle.toml.specs.View.{table_view};
 ghost use Rattle.zq_settings.specs.Memory.{AsksForValues, AsksOfSite, AsksOfSites};
 ghost use Rattle.zq_settings.specs.Settings.{settings_of};
@@ -8,6 +8,7 @@ ghost use Rattle.zq_settings.specs.Site.{if_given, site_settings_of, site_values
 ghost use Rattle.zq_settings.specs.Tables.{value_at as value_in};
 ghost use Rattle.zq_settings.specs.Texts.{Reads};
 
+use crate::accepting::read_accept;
 use crate::address::{read_address, read_bind};
 use crate::common::{read_common, read_rule, read_seed};
 use crate::entries::read_ports;
@@ -19,10 +20,11 @@ use crate::number::{read_number, read_required, read_site};
 use crate::peering::read_peers;
 use crate::secret::read_secret;
 use crate::unknown::refuse_unknown;
-use crate::values::{Settings, SiteSettings, WorkerCount};
+use crate::values::{Seed, Settings, SiteSettings, WorkerCount};
 use crate::within::Within;
 use std::alloc::Global;
 use toml::Table;
+use zq_dots::SiteNo;
 
 /// The settings of several sites that the table has, or the first rule that it breaks.
 pub fn read_table(alloc: Global, table: &Table) -> Result<Settings, SettingsFault>
@@ -68,7 +70,9 @@ fn read_site_values(alloc: Global, table: &Table) -> Result<SiteSettings, Settin
     let peers = read_peers(alloc, table, site, secured)?;
     let common = read_common(table)?;
     let link_backlog = read_number(table, Key::LinkBacklog, Within::of(67_108_864))?;
-    let seed = read_seed(table)?;
+    let alone = read_number(table, Key::Alone, Within::of(10))?;
+    let accept = read_accept(table)?;
+    let seed = read_number(table, Key::Seed, seed_of_site(site))?;
     let rule = read_rule(table)?;
     Ok(SiteSettings {
         site,
@@ -82,6 +86,8 @@ fn read_site_values(alloc: Global, table: &Table) -> Result<SiteSettings, Settin
         connections: common.connections,
         limits: common.limits,
         link_backlog,
+        alone,
+        accept,
         seed,
         secret,
     })
@@ -95,4 +101,12 @@ fn given_workers(table: &Table, workers: WorkerCount) -> Option<WorkerCount>
         Some(_) => Some(workers),
         None => None,
     }
+}
+
+/// What the draws of a site of this number are made with where the table does not say: the number
+/// and 1, so that no two sites draw alike.
+fn seed_of_site(site: SiteNo) -> Seed
+    ensures { result ≡ site + 1 }
+{
+    Within::of(u64::from(site.value()) + 1)
 }

@@ -1,5 +1,6 @@
 //! The values of settings.
 
+use crate::accept::Accept;
 use crate::peers::Peers;
 use crate::ports::{Port, Ports};
 use crate::secret::Secret;
@@ -75,7 +76,8 @@ pub struct SiteSettings {
     /// Where it listens for its peers: a loopback address where there is no secret. The port is not
     /// 0.
     pub listen: SocketAddr,
-    /// Its peers, none of which has its number. Their addresses are as its own is.
+    /// Its peers, none of which has its number. Where there is no secret their addresses are
+    /// loopback addresses or `localhost`.
     pub peers: Peers,
     /// Its number of heaps.
     pub heaps: HeapCount,
@@ -90,6 +92,10 @@ pub struct SiteSettings {
     pub limits: ClientLimits,
     /// How many bytes of operations it keeps written for its peers, over all its heaps.
     pub link_backlog: BacklogSize,
+    /// How many seconds it waits at most, as it starts, to hear its peers before it takes writes.
+    pub alone: Seconds,
+    /// Which sites of greater numbers it accepts.
+    pub accept: Accept,
     /// What each worker's draws are made with.
     pub seed: Seed,
     /// What it shares with its peers, to know them by. With `None` whoever comes is believed.

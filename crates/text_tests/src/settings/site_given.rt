@@ -4,10 +4,18 @@ use super::has_limits;
 use std::net::{IpAddr, Ipv6Addr, SocketAddr};
 use std::test::Fail;
 use zq_dots::Rule;
-use zq_settings::{Peer, SiteSettings, site_settings};
+use zq_settings::{Accept, Peer, PeerAddress, SiteSettings, site_settings};
 
 /// An address of four numbers, and its port.
 type Place = ([u8; 4], u16);
+
+/// Where a peer is.
+enum Where {
+    /// At an address.
+    At(Place),
+    /// At a name, and a port.
+    Named(&'static str, u64),
+}
 
 struct Row {
     text: &'static str,
@@ -15,9 +23,12 @@ struct Row {
     port: u64,
     bind: [u8; 4],
     listen: Place,
-    peers: &'static [(u8, Place)],
+    peers: &'static [(u8, Where)],
     heaps: u64,
     link_backlog: u64,
+    alone: u64,
+    accept: Accept,
+    seed: u64,
     secret: Option<&'static str>,
 }
 
@@ -26,7 +37,7 @@ const LOOPBACK: [u8; 4] = [127, 0, 0, 1];
 /// What `link_backlog` is where the key is missing.
 const BACKLOG: u64 = 67_108_864;
 
-const ROWS: [Row; 5] = [
+const ROWS: [Row; 7] = [
     // The keys that have to be there, at their least.
     Row {
         text: "site = 0\nport = 1\nlisten = \"127.0.0.1:1\"",
@@ -37,30 +48,42 @@ const ROWS: [Row; 5] = [
         peers: &[],
         heaps: 4,
         link_backlog: BACKLOG,
+        alone: 10,
+        accept: Accept::Any,
+        seed: 1,
         secret: None,
     },
     // At their greatest, with a secret of 16 bytes, and so at other addresses.
     Row {
-        text: "secret = \"0123456789abcdef\"\nlisten = \"0.0.0.0:65535\"\nport = 65535\nsite = 63\nlink_backlog = 1099511627776\nheaps = 16\nbind = \"10.1.2.3\"\npeers = [{ site = 0, address = \"10.1.2.4:7101\" }]",
+        text: "secret = \"0123456789abcdef\"\nlisten = \"0.0.0.0:65535\"\nport = 65535\nsite = 63\nlink_backlog = 1099511627776\nalone = 1000000\naccept = \"listed\"\nheaps = 16\nbind = \"10.1.2.3\"\npeers = [{ site = 0, address = \"10.1.2.4:7101\" }]",
         site: 63,
         port: 65535,
         bind: [10, 1, 2, 3],
         listen: ([0, 0, 0, 0], 65535),
-        peers: &[(0, ([10, 1, 2, 4], 7101))],
+        peers: &[(0, Where::At(([10, 1, 2, 4], 7101)))],
         heaps: 16,
         link_backlog: 1_099_511_627_776,
+        alone: 1_000_000,
+        accept: Accept::Listed,
+        seed: 64,
         secret: Some("0123456789abcdef"),
     },
     // Tables of an array, in the other way to write them; a secret of 16 bytes in fewer letters.
     Row {
-        text: "site = 1\nport = 7002\nlisten = '127.0.0.1:7102'\nsecret = 'éééééééé'\n[[peers]]\naddress = '127.0.0.1:7101'\nsite = 0\n[[peers]]\nsite = 2\naddress = '127.9.9.9:7103'\n",
+        text: "site = 1\nport = 7002\nlisten = '127.0.0.1:7102'\nsecret = 'éééééééé'\nalone = 0\naccept = 'any'\n[[peers]]\naddress = '127.0.0.1:7101'\nsite = 0\n[[peers]]\nsite = 2\naddress = '127.9.9.9:7103'\n",
         site: 1,
         port: 7002,
         bind: LOOPBACK,
         listen: (LOOPBACK, 7102),
-        peers: &[(0, (LOOPBACK, 7101)), (2, ([127, 9, 9, 9], 7103))],
+        peers: &[
+            (0, Where::At((LOOPBACK, 7101))),
+            (2, Where::At(([127, 9, 9, 9], 7103))),
+        ],
         heaps: 4,
         link_backlog: BACKLOG,
+        alone: 0,
+        accept: Accept::Any,
+        seed: 2,
         secret: Some("éééééééé"),
     },
     // No peers, and no secret: the port of clients may be at any address. The least of
@@ -74,18 +97,73 @@ const ROWS: [Row; 5] = [
         peers: &[],
         heaps: 4,
         link_backlog: 1_048_576,
+        alone: 10,
+        accept: Accept::Any,
+        seed: 6,
         secret: None,
     },
     // Two peers at one address.
     Row {
-        text: "site = 2\nport = 7001\nlisten = \"127.0.0.1:7101\"\npeers = [{ site = 63, address = \"127.0.0.1:7102\" }, { address = \"127.0.0.1:7102\", site = 3 }]",
+        text: "site = 2\nseed = 9223372036854775807\naccept = \"listed\"\nport = 7001\nlisten = \"127.0.0.1:7101\"\npeers = [{ site = 63, address = \"127.0.0.1:7102\" }, { address = \"127.0.0.1:7102\", site = 3 }]",
         site: 2,
         port: 7001,
         bind: LOOPBACK,
         listen: (LOOPBACK, 7101),
-        peers: &[(63, (LOOPBACK, 7102)), (3, (LOOPBACK, 7102))],
+        peers: &[
+            (63, Where::At((LOOPBACK, 7102))),
+            (3, Where::At((LOOPBACK, 7102))),
+        ],
         heaps: 4,
         link_backlog: BACKLOG,
+        alone: 10,
+        accept: Accept::Listed,
+        seed: 9_223_372_036_854_775_807,
+        secret: None,
+    },
+    // Names of hosts, which a site with a secret may have: the longest, a port with zeros before it.
+    Row {
+        text: "site = 9\nport = 7001\nlisten = \"127.0.0.1:7101\"\nsecret = \"0123456789abcdef\"\npeers = [{ site = 0, address = \"queue-0.example:7101\" }, { site = 1, address = \"Q_0.7.x-9:1\" }, { site = 2, address = \"aaaaaaaaaaaaaaaaaaaaaaaaaaaaaaaaaaaaaaaaaaaaaaaaaaaaaaaaaaaaaaa.aaaaaaaaaaaaaaaaaaaaaaaaaaaaaaaaaaaaaaaaaaaaaaaaaaaaaaaaaaaaaaa.aaaaaaaaaaaaaaaaaaaaaaaaaaaaaaaaaaaaaaaaaaaaaaaaaaaaaaaaaaaaaaa.aaaaaaaaaaaaaaaaaaaaaaaaaaaaaaaaaaaaaaaaaaaaaaaaaaaaaaaaaaaaa:65535\" }, { site = 3, address = \"a:00080\" }, { site = 4, address = \"7a:7101\" }, { site = 5, address = \"localhost:7101\" }]",
+        site: 9,
+        port: 7001,
+        bind: LOOPBACK,
+        listen: (LOOPBACK, 7101),
+        peers: &[
+            (0, Where::Named("queue-0.example", 7101)),
+            (1, Where::Named("Q_0.7.x-9", 1)),
+            (
+                2,
+                Where::Named(
+                    "aaaaaaaaaaaaaaaaaaaaaaaaaaaaaaaaaaaaaaaaaaaaaaaaaaaaaaaaaaaaaaa.aaaaaaaaaaaaaaaaaaaaaaaaaaaaaaaaaaaaaaaaaaaaaaaaaaaaaaaaaaaaaaa.aaaaaaaaaaaaaaaaaaaaaaaaaaaaaaaaaaaaaaaaaaaaaaaaaaaaaaaaaaaaaaa.aaaaaaaaaaaaaaaaaaaaaaaaaaaaaaaaaaaaaaaaaaaaaaaaaaaaaaaaaaaaa",
+                    65535,
+                ),
+            ),
+            (3, Where::Named("a", 80)),
+            (4, Where::Named("7a", 7101)),
+            (5, Where::Named("localhost", 7101)),
+        ],
+        heaps: 4,
+        link_backlog: BACKLOG,
+        alone: 10,
+        accept: Accept::Any,
+        seed: 10,
+        secret: Some("0123456789abcdef"),
+    },
+    // And the names that it may have without one.
+    Row {
+        text: "site = 9\nport = 7001\nlisten = \"127.0.0.1:7101\"\npeers = [{ site = 0, address = \"localhost:7102\" }, { site = 1, address = \"LocalHost:7103\" }]",
+        site: 9,
+        port: 7001,
+        bind: LOOPBACK,
+        listen: (LOOPBACK, 7101),
+        peers: &[
+            (0, Where::Named("localhost", 7102)),
+            (1, Where::Named("LocalHost", 7103)),
+        ],
+        heaps: 4,
+        link_backlog: BACKLOG,
+        alone: 10,
+        accept: Accept::Any,
+        seed: 10,
         secret: None,
     },
 ];
@@ -95,11 +173,21 @@ fn address_of(place: Place) -> SocketAddr {
     SocketAddr::new(IpAddr::from(octets), port)
 }
 
-fn is_peer(peer: &Peer, row: &(u8, Place)) -> bool {
-    peer.site.value() == row.0 && peer.address == address_of(row.1)
+fn is_at(address: &PeerAddress, row: &Where) -> bool {
+    match (address, row) {
+        (PeerAddress::Ip(address), Where::At(place)) => *address == address_of(*place),
+        (PeerAddress::Named(name, port), Where::Named(text, number)) => {
+            name.as_str() == *text && port.value() == *number
+        }
+        _ => false,
+    }
 }
 
-fn are_peers(peers: &[Peer], rows: &[(u8, Place)]) -> bool {
+fn is_peer(peer: &Peer, row: &(u8, Where)) -> bool {
+    peer.site.value() == row.0 && is_at(&peer.address, &row.1)
+}
+
+fn are_peers(peers: &[Peer], rows: &[(u8, Where)]) -> bool {
     peers.len() == rows.len() && peers.iter().zip(rows).all(|(peer, row)| is_peer(peer, row))
 }
 
@@ -120,6 +208,9 @@ fn is_row(settings: &SiteSettings, row: &Row) -> bool {
         && are_peers(settings.peers.as_slice(), row.peers)
         && settings.heaps.value() == row.heaps
         && settings.link_backlog.value() == row.link_backlog
+        && settings.alone.value() == row.alone
+        && settings.accept == row.accept
+        && settings.seed.value() == row.seed
         && has_secret(settings, row.secret)
 }
 

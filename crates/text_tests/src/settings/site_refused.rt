@@ -5,23 +5,32 @@ use std::test::Fail;
 use zq_settings::{SettingsFault, site_settings};
 
 const UNKNOWN: &str =
-    "is not a key of a site's settings, which are site, port, bind, secret, listen, peers, heaps, workers, connections, clients, timeout, write_timeout, output, link_backlog, seed and rule";
+    "is not a key of a site's settings, which are site, port, bind, secret, listen, peers, heaps, workers, connections, clients, timeout, write_timeout, output, link_backlog, alone, accept, seed and rule";
 
 const LISTEN: &str = "it takes an IP address with a port from 1 to 65535, as \"127.0.0.1:7101\"";
 
 const EXPOSED: &str = "is no loopback address: without a secret of at least 16 bytes it takes one";
+
+/// What a peer's address takes.
+pub const PEER: &str =
+    "it takes an IP address or the name of a host, with a port from 1 to 65535, as \"127.0.0.1:7101\" or \"queue-0.example:7101\"";
+
+/// What is said of a peer's address that is open to others.
+pub const EXPOSED_PEER: &str =
+    "is neither a loopback address nor localhost: without a secret of at least 16 bytes it takes one of these";
 
 const PEERS: &str = "it takes an array of at most 63 tables of other sites";
 
 /// What stands before the text of a row.
 const SITE: &str = "site = 3\nport = 7001\n";
 
-const HEARD: &str = "site = 3\nport = 7001\nlisten = \"127.0.0.1:7101\"\n";
+/// Settings of a site with no peers.
+pub const HEARD: &str = "site = 3\nport = 7001\nlisten = \"127.0.0.1:7101\"\n";
 
 /// The text in two parts, and the words in two parts.
 type Row = (&'static str, &'static str, &'static str, &'static str);
 
-const REFUSALS: [Row; 59] = [
+const REFUSALS: [Row; 64] = [
     // Other keys.
     ("", "heap = 4", "\"heap\" ", UNKNOWN),
     ("", "ports = [7001]", "\"ports\" ", UNKNOWN),
@@ -211,25 +220,25 @@ const REFUSALS: [Row; 59] = [
         HEARD,
         "peers = [{ site = 2 }]",
         "a peer's address is missing: ",
-        LISTEN,
+        PEER,
     ),
     (
         HEARD,
         "peers = [{ site = 2, address = 7102 }]",
         "a peer's address has a value of another kind: ",
-        LISTEN,
+        PEER,
     ),
     (
         HEARD,
         "peers = [{ site = 2, address = \"127.0.0.1:0\" }]",
         "a peer's address has a value out of range: ",
-        LISTEN,
+        PEER,
     ),
     (
         HEARD,
         "peers = [{ site = 2, address = \"10.0.0.2:7102\" }]",
         "a peer's address ",
-        EXPOSED,
+        EXPOSED_PEER,
     ),
     (
         HEARD,
@@ -307,6 +316,30 @@ const REFUSALS: [Row; 59] = [
     ),
     (
         HEARD,
+        "alone = 1000001",
+        "alone has a value out of range: ",
+        "it takes a whole number from 0 to 1000000",
+    ),
+    (
+        HEARD,
+        "alone = \"10\"",
+        "alone has a value of another kind: ",
+        "it takes a whole number from 0 to 1000000",
+    ),
+    (
+        HEARD,
+        "accept = \"all\"",
+        "accept has a value out of range: ",
+        "it takes \"any\" or \"listed\"",
+    ),
+    (
+        HEARD,
+        "accept = true",
+        "accept has a value of another kind: ",
+        "it takes \"any\" or \"listed\"",
+    ),
+    (
+        HEARD,
         "seed = 1.5",
         "seed has a value of another kind: ",
         "it takes a whole number from 0 to 9223372036854775807",
@@ -334,13 +367,19 @@ const REFUSALS: [Row; 59] = [
         HEARD,
         "heaps = 1\npeers = [{ site = 2, address = \"127.0.0.1:7102\" }, { site = 2 }]",
         "a peer's address is missing: ",
-        LISTEN,
+        PEER,
     ),
     (
         HEARD,
         "link_backlog = 0\nseed = -1",
         "link_backlog has a value out of range: ",
         "it takes a whole number from 1048576 to 1099511627776",
+    ),
+    (
+        HEARD,
+        "accept = 1\nalone = -1",
+        "alone has a value out of range: ",
+        "it takes a whole number from 0 to 1000000",
     ),
     (
         HEARD,
@@ -352,7 +391,7 @@ const REFUSALS: [Row; 59] = [
 ];
 
 /// Why the text is refused, in words.
-fn refusal(alloc: Global, text: &str) -> Result<String, Fail> {
+pub fn refusal(alloc: Global, text: &str) -> Result<String, Fail> {
     match site_settings(alloc, text) {
         Ok(_) => Err("not refused".into()),
         Err(SettingsFault::NoMemory) => Err("no memory".into()),
