@@ -16,7 +16,7 @@ use zq_follow::SiteSet;
 use zq_journal::Since;
 use zq_node::Node;
 use zq_posheap::Seeded;
-use zq_replica::{Logs, Parcels, Protocol, Replica};
+use zq_replica::{Fenced, Logs, Parcels, Protocol, Replica};
 use zq_shard::Shard;
 use zq_spread::{Pass, Site};
 use zq_words::Command;
@@ -230,6 +230,11 @@ impl<'a> Station<'a> {
         self.replica
             .hear(rt, alloc, &mut self.node, from, link, bytes, out)?;
         Ok(())
+    }
+
+    /// What proves that another run used its number, if anything does.
+    pub fn fenced(&self) -> Option<Fenced> {
+        self.replica.fenced()
     }
 
     /// A second goes by.

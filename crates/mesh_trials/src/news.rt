@@ -3,7 +3,7 @@
 use crate::wrong::Wrong;
 use std::alloc::{AllocError, Global};
 use zq_dots::{Dot, Op, Vector};
-use zq_links::{Control, Frame, is_control, read_control, read_frame};
+use zq_links::{Control, Frame, is_batch, is_control, read_batch_frame, read_control, read_frame};
 use zq_posheap::Seeded;
 
 /// What is looked at of a frame.
@@ -36,21 +36,12 @@ impl News {
     /// What is looked at of a frame whose sender has parked operations, or none.
     pub fn of(alloc: Global, bytes: &[u8], has_parked: bool) -> Result<News, Wrong> {
         if is_control(bytes) {
-            return Ok(match read_control(bytes)? {
-                Control::At(at) => News::At(Told {
-                    heap: at.heap,
-                    vector: at.vector,
-                    is_open: at.open,
-                    has_parked,
-                }),
-                _ => News::Other,
-            });
+            return of_control(bytes, has_parked);
         }
-        match read_frame(alloc, bytes, Seeded::new(0))? {
-            Frame::Ops(ops) => of_ops(alloc, &ops),
-            Frame::State(shard) => Ok(News::Heap(shard.heap())),
-            Frame::Have(_) => Ok(News::Other),
+        if is_batch(bytes) {
+            return of_frame(alloc, read_batch_frame(alloc, bytes)?);
         }
+        of_frame(alloc, read_frame(alloc, bytes, Seeded::new(0))?)
     }
 
     /// A copy.
@@ -64,6 +55,36 @@ impl News {
             News::Heap(heap) => News::Heap(*heap),
             News::Other => News::Other,
         })
+    }
+}
+
+/// What is looked at of a control frame.
+fn of_control(bytes: &[u8], has_parked: bool) -> Result<News, Wrong> {
+    match read_control(bytes) {
+        Ok(control) => Ok(told_by(&control, has_parked)),
+        Err(fault) => Err(Wrong::Unread(fault)),
+    }
+}
+
+/// What the sender of a control frame says that it has, where it says so.
+fn told_by(control: &Control, has_parked: bool) -> News {
+    match control {
+        Control::At(at) => News::At(Told {
+            heap: at.heap,
+            vector: at.vector,
+            is_open: at.open,
+            has_parked,
+        }),
+        _ => News::Other,
+    }
+}
+
+/// What is looked at of a frame of operations or of a heap.
+fn of_frame(alloc: Global, frame: Frame) -> Result<News, Wrong> {
+    match frame {
+        Frame::Ops(ops) => of_ops(alloc, &ops),
+        Frame::State(shard) => Ok(News::Heap(shard.heap())),
+        Frame::Have(_) => Ok(News::Other),
     }
 }
 

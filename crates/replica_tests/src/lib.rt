@@ -7,6 +7,8 @@
 #[cfg(test)]
 mod catching;
 #[cfg(test)]
+mod fences;
+#[cfg(test)]
 mod pushing;
 #[cfg(test)]
 mod routing;

@@ -8,7 +8,7 @@ use std::process::Abort;
 use std::sync::Wait;
 
 /// How many operations of a heap may be under way to a site. It acknowledges a quarter of them.
-const WINDOW: u64 = 256;
+pub const WINDOW: u64 = 256;
 
 /// More bytes than a log takes of all that a scene makes.
 pub const ROOMY: u64 = 1_000_000;

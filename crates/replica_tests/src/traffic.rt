@@ -36,7 +36,7 @@ impl Kind {
     /// What a frame of these bytes is.
     fn of(bytes: &[u8]) -> Kind {
         match bytes.first() {
-            Some(2) => Kind::Ops,
+            Some(2 | 11) => Kind::Ops,
             Some(3) => Kind::State,
             Some(6) => Kind::Routes,
             Some(7) => Kind::At,
@@ -53,6 +53,9 @@ fn operations_in(bytes: &[u8]) -> u64 {
         [2, first, second, third, fourth, ..] => {
             u64::from(u32::from_be_bytes([*first, *second, *third, *fourth]))
         }
+        // Their number stands behind the heap, in groups of seven bits.
+        [11, _, _, count, ..] if *count < 128 => u64::from(*count),
+        [11, _, _, low, high, ..] => u64::from(*low % 128) + 128 * u64::from(*high),
         _ => 0,
     }
 }
@@ -83,7 +86,8 @@ impl Traffic {
         went
     }
 
-    /// Whether so many frames of each of these kinds went, and no others, since this was asked last.
+    /// Whether so many frames of each of these kinds went, and no others, since this was asked
+    /// last.
     pub fn take_frames(&mut self, wanted: &[(Kind, usize)]) -> bool {
         let mut all: usize = 0;
         let mut are_so = true;

@@ -1,1 +1,4 @@
 pub mod Asked
+pub mod Shown
+pub mod Judged
+pub mod Untold

@@ -1,6 +1,7 @@
 //! Fetching a heap from a peer.
 
 ghost use Rattle.zq_node.specs.Node.{IsNode};
+ghost use Rattle.zq_replica.specs.Fence.{IsSteady};
 ghost use Rattle.zq_replica.specs.Nodes.{Shows};
 
 use crate::parcels::Parcels;
@@ -50,6 +51,7 @@ impl Replica<'_> {
         requires node { IsNode node.old }
         ensures node { IsNode node.new }
         ensures shows { Shows node.old node.new }
+        ensures steady { IsSteady self.old self.new }
     {
         let vector = node.vector(rt, heap)?;
         if vector.covers(&theirs) {
@@ -63,7 +65,9 @@ impl Replica<'_> {
     }
 
     /// Notes that a peer has what this site lacks.
-    fn note(&mut self, place: usize, heap: u8, theirs: Vector) {
+    fn note(&mut self, place: usize, heap: u8, theirs: Vector)
+        ensures { IsSteady self.old self.new }
+    {
         let Some(end) = self.ends.get_mut(place) else {
             return;
         };
@@ -80,7 +84,9 @@ impl Replica<'_> {
         heap: u8,
         theirs: Vector,
         out: &mut Parcels,
-    ) -> Result<(), NodeFault> {
+    ) -> Result<(), NodeFault>
+        ensures { IsSteady self.old self.new }
+    {
         let Some(end) = self.ends.get(place) else {
             return Ok(());
         };
@@ -107,6 +113,7 @@ impl Replica<'_> {
         requires node { IsNode node.old }
         ensures node { IsNode node.new }
         ensures shows { Shows node.old node.new }
+        ensures steady { IsSteady self.old self.new }
     {
         let Some(catching) = self.catching else {
             return Ok(());
@@ -152,6 +159,7 @@ impl Replica<'_> {
         requires node { IsNode node.old }
         ensures node { IsNode node.new }
         ensures shows { Shows node.old node.new }
+        ensures steady { IsSteady self.old self.new }
     {
         let Some(Catching { heap, from, .. }) = self.catching else {
             return Ok(());
@@ -178,6 +186,7 @@ impl Replica<'_> {
         requires node { IsNode node.old }
         ensures node { IsNode node.new }
         ensures shows { Shows node.old node.new }
+        ensures steady { IsSteady self.old self.new }
     {
         for heap in 0..self.heaps {
             let gave = heap == fetched && self.is_end_of(place, from);
@@ -198,7 +207,9 @@ impl Replica<'_> {
     }
 
     /// Opens a heap to a peer that has said what it has, and says whether it was not open before.
-    pub(crate) fn opens(&mut self, place: usize, heap: u8) -> bool {
+    pub(crate) fn opens(&mut self, place: usize, heap: u8) -> bool
+        ensures { IsSteady self.old self.new }
+    {
         let Some(end) = self.ends.get_mut(place) else {
             return false;
         };
@@ -224,6 +235,7 @@ impl Replica<'_> {
         requires node { IsNode node.old }
         ensures node { IsNode node.new }
         ensures shows { Shows node.old node.new }
+        ensures steady { IsSteady self.old self.new }
     {
         for place in 0..self.ends.len() {
             for heap in 0..self.heaps {
@@ -241,7 +253,9 @@ impl Replica<'_> {
     }
 
     /// What was noted of a peer's heap, which then is noted no more.
-    fn take_noted(&mut self, place: usize, heap: u8) -> Option<Vector> {
+    fn take_noted(&mut self, place: usize, heap: u8) -> Option<Vector>
+        ensures { IsSteady self.old self.new }
+    {
         let end = self.ends.get_mut(place)?;
         let at_heap = end.heaps.get_mut(usize::from(heap))?;
         at_heap.noted.take()

@@ -1,58 +1,107 @@
 //! Hearing what peers say of themselves.
 
+ghost use Rattle.std.specs.Prelude.{MatchResult, ◌≡◌};
 ghost use Rattle.zq_node.specs.Node.{IsNode};
+ghost use Rattle.zq_replica.specs.Fence.{IsSteady, IsWeighedByControl};
+ghost use Rattle.zq_replica.specs.Joined.{HasHeardControl};
 ghost use Rattle.zq_replica.specs.Nodes.{Shows};
+ghost use Rattle.zq_replica.specs.Sites.{fence_of};
 
 use crate::parcels::{Parcels, address};
 use crate::replica::Replica;
 use std::alloc::Global;
 use std::sync::Wait;
+use zq_dots::{Rule, SiteNo};
 use zq_follow::{HeardAt, SiteSet};
 use zq_links::{At, Control, Frame, Routes, write_frame};
 use zq_node::{Node, NodeFault};
 
 impl Replica<'_> {
-    /// Hears what the peer at this place says of itself, where its first place in the log of each
-    /// heap is this one.
+    /// Hears what a peer at this place says of itself, unless that proves that another run used
+    /// this site's number.
     pub(crate) fn hear_control<R: Wait>(
         &mut self,
         rt: &R,
         alloc: Global,
         node: &mut Node<'_>,
         place: usize,
+        from: SiteNo,
         control: &Control,
         out: &mut Parcels,
     ) -> Result<(), NodeFault>
         requires node { IsNode node.old }
         ensures node { IsNode node.new }
         ensures shows { Shows node.old node.new }
+        ensures weighed { MatchResult result
+            (λ _. IsWeighedByControl from control.now node.old node.new self.old self.new
+            out.old.items out.new.items)
+            (λ _. fence_of self.new ≡ fence_of self.old) }
     {
+        self.judge(control)?;
+        if self.fences_by_control(rt, node, from, control)? {
+            return Ok(());
+        }
+        self.hear_unfenced(rt, alloc, node, place, from, control, out)
+    }
+
+    /// Whether a control frame is for this site: it is of one of its heaps, among as many, and where
+    /// it tells a rule that is this site's.
+    fn judge(&self, control: &Control) -> Result<(), NodeFault> {
         match control {
-            Control::Routes(routes) => self.hear_routes(rt, alloc, node, place, routes, out),
+            Control::Routes(_) => Ok(()),
             Control::At(at) => {
-                self.judge(at.heap, at.heaps)?;
-                if at.rule != self.rule {
-                    return Err(NodeFault::WrongRule);
-                }
-                self.hear_at(rt, alloc, node, place, at, out)
+                self.judge_heap(at.heap, at.heaps)?;
+                self.judge_rule(at.rule)
             }
-            Control::Behind(behind) => {
-                self.judge(behind.heap, behind.heaps)?;
-                self.catch_up(rt, alloc, node, place, behind.heap, behind.vector, out)
-            }
-            Control::Fetch(fetch) => {
-                self.judge(fetch.heap, fetch.heaps)?;
-                self.serve(rt, alloc, node, place, fetch.heap, out)
-            }
+            Control::Behind(behind) => self.judge_heap(behind.heap, behind.heaps),
+            Control::Fetch(fetch) => self.judge_heap(fetch.heap, fetch.heaps),
         }
     }
 
     /// Whether a heap among so many is one of this site's.
-    fn judge(&self, heap: u8, heaps: u8) -> Result<(), NodeFault> {
+    fn judge_heap(&self, heap: u8, heaps: u8) -> Result<(), NodeFault> {
         if heaps != self.heaps || heap >= heaps {
             return Err(NodeFault::WrongHeap);
         }
         Ok(())
+    }
+
+    /// Whether a rule is this site's.
+    fn judge_rule(&self, rule: Rule) -> Result<(), NodeFault> {
+        if rule != self.rule {
+            return Err(NodeFault::WrongRule);
+        }
+        Ok(())
+    }
+
+    /// Hears what a peer at this place says of itself.
+    fn hear_unfenced<R: Wait>(
+        &mut self,
+        rt: &R,
+        alloc: Global,
+        node: &mut Node<'_>,
+        place: usize,
+        from: SiteNo,
+        control: &Control,
+        out: &mut Parcels,
+    ) -> Result<(), NodeFault>
+        requires node { IsNode node.old }
+        ensures node { IsNode node.new }
+        ensures shows { Shows node.old node.new }
+        ensures fenced { fence_of self.new ≡ fence_of self.old }
+        ensures heard { HasHeardControl from control.now self.old.joining self.new.joining }
+    {
+        match control {
+            Control::Routes(routes) => self.hear_routes(rt, alloc, node, place, routes, out),
+            Control::At(at) => {
+                self.joining.hear(from, at.heap, &at.vector);
+                self.hear_at(rt, alloc, node, place, at, out)
+            }
+            Control::Behind(behind) => {
+                self.catch_up(rt, alloc, node, place, behind.heap, behind.vector, out)
+            }
+            Control::Fetch(fetch) => self.serve(rt, alloc, node, place, fetch.heap, out),
+        }
     }
 
     /// Hears whom a peer has links to, and whose operations it asks for.
@@ -68,6 +117,7 @@ impl Replica<'_> {
         requires node { IsNode node.old }
         ensures node { IsNode node.new }
         ensures shows { Shows node.old node.new }
+        ensures steady { IsSteady self.old self.new }
     {
         let Some(end) = self.ends.get_mut(place) else {
             return Ok(());
@@ -96,6 +146,7 @@ impl Replica<'_> {
         requires node { IsNode node.old }
         ensures node { IsNode node.new }
         ensures shows { Shows node.old node.new }
+        ensures steady { IsSteady self.old self.new }
     {
         self.hear_routes(rt, alloc, node, place, &at.routes, out)?;
         let Some(end) = self.ends.get_mut(place) else {
@@ -133,6 +184,7 @@ impl Replica<'_> {
         requires node { IsNode node.old }
         ensures node { IsNode node.new }
         ensures shows { Shows node.old node.new }
+        ensures steady { IsSteady self.old self.new }
     {
         let shard = node.state(rt, alloc, heap)?;
         let frame = write_frame(alloc, &Frame::State(shard))?;

@@ -1,5 +1,8 @@
 //! This site's end of the link to a peer.
 
+ghost use Rattle.std.specs.Prelude.{◌≡◌};
+ghost use Rattle.zq_replica.specs.Sites.{is_end_of};
+
 use crate::protocol::Protocol;
 use std::alloc::{AllocError, Global};
 use zq_dots::{SiteNo, Vector};
@@ -105,6 +108,13 @@ impl End {
         for heap in self.heaps.iter_mut() {
             *heap = HeapEnd::unknown();
         }
+    }
+
+    /// Whether it is that of the link of this number to this peer, and the link is up.
+    pub(crate) fn is_of(&self, peer: SiteNo, link: u64) -> bool
+        ensures { result ≡ is_end_of peer link self.now }
+    {
+        self.peer == peer && self.link == link && self.protocol.is_some()
     }
 
     /// Whether the peer pushes, and is pushed to.

@@ -1,9 +1,12 @@
 //! Hearing the frames of peers.
 
-ghost use Rattle.std.specs.Prelude.{All, IfOk};
+ghost use Rattle.std.specs.Prelude.{All, IfOk, IsSome, MatchBool, MatchResult, Ok, is_some, ◌≡◌};
 ghost use Rattle.zq_links.specs.Frame.{IsWritable};
 ghost use Rattle.zq_node.specs.Node.{IsNode, IsSameHome};
-ghost use Rattle.zq_replica.specs.Nodes.{Heard, Hears, IsBrought, IsGiven, Shows};
+ghost use Rattle.zq_links.specs.declared.frame.Frame.{Frame as Frames};
+ghost use Rattle.zq_replica.specs.Fence.{IsPassedOver, IsSteady, IsWeighedBy, IsWeighedByBytes};
+ghost use Rattle.zq_replica.specs.Nodes.{Heard, Hears, IsBrought, IsGiven, IsOpsOf, Shows};
+ghost use Rattle.zq_replica.specs.Sites.{fence_of, is_heeded};
 
 use crate::parcels::{Parcels, address};
 use crate::replica::Replica;
@@ -11,13 +14,14 @@ use std::alloc::Global;
 use std::sync::Wait;
 use zq_dots::{Op, SiteNo, Vector};
 use zq_follow::SiteSet;
-use zq_links::{Frame, is_control, read_control, read_frame, write_frame};
+use zq_links::{Frame, is_control, read_control, read_heard, write_frame};
 use zq_node::{Node, NodeFault};
 use zq_peers::Unheard;
 
 impl Replica<'_> {
     /// Hears a frame that came over the link of this number to this peer, and appends what is sent
-    /// then. Where that link is not up any more the frame is passed over.
+    /// then. Where that link is not up any more the frame is passed over, and so is each frame once
+    /// the site is fenced. A frame by which the site is fenced is not heard: nothing is sent then.
     ///
     /// `Unread` where the bytes are no frame, or there was no memory to read them: then nothing
     /// happens. `Refused` where the frame is not for this site, or was not heard to its end.
@@ -35,15 +39,34 @@ impl Replica<'_> {
         ensures node { IsNode node.new }
         ensures home { IsSameHome node.old node.new }
         ensures brought { IsBrought bytes.now node.old node.new }
+        ensures silent { IsSome (fence_of self.new) → out.new.items ≡ out.old.items }
+        ensures weighed { MatchBool (is_heeded from link self.old)
+            (MatchResult result
+            (λ _. IsWeighedByBytes from bytes.now node.old node.new self.old self.new
+            out.old.items out.new.items)
+            (λ _. fence_of self.new ≡ fence_of self.old))
+            (IsPassedOver node.old node.new self.old self.new out.old.items out.new.items
+            × (result ≡ Ok tt)) }
     {
-        let Some(place) = self.place_of(from, link) else {
+        let Some(place) = self.heeded(from, link) else {
             return Ok(());
         };
         if is_control(bytes) {
-            self.hear_words(rt, alloc, node, place, bytes, out)
+            self.hear_words(rt, alloc, node, place, from, bytes, out)
         } else {
             self.hear_bytes(rt, alloc, node, place, from, bytes, out)
         }
+    }
+
+    /// The place of the end of the link of this number to this peer, where what comes over it is
+    /// heard.
+    fn heeded(&self, from: SiteNo, link: u64) -> Option<usize>
+        ensures { is_some result ≡ is_heeded from link self.now }
+    {
+        if self.fenced.is_some() {
+            return None;
+        }
+        self.place_of(from, link)
     }
 
     /// Hears what the peer at this place says of itself.
@@ -53,15 +76,20 @@ impl Replica<'_> {
         alloc: Global,
         node: &mut Node<'_>,
         place: usize,
+        from: SiteNo,
         bytes: &[u8],
         out: &mut Parcels,
     ) -> Result<(), Unheard>
         requires node { IsNode node.old }
         ensures node { IsNode node.new }
         ensures shows { Shows node.old node.new }
+        ensures weighed { MatchResult result
+            (λ _. IsWeighedByBytes from bytes.now node.old node.new self.old self.new
+            out.old.items out.new.items)
+            (λ _. fence_of self.new ≡ fence_of self.old) }
     {
         let control = read_control(bytes).map_err(Unheard::Unread)?;
-        self.hear_control(rt, alloc, node, place, &control, out)
+        self.hear_control(rt, alloc, node, place, from, &control, out)
             .map_err(Unheard::Refused)
     }
 
@@ -80,13 +108,54 @@ impl Replica<'_> {
         ensures node { IsNode node.new }
         ensures home { IsSameHome node.old node.new }
         ensures brought { IsBrought bytes.now node.old node.new }
+        ensures weighed { MatchResult result
+            (λ _. IsWeighedByBytes from bytes.now node.old node.new self.old self.new
+            out.old.items out.new.items)
+            (λ _. fence_of self.new ≡ fence_of self.old) }
     {
-        match read_frame(alloc, bytes, self.hasher) {
+        let is_pushed = self.is_pushed_at(place);
+        match read_heard(alloc, bytes, self.hasher, is_pushed) {
             Ok(frame) => self
-                .hear_frame(rt, alloc, node, place, from, &frame, out)
+                .hear_unless_fenced(rt, alloc, node, place, from, &frame, out)
                 .map_err(Unheard::Refused),
             Err(fault) => Err(Unheard::Unread(fault)),
         }
+    }
+
+    /// Whether the peer at this place is one that pushes.
+    fn is_pushed_at(&self, place: usize) -> bool {
+        match self.ends.get(place) {
+            Some(end) => end.pushes(),
+            None => false,
+        }
+    }
+
+    /// Has the node hear a frame of the peer at this place, unless the frame proves that another run
+    /// used this site's number.
+    fn hear_unless_fenced<R: Wait>(
+        &mut self,
+        rt: &R,
+        alloc: Global,
+        node: &mut Node<'_>,
+        place: usize,
+        from: SiteNo,
+        frame: &Frame,
+        out: &mut Parcels,
+    ) -> Result<(), NodeFault>
+        requires node { IsNode node.old }
+        ensures node { IsNode node.new }
+        ensures home { IsSameHome node.old node.new }
+        ensures given { IsGiven frame.now node.old node.new }
+        ensures weighed { MatchResult result
+            (λ _. IsWeighedBy from frame.now node.old node.new self.old self.new
+            out.old.items out.new.items)
+            (λ _. fence_of self.new ≡ fence_of self.old) }
+    {
+        if self.fences_by(rt, node, from, frame)? {
+            return Ok(());
+        }
+        self.joining.hear_frame(from, frame);
+        self.hear_frame(rt, alloc, node, place, from, frame, out)
     }
 
     /// Has the node hear a frame of the peer at this place.
@@ -104,9 +173,10 @@ impl Replica<'_> {
         ensures node { IsNode node.new }
         ensures home { IsSameHome node.old node.new }
         ensures given { IsGiven frame.now node.old node.new }
+        ensures steady { IsSteady self.old self.new }
     {
         match frame {
-            Frame::Ops(ops) => self.hear_ops(rt, alloc, node, place, from, frame, ops, out),
+            Frame::Ops(ops) => self.hear_ops(rt, alloc, node, place, from, ops, out),
             Frame::Have(_) => self.hear_and_answer(rt, alloc, node, frame, out),
             Frame::State(shard) => self.hear_state(rt, alloc, node, frame, shard.heap(), out),
         }
@@ -128,6 +198,7 @@ impl Replica<'_> {
         ensures node { IsNode node.new }
         ensures home { IsSameHome node.old node.new }
         ensures given { IsGiven frame.now node.old node.new }
+        ensures steady { IsSteady self.old self.new }
     {
         self.logs.drain_heap(rt, alloc, node, heap)?;
         self.hear_and_answer(rt, alloc, node, frame, out)?;
@@ -148,6 +219,7 @@ impl Replica<'_> {
         ensures node { IsNode node.new }
         ensures home { IsSameHome node.old node.new }
         ensures heard { Heard frame.now node.old node.new }
+        ensures steady { IsSteady self.old self.new }
     {
         let answers = hear_by(rt, alloc, node, frame)?;
         write_answers(alloc, &answers, out)?;
@@ -163,14 +235,15 @@ impl Replica<'_> {
         node: &mut Node<'_>,
         place: usize,
         from: SiteNo,
-        frame: &Frame,
         ops: &[Op],
         out: &mut Parcels,
     ) -> Result<(), NodeFault>
         requires node { IsNode node.old }
         ensures node { IsNode node.new }
         ensures home { IsSameHome node.old node.new }
-        ensures given { IsGiven frame.now node.old node.new }
+        ensures given { (frame : Frames) → IsOpsOf frame ops.now →
+            IsGiven frame node.old node.new }
+        ensures steady { IsSteady self.old self.new }
     {
         let Some(first) = ops.first() else {
             return Ok(());
@@ -180,7 +253,7 @@ impl Replica<'_> {
             return Err(NodeFault::WrongHeap);
         }
         let before = node.vector(rt, heap)?;
-        let heard = hear_by(rt, alloc, node, frame);
+        let heard = node.hear_ops(rt, alloc, ops);
         let after = node.vector(rt, heap)?;
         self.note_dots(place, heap, ops);
         self.note_sources(from, heap, ops, &before, &after);
@@ -191,7 +264,9 @@ impl Replica<'_> {
     }
 
     /// Notes that the peer at this place has these operations.
-    fn note_dots(&mut self, place: usize, heap: u8, ops: &[Op]) {
+    fn note_dots(&mut self, place: usize, heap: u8, ops: &[Op])
+        ensures { IsSteady self.old self.new }
+    {
         let Some(end) = self.ends.get_mut(place) else {
             return;
         };
@@ -204,14 +279,9 @@ impl Replica<'_> {
     }
 
     /// Notes that those of these operations that were new came from this peer.
-    fn note_sources(
-        &mut self,
-        from: SiteNo,
-        heap: u8,
-        ops: &[Op],
-        before: &Vector,
-        after: &Vector,
-    ) {
+    fn note_sources(&mut self, from: SiteNo, heap: u8, ops: &[Op], before: &Vector, after: &Vector)
+        ensures { IsSteady self.old self.new }
+    {
         let Some(sources) = self.sources.get_mut(usize::from(heap)) else {
             return;
         };
@@ -239,6 +309,7 @@ impl Replica<'_> {
         requires node { IsNode node.old }
         ensures node { IsNode node.new }
         ensures shows { Shows node.old node.new }
+        ensures steady { IsSteady self.old self.new }
     {
         for place in 0..self.ends.len() {
             if self.owes_at(place, heap, vector) {

@@ -6,7 +6,8 @@ ghost use Rattle.zq_replica.specs.Nodes.{Shows};
 use std::alloc::{AllocError, Global};
 use std::sync::{Mutex, Wait};
 use zq_backlog::Backlog;
-use zq_dots::Vector;
+use zq_dots::{SITES, Vector};
+use zq_follow::{SiteSet, count_beyond};
 use zq_journal::Since;
 use zq_node::{Node, NodeFault};
 
@@ -63,6 +64,11 @@ impl Logs {
         Ok(Logs { heaps, logs })
     }
 
+    /// How many heaps there are.
+    pub fn heaps(&self) -> u8 {
+        self.heaps
+    }
+
     /// The log of a heap.
     pub(crate) fn at(&self, heap: u8) -> Option<&Mutex<Backlog>> {
         self.logs.get(usize::from(heap))
@@ -107,8 +113,9 @@ impl Logs {
         Ok(())
     }
 
-    /// Takes a piece of what a heap has made into its log.
-    fn drain_piece<R: Wait>(
+    /// Takes a piece of what a heap has made into its log: at most 4,096 operations. What is
+    /// refused memory is taken the next time.
+    pub fn drain_piece<R: Wait>(
         &self,
         rt: &R,
         alloc: Global,
@@ -124,6 +131,24 @@ impl Logs {
             None => Ok(Drained::Nothing),
         }
     }
+
+    /// How many operations a heap of the node's site has that its log lacks.
+    pub fn lag<R: Wait>(&self, rt: &R, node: &mut Node<'_>, heap: u8) -> Result<u64, NodeFault>
+        requires node { IsNode node.old }
+        ensures node { IsNode node.new }
+        ensures shows { Shows node.old node.new }
+    {
+        let has = node.vector(rt, heap)?;
+        match self.at(heap) {
+            Some(log) => Ok(count_beyond(&every_site(), &has, log.lock(rt).last())),
+            None => Ok(0),
+        }
+    }
+}
+
+/// All sites.
+fn every_site() -> SiteSet {
+    SiteSet::from_array([true; SITES])
 }
 
 /// Takes the oldest operations of a heap that its log lacks into the log, in their order, and has

@@ -12,7 +12,7 @@ use std::sync::Wait;
 use zq_backlog::Batch;
 use zq_dots::{SITES, SiteNo};
 use zq_follow::{SiteSet, class_of};
-use zq_links::write_frame;
+use zq_links::{by_differences, write_frame};
 use zq_node::{Node, NodeFault};
 
 /// What came of pushing a heap to a peer.
@@ -95,7 +95,7 @@ impl Replica<'_> {
     {
         match self.cut(rt, alloc, place, heap)? {
             Push::Batch(batch, more) => {
-                self.send(place, heap, batch, out)?;
+                self.send(alloc, place, heap, batch, out)?;
                 Ok(more)
             }
             Push::Behind => {
@@ -150,9 +150,10 @@ impl Replica<'_> {
         Ok(Push::Batch(batch, more))
     }
 
-    /// A batch goes to the peer at this place.
+    /// A batch goes to the peer at this place, by differences where it can.
     fn send(
         &mut self,
+        alloc: Global,
         place: usize,
         heap: u8,
         batch: Batch,
@@ -168,7 +169,8 @@ impl Replica<'_> {
             ..
         } = batch;
         if let Some(frame) = frame {
-            address(out, end.peer, frame)?;
+            let bytes = by_differences(alloc, frame)?;
+            address(out, end.peer, bytes)?;
         }
         if let Some(at_heap) = end.heaps.get_mut(usize::from(heap)) {
             at_heap.follow.note_pushed(sent, next);

@@ -1,10 +1,14 @@
 //! A site among its peers.
 
-ghost use Rattle.std.specs.Prelude.{IsTrue};
+ghost use Rattle.std.specs.Prelude.{IfOk, IsTrue, ◌≡◌};
 ghost use Rattle.zq_links.specs.Control.{IsHeapOf};
+ghost use Rattle.zq_replica.specs.Joined.{IsNewSite};
+ghost use Rattle.zq_replica.specs.Sites.{place_of};
 
 use crate::catching::Catching;
 use crate::end::End;
+use crate::fence::Fenced;
+use crate::joining::Joining;
 use crate::logs::Logs;
 use std::alloc::{AllocError, Global};
 use zq_dots::{Rule, SITES, SiteNo};
@@ -41,6 +45,10 @@ pub struct Replica<'l> {
     pub(crate) catching: Option<Catching>,
     /// How many beats there were since the last calm.
     pub(crate) beats: u8,
+    /// What was heard since the site began.
+    pub(crate) joining: Joining,
+    /// What proves that another run used the site's number, if anything does.
+    pub(crate) fenced: Option<Fenced>,
 }
 
 impl<'l> Replica<'l> {
@@ -56,7 +64,9 @@ impl<'l> Replica<'l> {
         window: u64,
         logs: &'l Logs,
         peers: &[SiteNo],
-    ) -> Result<Replica<'l>, AllocError> {
+    ) -> Result<Replica<'l>, AllocError>
+        ensures { IfOk result (IsNewSite own heaps) }
+    {
         let mut ends = Vec::new(alloc);
         for peer in peers {
             ends.push(End::new(alloc, *peer, heaps)?)?;
@@ -76,7 +86,14 @@ impl<'l> Replica<'l> {
             sources,
             catching: None,
             beats: 0,
+            joining: Joining::new(alloc, heaps)?,
+            fenced: None,
         })
+    }
+
+    /// Ends it. What was known of the peers goes here, so that its owner drops no part of it.
+    pub fn close(self) {
+        drop(self);
     }
 
     /// Whether this is one of the site's heaps, of which there are 16 at most.
@@ -87,10 +104,24 @@ impl<'l> Replica<'l> {
     }
 
     /// The place of the end of the link of this number to this peer, where that link is up.
-    pub(crate) fn place_of(&self, peer: SiteNo, link: u64) -> Option<usize> {
-        self.ends.iter().position(|end| end.peer == peer
-            && end.link == link
-            && end.protocol.is_some())
+    pub(crate) fn place_of(&self, peer: SiteNo, link: u64) -> Option<usize>
+        ensures { result ≡ place_of peer link self.now }
+    {
+        self.ends.iter().position(|end| end.is_of(peer, link))
+    }
+
+    /// From now on each peer may have so many operations of a heap under way to this site. It is told
+    /// with what this site has.
+    pub fn set_window(&mut self, window: u64) {
+        self.window = window;
+    }
+
+    /// How many peers this site has links to.
+    pub fn links(&self) -> usize {
+        self.ends
+            .iter()
+            .filter(|end| end.protocol.is_some())
+            .count()
     }
 
     /// The peers that this site has links to.

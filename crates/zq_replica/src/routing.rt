@@ -1,6 +1,7 @@
 //! Of whom this site asks whose operations.
 
 ghost use Rattle.zq_node.specs.Node.{IsNode};
+ghost use Rattle.zq_replica.specs.Fence.{IsSteady};
 ghost use Rattle.zq_replica.specs.Nodes.{Shows};
 
 use crate::end::ToldRoutes;
@@ -26,6 +27,7 @@ impl Replica<'_> {
         requires node { IsNode node.old }
         ensures node { IsNode node.new }
         ensures shows { Shows node.old node.new }
+        ensures steady { IsSteady self.old self.new }
     {
         let linked = self.linked();
         let reaches = self.reaches(alloc)?;

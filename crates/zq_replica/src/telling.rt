@@ -1,6 +1,7 @@
 //! What a peer is told of what this site has.
 
 ghost use Rattle.zq_node.specs.Node.{IsNode};
+ghost use Rattle.zq_replica.specs.Fence.{IsSteady};
 ghost use Rattle.zq_replica.specs.Nodes.{Shows};
 
 use crate::parcels::{Parcels, address};
@@ -27,6 +28,7 @@ impl Replica<'_> {
         requires node { IsNode node.old }
         ensures node { IsNode node.new }
         ensures shows { Shows node.old node.new }
+        ensures steady { IsSteady self.old self.new }
     {
         if !self.has_heap(heap) {
             return Err(NodeFault::WrongHeap);
@@ -72,6 +74,7 @@ impl Replica<'_> {
         requires node { IsNode node.old }
         ensures node { IsNode node.new }
         ensures shows { Shows node.old node.new }
+        ensures steady { IsSteady self.old self.new }
     {
         for heap in 0..self.heaps {
             self.tell_at(rt, alloc, node, place, heap, is_calm, out)?;
@@ -124,6 +127,7 @@ impl Replica<'_> {
         let fetch = Fetch {
             heaps: self.heaps,
             heap,
+            resume: None,
         };
         let frame = write_control(alloc, &Control::Fetch(fetch))?;
         address(out, end.peer, frame)?;

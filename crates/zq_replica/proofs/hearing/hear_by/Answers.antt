@@ -6,4 +6,4 @@ pub returns-in-Ok-clause-hears : goal.returns-in-Ok-clause-hears
 returns-in-Ok-clause-hears g c = inl (sent_of c.in-Ok.answers.items, c.in-Ok.ensures.heard)
 
 pub returns-in-Err-clause-hears : goal.returns-in-Err-clause-hears
-returns-in-Err-clause-hears g c = inr (c.in-Err.fault, c.in-Err.ensures.stopped)
+returns-in-Err-clause-hears g c = inr (inl (c.in-Err.fault, c.in-Err.ensures.stopped))
