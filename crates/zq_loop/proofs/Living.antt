@@ -1,10 +1,11 @@
 -- The life of a worker, move by move.
-use Rattle.std.proofs.Common.{◌≡◌, ◌⊎◌, ◌++◌, List, None, Option, Some, ℕ, [], ◌∷◌, inl, inr, refl, suc, sym, subst, zero}
+use Rattle.std.proofs.Common.{◌<◌, ◌≤◌, ◌+◌, ◌≡◌, ◌⊎◌, ◌++◌, List, None, Option, Some, ℕ, [], ◌∷◌, arith, below_more, inl, inr, length, refl, suc, sym, subst, zero}
+use Rattle.std.proofs.lemmas.Option.{slice_get_within}
 use Rattle.std.specs.Prelude.{slice_get, slice_set}
 use Rattle.zq_loop.proofs.AtSocket.{served-first}
 use Rattle.zq_loop.proofs.TurnByTurn.{set-cases}
 use Rattle.zq_loop.specs.Client.{IsServedAt}
-use Rattle.zq_loop.specs.Life.{AreKeptOrNew, AreServed, IsAsItWas, IsAt, IsMove, IsTurn, Lives, Moment, Rests, moment}
+use Rattle.zq_loop.specs.Life.{AreKeptOrNew, AreNone, AreServed, IsAsItWas, IsAt, IsMove, IsTurn, Lives, Moment, Rests, moment}
 use Rattle.zq_loop.specs.Turns.{AreServedAt}
 use Rattle.zq_loop.specs.declared.client.Client.{Client}
 use Rattle.zq_session.proofs.Alongside.{meanwhile-join, meanwhile-none}
@@ -41,6 +42,26 @@ module _ {E : Type 0} where
     | inl found ↦ absurd (cc found.1)
     | inr kept ↦ inl (client, kept, same-client client)
   ])
+
+  gone-at : (clients : List (Option (Client E))) (at : ℕ) (client : Client E) → IsAt (slice_set clients at None) at client → ⊥
+  gone-at [] zero client there = absurd (cc there)
+  gone-at [] (suc at) client there = absurd (cc there)
+  gone-at (x ∷ clients) zero client there = absurd (cc there)
+  gone-at (x ∷ clients) (suc at) client there = gone-at clients at client there
+
+  -- where none is before a place, and that one is cleared, none is before the next place
+  pub cleared-more : (clients : List (Option (Client E))) (at : ℕ) → ((k : ℕ) → k < at → (client : Client E) → IsAt clients k client → ⊥)
+      → (k : ℕ) → k < at + 1 → (client : Client E) → IsAt (slice_set clients at None) k client → ⊥
+  cleared-more clients at none = below_more _ _ (λ k below client there. elim (set-cases clients at k None (Some client) there) [
+    | inl found ↦ absurd (cc found.1)
+    | inr kept ↦ none k below client kept
+  ]) (gone-at clients at)
+
+  -- none is at any place before the end
+  pub cleared-all : (clients : List (Option (Client E))) (count : ℕ) → length clients ≤ count → ((k : ℕ) → k < count → (client : Client E) → IsAt clients k client → ⊥) → AreNone clients
+  cleared-all clients count within none place client there =
+      let inside = slice_get_within clients place (Some client) there in
+      none place (omega (arith, inside, within)) client there
 
   -- one came, where none was
   pub rests-put : (clients : List (Option (Client E))) (at : ℕ) (new : Client E) → slice_get clients at ≡ Some None → IsNew new.connection → Rests clients (slice_set clients at (Some new))

@@ -2,3 +2,4 @@ pub mod Socket
 pub mod Client
 pub mod Turns
 pub mod Life
+pub mod Ending

@@ -16,6 +16,10 @@ pub record IsAsItWas {E : Type 0} (old new : Client E) : Type 0 where
 abbrev pub IsAt : {E : Type 0} → List (Option (Client E)) → ℕ → Client E → Type 0
 IsAt clients place client = slice_get clients place ≡ Some (Some client)
 
+-- no client is at any place
+abbrev pub AreNone : {E : Type 0} → List (Option (Client E)) → Type 0
+AreNone {E} clients = (place : ℕ) (client : Client E) → IsAt clients place client → ⊥
+
 -- the client was at this place, as it is now
 abbrev pub WasAt : {E : Type 0} → List (Option (Client E)) → ℕ → Client E → Type 0
 WasAt {E} old place client = (before : Client E) × IsAt old place before × IsAsItWas before client

@@ -9,6 +9,7 @@ pub struct Counts {
     owed: AtomicU64,
     has_all: AtomicBool,
     is_stopped: AtomicBool,
+    is_cut: AtomicBool,
 }
 
 impl Counts {
@@ -19,6 +20,7 @@ impl Counts {
             owed: AtomicU64::new(0),
             has_all: AtomicBool::new(false),
             is_stopped: AtomicBool::new(false),
+            is_cut: AtomicBool::new(false),
         }
     }
 
@@ -65,6 +67,17 @@ impl Counts {
     /// No request is read any more.
     pub fn stop(&self) {
         self.is_stopped.store(true, Ordering::SeqCst);
+    }
+
+    /// Nothing more is read or written, and no connection is waited for.
+    pub fn cut(&self) {
+        self.is_cut.store(true, Ordering::SeqCst);
+        self.stop();
+    }
+
+    /// Whether nothing more is read or written.
+    pub fn is_cut(&self) -> bool {
+        self.is_cut.load(Ordering::SeqCst)
     }
 
     /// Whether no request is read any more.

@@ -9,6 +9,7 @@ mod accepting;
 mod along;
 mod client;
 mod counts;
+mod ending;
 mod inbox;
 mod limits;
 mod noting;

@@ -1,7 +1,7 @@
 //! The clients of a worker, each at a place of its own. Between turns a client and its connection
 //! stay as they are, or it is taken out whole.
 
-ghost use Rattle.std.specs.Prelude.{◌≡◌};
+ghost use Rattle.std.specs.Prelude.{◌≡◌, slice_set};
 ghost use Rattle.zq_loop.specs.Life.{Rests, was_at};
 ghost use Rattle.zq_session.specs.Connection.{IsNew};
 
@@ -104,6 +104,7 @@ pub fn take_out<S: Socket + Drop>(
 ) -> Option<Client<S>>
     ensures rests { Rests clients.old clients.new }
     ensures taken { result ≡ was_at clients.old place }
+    ensures gone { clients.new ≡ slice_set clients.old place None }
 {
     if place >= clients.len() {
         return None;

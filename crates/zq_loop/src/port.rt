@@ -16,7 +16,7 @@ use std::net::{Net, SocketAddr};
 /// A port: where connections come, and what its threads share. One thread accepts connections, by
 /// the port's [`Acceptor`], and hands them in turn to workers, each a thread with a [`Poller`] and
 /// what answers there. All of them end once as many connections as the limits say have come and are
-/// served, or once they are told to stop.
+/// served, or once they are told to stop, or cut.
 #[derive(Drop)]
 pub struct Port {
     pub(crate) listener: TcpListener,
@@ -67,6 +67,15 @@ impl Port {
     /// answered, and what is owed is written, for some five seconds.
     pub fn stop(&self) {
         self.counts.stop();
+        let _ = self.bell.wake();
+        self.wake_all();
+    }
+
+    /// Ends the port at once: no connection is accepted, nothing more is read or written, and
+    /// connections are closed with what they are owed. Each worker ends once its turn is over, in
+    /// which it waits for no socket.
+    pub fn cut(&self) {
+        self.counts.cut();
         let _ = self.bell.wake();
         self.wake_all();
     }

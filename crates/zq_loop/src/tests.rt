@@ -89,8 +89,19 @@ where
     Ok(count == REFUSAL.len() && refusal.starts_with(REFUSAL))
 }
 
-/// Whether a client that was answered reads the end once the port is stopped.
-fn is_ended<R>(rt: &R, number: u16, port: &Port) -> io::Result<bool>
+/// How a port ends.
+#[derive(Clone, Copy, Debug, PartialEq, Eq)]
+enum End {
+    /// Once so many connections were served.
+    Counted(u64),
+    /// It is stopped.
+    Stopped,
+    /// It is cut.
+    Cut,
+}
+
+/// Whether a client that was answered reads the end once the port is stopped or cut.
+fn is_ended<R>(rt: &R, number: u16, port: &Port, end: End) -> io::Result<bool>
 where
     R: Net<Listener = TcpListener, Stream = TcpStream>,
 {
@@ -99,19 +110,26 @@ where
     client.set_read_timeout(Some(Duration::from_secs(10)))?;
     let mut buffer = [0u8; 7];
     let answered = asked(&mut client, PING, &mut buffer)?;
-    port.stop();
+    if end == End::Cut {
+        port.cut();
+    } else {
+        port.stop();
+    }
     let count = asked(&mut client, b"", &mut buffer)?;
     Ok(answered == 7 && count == 0)
 }
 
-/// A port of 21 clients at once and so many in all, which two workers serve while clients visit it;
-/// where there is no end of them one client visits, and the port is stopped. Says how often fault
-/// was told of.
-fn visited<R>(rt: &R, alloc: Global, connections: u64) -> Result<u64, Fail>
+/// A port of 21 clients at once, which two workers serve while clients visit it, up to its end.
+/// Where they are not counted one client visits. Says how often fault was told of.
+fn visited<R>(rt: &R, alloc: Global, end: End) -> Result<u64, Fail>
 where
     R: Net<Listener = TcpListener, Stream = TcpStream> + Clock + Threads + Wait + Sync,
 {
     let address = SocketAddr::from((IpAddr::V4(Ipv4Addr::LOCALHOST), 0));
+    let connections = match end {
+        End::Counted(connections) => connections,
+        End::Stopped | End::Cut => 0,
+    };
     let limits = Limits {
         clients: 21,
         connections,
@@ -135,7 +153,7 @@ where
             }
             scope.spawn(move || acceptor.run(rt, port, told))?;
             let visited = if connections == 0 {
-                is_ended(rt, number, port)
+                is_ended(rt, number, port, end)
             } else {
                 visit(rt, alloc, number)
             };
@@ -151,14 +169,21 @@ where
 
 #[test]
 fn silent_clients_keep_nobody_from_being_served(rt: HostRuntime) -> Result<(), Fail> {
-    let told = visited(&rt, rt.alloc(), 22)?;
+    let told = visited(&rt, rt.alloc(), End::Counted(22))?;
     assert!(rt; told == 0);
     Ok(())
 }
 
 #[test]
 fn a_port_that_is_stopped_ends(rt: HostRuntime) -> Result<(), Fail> {
-    let told = visited(&rt, rt.alloc(), 0)?;
+    let told = visited(&rt, rt.alloc(), End::Stopped)?;
+    assert!(rt; told == 0);
+    Ok(())
+}
+
+#[test]
+fn a_port_that_is_cut_ends(rt: HostRuntime) -> Result<(), Fail> {
+    let told = visited(&rt, rt.alloc(), End::Cut)?;
     assert!(rt; told == 0);
     Ok(())
 }

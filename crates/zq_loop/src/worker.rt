@@ -1,10 +1,11 @@
 //! A worker: the connections of one thread, and the loop that serves them.
 
-ghost use Rattle.std.specs.Prelude.{◌<◌, ◌≡◌, ◌≤◌, [], length};
-ghost use Rattle.zq_loop.specs.Life.{IsTurn, Lives, Rests, moment};
+ghost use Rattle.std.specs.Prelude.{◌<◌, ◌≡◌, ◌≤◌, [], length, slice_set};
+ghost use Rattle.zq_loop.specs.Life.{AreNone, IsTurn, Lives, Rests, moment};
 ghost use Rattle.zq_loop.specs.Turns.{AreOthers};
 
 use crate::client::Client;
+use crate::ending::is_done;
 use crate::inbox::Inbox;
 use crate::places::{Looked, finish_at, look_at, put_in, take_out};
 use crate::poller::Poller;
@@ -85,7 +86,8 @@ impl<'a, 'p, 'w, W: Watch> Worker<'a, 'p, 'w, W> {
         }
     }
 
-    /// Serves connections until all have come and none is left.
+    /// Serves connections until all have come and none is left, or the port is cut. Then those that
+    /// are left are closed with what they are owed.
     pub fn run<R: Wait + Clock, A: Answers>(&mut self, rt: &R, answerer: &mut A)
         requires others { AreOthers A.others A.answers }
         ensures { Lives ⟦<TcpStream as Socket>⟧.does A.others A.answers
@@ -95,7 +97,7 @@ impl<'a, 'p, 'w, W: Watch> Worker<'a, 'p, 'w, W> {
         let mut buffer = [0u8; PIECE];
         let mut swept = 0;
         for _ in rt.forever() {
-            if self.port.counts.has_all() && self.count == 0 && self.inbox.is_empty(rt) {
+            if self.is_done(rt) {
                 break;
             }
             let most = self.wait();
@@ -111,6 +113,24 @@ impl<'a, 'p, 'w, W: Watch> Worker<'a, 'p, 'w, W> {
                 swept = now;
                 self.sweep(now);
             }
+        }
+        self.close_all();
+    }
+
+    /// Whether it has nothing more to do.
+    fn is_done<R: Wait>(&self, rt: &R) -> bool {
+        let counts = &self.port.counts;
+        let is_left = self.count > 0 || !self.inbox.is_empty(rt);
+        is_done(counts.is_cut(), counts.has_all(), is_left)
+    }
+
+    /// Closes all connections, whatever they are owed.
+    fn close_all(&mut self)
+        ensures rests { Rests self.old.clients.items self.new.clients.items }
+        ensures none { AreNone self.new.clients.items }
+    {
+        for place in 0..self.clients.len() {
+            self.remove(place);
         }
     }
 
@@ -312,7 +332,8 @@ impl<'a, 'p, 'w, W: Watch> Worker<'a, 'p, 'w, W> {
 
     /// Closes a connection, and tells of its fault.
     fn remove(&mut self, place: usize)
-        ensures { Rests self.old.clients.items self.new.clients.items }
+        ensures rests { Rests self.old.clients.items self.new.clients.items }
+        ensures gone { self.new.clients.items ≡ slice_set self.old.clients.items place None }
     {
         let Some(client) = take_out(&mut self.clients, place) else {
             return;

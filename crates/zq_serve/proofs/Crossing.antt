@@ -1,11 +1,14 @@
--- A worker, an acceptor and a linker may go to another thread, and so may what names mailboxes.
+-- A worker, an acceptor and a linker may go to another thread, and so may what names mailboxes and
+-- a gate.
 use denote.Param.Send.{IsSend, IsSync, sendable}
 use denote.Ref.{NamedLft}
 use Rattle.std.proofs.Crossing.{crosses}
 use Rattle.zq_loop.proofs.Crossing.{acceptor_send, port_sync, poller_send}
 use Rattle.zq_peers.proofs.Crossing.{mailbox_sync}
 use Rattle.zq_peers.specs.contracts.attending.Link as Link
+use Rattle.zq_serve.specs.contracts.admission.Admission as Admission
 use Rattle.zq_serve.specs.contracts.client_acceptor.ClientAcceptor as ClientAcceptor
+use Rattle.zq_serve.specs.contracts.gate.Gate as Gate
 use Rattle.zq_serve.specs.contracts.inboxes.Inboxes as Inboxes
 use Rattle.zq_serve.specs.contracts.linker.Linker as Linker
 use Rattle.zq_serve.specs.contracts.worker.Worker as Worker
@@ -27,5 +30,11 @@ link_sync = search (sendable, crosses) depth 30
 pub linker_send : (κ₁ κ₂ : NamedLft) → IsSend (Linker.the_row κ₁ κ₂)
 linker_send κ₁ κ₂ = search (own_send, link_sync, sendable, crosses) depth 30 fits 50000
 
+pub gate_sync : IsSync Gate.the_row
+gate_sync = search (sendable, crosses) depth 30
+
+pub admission_sync : IsSync Admission.the_row
+admission_sync = search (sendable, crosses) depth 30
+
 pub inboxes_send : (κ : NamedLft) → IsSend (Inboxes.the_row κ)
-inboxes_send κ = search (mailbox_sync, sendable, crosses) depth 30 fits 50000
+inboxes_send κ = search (mailbox_sync, gate_sync, admission_sync, sendable, crosses) depth 30 fits 50000

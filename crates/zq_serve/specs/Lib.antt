@@ -1,4 +1,6 @@
+pub mod Admission
 pub mod Warnings
+pub mod Gate
 pub mod Inboxes
 pub mod SiteThreads
 pub mod Plans

@@ -4,7 +4,7 @@ ghost use Rattle.std.specs.Io.KnownBytes.{Appends};
 ghost use Rattle.std.specs.Prelude.{OnOk};
 ghost use Rattle.zq_serve.specs.Announced.{announced, line_of};
 
-use crate::fault::ServeFault;
+use crate::fault::{Cause, ServeFault};
 use std::io::Write;
 use zq_settings::Port;
 
@@ -20,7 +20,7 @@ pub fn announce<W: Write>(ports: &[Port], out: &mut W) -> Result<(), ServeFault>
     }
     match out.flush() {
         Ok(()) => Ok(()),
-        Err(_) => Err(ServeFault::Device),
+        Err(_) => Err(ServeFault::Device(Cause::Output)),
     }
 }
 
@@ -31,6 +31,6 @@ fn write_line<W: Write>(site: usize, port: Port, out: &mut W) -> Result<(), Serv
     let port = port.value();
     match writeln!(out, "site {site} port {port}") {
         Ok(()) => Ok(()),
-        Err(_) => Err(ServeFault::Device),
+        Err(_) => Err(ServeFault::Device(Cause::Output)),
     }
 }

@@ -4,29 +4,36 @@ ghost use Rattle.std.specs.Prelude.{option_copied, ◌≡◌};
 ghost use Rattle.zq_serve.specs.Inboxes.{inbox_of};
 ghost use Rattle.zq_session.specs.Passing.{passed_by};
 
+use crate::admitting::Admitting;
 use crate::inboxes::Inboxes;
 use crate::notifier::Ticks;
 use crate::ticking::Ticking;
 use std::sync::Wait;
+use std::time::Clock;
 use zq_session::{Passing, SitePass};
 use zq_spread::Draws;
 
-/// A server of the pass's site, with these draws, each answer of which is told of by a Tick in the
-/// site's mailbox, where it has one.
-pub fn answerer_of<'b, 'a, R: Wait>(
+/// A server of the pass's site, with these draws, which answers behind the site's gate, where it
+/// has one, and tells of each answer by a Tick in the site's mailbox, where it has one. Commands
+/// that the site does not admit are refused, and do not wait.
+pub fn answerer_of<'b, 'a, R: Wait + Clock>(
     rt: &'b R,
     own: &'b mut SitePass<'a>,
     draws: Draws,
     inboxes: Inboxes<'b>,
-) -> Ticking<Passing<'b, 'a, R>, Ticks<'b, R>>
-    ensures server { let server = result.answerer in
+) -> Admitting<'b, Ticking<Passing<'b, 'a, R>, Ticks<'b, R>>>
+    ensures server { let server = result.answerer.answerer in
         passed_by server.own.now server.draws ≡ passed_by own.old draws }
-    ensures mailbox { option_copied result.notifier.mailbox
+    ensures mailbox { option_copied result.answerer.notifier.mailbox
         ≡ inbox_of inboxes.entry own.old.site.now.number }
 {
     let mailbox = inboxes.of(own.site.number());
-    Ticking {
+    let answerer = Ticking {
         answerer: Passing::new(rt, own, draws),
-        notifier: Ticks::new(rt, mailbox),
+        notifier: Ticks::new(rt, mailbox, inboxes.gate()),
+    };
+    Admitting {
+        answerer,
+        admission: inboxes.admission(),
     }
 }

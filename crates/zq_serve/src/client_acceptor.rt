@@ -14,6 +14,13 @@ pub struct ClientAcceptor<'b> {
     pub(crate) acceptor: &'b mut Acceptor,
 }
 
+impl<'b> ClientAcceptor<'b> {
+    /// The port.
+    pub fn port(&self) -> &'b Port {
+        self.port
+    }
+}
+
 impl ClientAcceptor<'_> {
     /// Accepts connections, once the gate is open, until all have come. A gate that was never
     /// opened ends it at once.

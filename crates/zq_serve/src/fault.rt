@@ -3,16 +3,32 @@
 ghost use Rattle.std.specs.Prelude.{◌≡◌, ◌≢◌};
 
 use std::alloc::AllocError;
+use std::fmt;
 use std::io::ErrorKind;
+use std::net::SocketAddr;
 
 /// Why the sites were not served, or not announced.
 #[derive(Clone, Copy, Debug, PartialEq, Eq)]
 pub enum ServeFault {
-    /// A port could not be listened on, a thread could not be started, a write failed, or the
-    /// system gave no seed.
-    Device,
+    /// This failed of the system.
+    Device(Cause),
     /// There was no memory for the sites.
     NoMemory,
+    /// Another run used the number of the site.
+    Fenced,
+}
+
+/// What failed of the system, and what it said.
+#[derive(Clone, Copy, Debug, PartialEq, Eq)]
+pub enum Cause {
+    /// This address could not be listened on.
+    Address(SocketAddr, ErrorKind),
+    /// A thread could not be started.
+    Thread,
+    /// What says that sites are served could not be written.
+    Output,
+    /// There were no random bytes.
+    Random(ErrorKind),
 }
 
 impl From<AllocError> for ServeFault {
@@ -26,13 +42,26 @@ impl From<AllocError> for ServeFault {
     }
 }
 
-/// What a fault is of an error of this kind that comes before anybody is served.
-pub fn fault_of(kind: ErrorKind) -> ServeFault
+impl fmt::Display for Cause {
+    /// What failed, on one line.
+    fn fmt<W: fmt::Write>(&self, f: &mut fmt::Formatter<W>) -> fmt::Result {
+        match self {
+            Cause::Address(address, kind) => write!(f, "cannot listen on {address}: {kind}"),
+            Cause::Thread => f.write_str("cannot start a thread"),
+            Cause::Output => f.write_str("cannot write to standard output"),
+            Cause::Random(kind) => write!(f, "the system gives no random bytes: {kind}"),
+        }
+    }
+}
+
+/// What a fault is of an error of this kind at an address that was to be listened on.
+pub fn fault_of(address: SocketAddr, kind: ErrorKind) -> ServeFault
     ensures memory { kind ≡ ErrorKind.OutOfMemory → result ≡ ServeFault.NoMemory }
-    ensures device { kind ≢ ErrorKind.OutOfMemory → result ≡ ServeFault.Device }
+    ensures device { kind ≢ ErrorKind.OutOfMemory →
+        result ≡ ServeFault.Device (Cause.Address address kind) }
 {
     match kind {
         ErrorKind::OutOfMemory => ServeFault::NoMemory,
-        _ => ServeFault::Device,
+        _ => ServeFault::Device(Cause::Address(address, kind)),
     }
 }

@@ -1,6 +1,6 @@
 //! How the sites of a process hash.
 
-use crate::fault::ServeFault;
+use crate::fault::{Cause, ServeFault};
 use std::random::RandomSource;
 use zq_posheap::Seeded;
 
@@ -9,6 +9,6 @@ pub fn draw_hasher<R: RandomSource>(rt: &R) -> Result<Seeded, ServeFault> {
     let mut bytes = [0u8; 8];
     match rt.fill_bytes(&mut bytes) {
         Ok(()) => Ok(Seeded::new(u64::from_le_bytes(bytes))),
-        Err(_) => Err(ServeFault::Device),
+        Err(error) => Err(ServeFault::Device(Cause::Random(error.kind()))),
     }
 }

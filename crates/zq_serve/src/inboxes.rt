@@ -1,8 +1,10 @@
-//! Where the mailboxes of sites are.
+//! Where the mailboxes of sites are, and what stands before the calls of a site.
 
 ghost use Rattle.std.specs.Prelude.{option_copied, ◌≡◌};
 ghost use Rattle.zq_serve.specs.Inboxes.{inbox_of};
 
+use crate::admission::Admission;
+use crate::gate::Gate;
 use zq_dots::SiteNo;
 use zq_peers::Mailbox;
 
@@ -11,8 +13,8 @@ use zq_peers::Mailbox;
 pub enum Inboxes<'a> {
     /// Site N's is at place N; a site that has none is not linked.
     Each(&'a [Mailbox]),
-    /// That of the one site.
-    One(&'a Mailbox),
+    /// That of the one site, the gate before its calls, and which commands it answers.
+    One(&'a Mailbox, &'a Gate, &'a Admission),
 }
 
 impl<'a> Inboxes<'a> {
@@ -22,7 +24,23 @@ impl<'a> Inboxes<'a> {
     {
         match self {
             Inboxes::Each(mailboxes) => mailboxes.get(usize::from(site.value())),
-            Inboxes::One(mailbox) => Some(mailbox),
+            Inboxes::One(mailbox, _, _) => Some(mailbox),
+        }
+    }
+
+    /// The gate before the calls, where there is one.
+    pub(crate) fn gate(self) -> Option<&'a Gate> {
+        match self {
+            Inboxes::Each(_) => None,
+            Inboxes::One(_, gate, _) => Some(gate),
+        }
+    }
+
+    /// Which commands are answered, where not all are at all times.
+    pub(crate) fn admission(self) -> Option<&'a Admission> {
+        match self {
+            Inboxes::Each(_) => None,
+            Inboxes::One(_, _, admission) => Some(admission),
         }
     }
 }

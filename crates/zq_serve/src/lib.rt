@@ -3,16 +3,20 @@
 //! hears what they have. What serves one site is public, for those who link sites in another way.
 #![tactic(auto)]
 
+mod admission;
+mod admitting;
 mod announcing;
 mod answerer;
 mod client_acceptor;
 mod descriptors;
 mod fault;
+mod gate;
 mod hashing;
 mod inboxes;
 mod limits;
 mod linker;
 mod links;
+mod loading;
 mod mailboxes;
 mod notifier;
 mod plans;
@@ -24,9 +28,11 @@ mod ticking;
 mod warning;
 mod worker;
 
+pub use admission::Admission;
 pub use client_acceptor::ClientAcceptor;
 pub use descriptors::most_clients;
-pub use fault::ServeFault;
+pub use fault::{Cause, ServeFault};
+pub use gate::{Gate, Pace};
 pub use hashing::draw_hasher;
 pub use inboxes::Inboxes;
 pub use limits::{limits_of, warn_few};

@@ -40,7 +40,7 @@ pub fn open_port<R: Net<Listener = TcpListener, Stream = TcpStream>>(
             acceptor,
             pollers,
         }),
-        Err(error) => Err(fault_of(error.kind())),
+        Err(error) => Err(fault_of(address, error.kind())),
     }
 }
 
@@ -75,13 +75,13 @@ pub fn open_ports<R: Net<Listener = TcpListener, Stream = TcpStream>>(
 
 /// Listens on an address.
 ///
-/// `Device` where that failed.
+/// `Device` where that failed, and `NoMemory`.
 pub fn listen<R: Net<Listener = TcpListener, Stream = TcpStream>>(
     net: &R,
     address: SocketAddr,
 ) -> Result<TcpListener, ServeFault> {
     match TcpListener::bind(net, address) {
         Ok(listener) => Ok(listener),
-        Err(_) => Err(ServeFault::Device),
+        Err(error) => Err(fault_of(address, error.kind())),
     }
 }

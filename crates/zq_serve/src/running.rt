@@ -1,6 +1,6 @@
 //! Running what serves the clients of sites.
 
-use crate::fault::ServeFault;
+use crate::fault::{Cause, ServeFault};
 use crate::inboxes::Inboxes;
 use crate::threads::ClientThreads;
 use log::Log;
@@ -35,12 +35,12 @@ pub fn run_clients<L: Log + Clock + Threads + Wait + Sync>(
                     .spawn(move || worker.run(log, alloc, gate, inboxes, seed))
                     .is_err()
                 {
-                    return Err(ServeFault::Device);
+                    return Err(ServeFault::Device(Cause::Thread));
                 }
             }
             for client_acceptor in acceptors {
                 if scope.spawn(move || client_acceptor.run(log, gate)).is_err() {
-                    return Err(ServeFault::Device);
+                    return Err(ServeFault::Device(Cause::Thread));
                 }
             }
             *open = true;

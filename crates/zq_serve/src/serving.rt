@@ -4,7 +4,7 @@ ghost use Rattle.zq_serve.specs.Plans.{ArePlanned};
 
 use crate::announcing::announce;
 use crate::descriptors::most_clients;
-use crate::fault::ServeFault;
+use crate::fault::{Cause, ServeFault};
 use crate::hashing::draw_hasher;
 use crate::inboxes::Inboxes;
 use crate::limits::{limits_of, warn_few};
@@ -51,7 +51,7 @@ use zq_settings::Settings;
 ///
 /// # Errors
 ///
-/// `Device` or `NoMemory`, before any connection was accepted.
+/// `Device`, with what failed, or `NoMemory`, before any connection was accepted.
 pub fn serve<L, W>(
     log: &L,
     alloc: Global,
@@ -131,7 +131,7 @@ fn run_all<L: Log + Clock + Threads + Wait + Sync>(
                     .spawn(move || link_one(log, alloc, linker, mailboxes))
                     .is_err()
                 {
-                    ended = Err(ServeFault::Device);
+                    ended = Err(ServeFault::Device(Cause::Thread));
                 }
             }
             if ended.is_ok() {

@@ -1,4 +1,4 @@
-//! What answers, and tells of each answer.
+//! What answers, once it may, and tells of each answer.
 
 ghost use Rattle.std.specs.Prelude.{◌≡◌};
 
@@ -8,7 +8,8 @@ use std::snapshot::Snapshot;
 use zq_resp::{Reply, Request};
 use zq_session::Answers;
 
-/// Answers as the answerer inside, and tells of each answer once it is made.
+/// Answers as the answerer inside, once answers are admitted, and tells of each answer once it is
+/// made. Whoever waits to be admitted has no lock.
 #[derive(Drop)]
 pub struct Ticking<A: Answers, T: Notifier> {
     pub(crate) answerer: A,
@@ -22,6 +23,7 @@ impl<A: Answers, T: Notifier> Answers for Ticking<A, T> {
     ghost others = { λ old new. A.others old.answerer new.answerer };
 
     fn answer(&mut self, alloc: Global, request: &Request) -> Reply {
+        self.notifier.admit();
         let reply = self.answerer.answer(alloc, request);
         self.notifier.tell(Snapshot::of(&reply));
         reply

@@ -16,3 +16,6 @@ returns-clause-taken g c =
     let clients = c.args.clients.now in
     let place = c.args.place in
     cc (c.take.ensures.value, c.index-clients-place.is, ap was_in (slice_get-get_or clients place c.index-clients-place.result (omega (arith, c.if-place-clients.false))))
+
+pub returns-clause-gone : goal.returns-clause-gone
+returns-clause-gone g c = ap (λ n. slice_set c.args.clients.now c.args.place n) c.take.ensures.after

@@ -1,0 +1,50 @@
+-- Which commands a site answers, and what it tells the others.
+
+use Rattle.std.specs.Prelude.{Bool, List, [], codes, decimal, false, not, true, ℕ, ◌++◌, ◌||◌, ◌∷◌, ◌≡◌}
+use Rattle.zq_resp.specs.Reply.{line, reply_bytes}
+use Rattle.zq_resp.specs.declared.reply.Reply.{Reply}
+use Rattle.zq_serve.specs.declared.admission.Admits.{Admits}
+use Rattle.zq_serve.specs.declared.admission.Admits.TheVariants.{All, Pings, Readings}
+use Rattle.zq_words.specs.Words.{Word, is}
+
+-- whether a command of this name writes
+abbrev pub writes : Word → Bool
+writes name = is name (codes "ZADD") || (is name (codes "ZINCRBY") || (is name (codes "ZREM")
+    || (is name (codes "ZPOPMIN") || (is name (codes "ZPOPNEAR") || is name (codes "DEL")))))
+
+abbrev pub is_write : List Word → Bool
+is_write [] = false
+is_write (name ∷ words) = writes name
+
+abbrev pub is_ping : List Word → Bool
+is_ping [] = false
+is_ping (name ∷ words) = is name (codes "PING")
+
+-- which commands are answered: PING alone once the site is fenced, whether it waits or not, else
+-- readings while it waits, and else all
+abbrev pub admits_by : Bool → Bool → Admits
+admits_by true waits = Pings
+admits_by false true = Readings
+admits_by false false = All
+
+-- whether these words are answered
+abbrev pub is_admitted : Admits → List Word → Bool
+is_admitted All words = true
+is_admitted Readings words = not (is_write words)
+is_admitted Pings words = is_ping words
+
+-- what a command that writes is told while this site waits for its peers
+abbrev pub loading_of : ℕ → List ℕ
+loading_of site = codes "LOADING site " ++ (decimal site ++ codes " waits for its peers")
+
+-- what the others are told at a site
+abbrev pub refusal_of : ℕ → Admits → List ℕ
+refusal_of site All = []
+refusal_of site Readings = loading_of site
+refusal_of site Pings = codes "ERR this site number was used by another run"
+
+-- these words are not answered, but refused by this reply
+pub record IsHeldBack (site : ℕ) (admits : Admits) (words : List Word) (reply : Reply) : Type 0
+  where
+    pub refused : is_admitted admits words ≡ false
+    pub told : reply_bytes reply ≡ 45 ∷ line (refusal_of site admits)
