@@ -7,6 +7,8 @@ use Rattle.zq_site.specs.contracts.post.Post as Post
 use Rattle.zq_site.specs.contracts.shared.Shared as Shared
 use Rattle.zq_peers.proofs.Crossing.{mailbox_sync}
 use Rattle.zq_replica.specs.contracts.logs.Logs as Logs
+use Rattle.zq_serve.proofs.Crossing.{admission_sync, gate_sync}
+use Rattle.zq_site.specs.contracts.hiring.Hiring as Hiring
 
 link_sync : IsSync PeerLink.the_row
 link_sync = search (sendable, crosses) depth 100 fits 100000
@@ -17,5 +19,8 @@ post_sync = search (sendable, crosses) depth 100 fits 100000
 logs_sync : IsSync Logs.the_row
 logs_sync = search (sendable, crosses) depth 100 fits 100000
 
+hiring_sync : IsSync Hiring.the_row
+hiring_sync = search (sendable, crosses) depth 100 fits 100000
+
 pub shared_send : (κ : NamedLft) → IsSend (Shared.the_row κ)
-shared_send κ = search (link_sync, post_sync, logs_sync, mailbox_sync, sendable, crosses) depth 60 fits 100000
+shared_send κ = search (link_sync, post_sync, logs_sync, hiring_sync, admission_sync, gate_sync, mailbox_sync, sendable, crosses) depth 60 fits 100000

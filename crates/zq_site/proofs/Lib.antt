@@ -1,3 +1,4 @@
 mod Crossing
 mod Hearing
 mod Planned
+mod RunLaws

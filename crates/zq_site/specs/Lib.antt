@@ -1,5 +1,6 @@
 pub mod Pause
 pub mod Times
+pub mod Draining
 pub mod LinkStates
 pub mod Meetings
 pub mod Words
@@ -12,3 +13,10 @@ pub mod PeerLinks
 pub mod Upkeep
 pub mod Site
 pub mod Written
+pub mod Callers
+pub mod Dialing
+pub mod Crews
+pub mod Notices
+pub mod Runs
+pub mod Standings
+pub mod Beginnings

@@ -1,10 +1,10 @@
 -- The link to a peer, and what waits for it.
 
-use Rattle.std.specs.Prelude.{Bool, List, None, Option, Some, [], false, if◌then◌else◌, is_some, nat_lt, not, option_map, true, ℕ, ◌%◌, ◌&&◌, ◌+◌, ◌++◌, ◌==◌, ◌^◌, ◌∷◌, ◌≡◌, ◌⊎◌}
+use Rattle.std.specs.Prelude.{Bool, List, None, Option, Some, [], false, if◌then◌else◌, is_some, nat_le, nat_lt, not, option_map, true, ℕ, ◌%◌, ◌&&◌, ◌+◌, ◌++◌, ◌==◌, ◌^◌, ◌∷◌, ◌≡◌, ◌⊎◌}
 use Rattle.zq_links.specs.About.{topic_at}
 use Rattle.zq_replica.specs.declared.protocol.Protocol.{Protocol}
 use Rattle.zq_replica.specs.declared.protocol.Protocol.TheVariants.{Asking, Pushing}
-use Rattle.zq_site.specs.FrameQueues.{is_empty}
+use Rattle.zq_site.specs.FrameQueues.{bytes_of, is_empty}
 use Rattle.zq_site.specs.Heartbeat.{heartbeat}
 use Rattle.zq_site.specs.declared.link_state.Connection.{Connection}
 use Rattle.zq_site.specs.declared.link_state.LinkState.{LinkState}
@@ -94,10 +94,24 @@ put_on topic frame state =
     then record state { outbox = record state.outbox { parcels = put_in topic frame state.outbox.parcels } }
     else state
 
--- the frame waits behind all others, where there is a link
+-- whether the frame is a whole heap, which its first byte says
+abbrev pub is_state : List ℕ → Bool
+is_state [] = false
+is_state (kind ∷ bytes) = kind == 3
+
+-- so many bytes may wait before a frame, so that it is not dropped
+abbrev pub most_before : List ℕ → ℕ
+most_before frame = if is_state frame then 1048576 else 33554432
+
+-- whether the frame is not dropped where these wait
+abbrev pub is_let_in : List ℕ → List (List ℕ) → Bool
+is_let_in frame queue = nat_le (bytes_of queue) (most_before frame)
+
+-- the frame waits behind all others, where there is a link and not too much waits before it
 abbrev pub append_to : {S : Type 0} → List ℕ → LinkState S → LinkState S
 append_to frame state =
-    if is_some state.link then record state { queue = state.queue ++ frame ∷ [] } else state
+    if is_some state.link && is_let_in frame state.queue
+    then record state { queue = state.queue ++ frame ∷ [] } else state
 
 -- the frame, which is about this, waits where it is about something
 abbrev pub put_about : {S : Type 0} → Option Topic → List ℕ → LinkState S → LinkState S

@@ -4,7 +4,7 @@ use Rattle.std.specs.Prelude.{if◌then◌else◌, nat_lt, ℕ}
 use Rattle.zq_replica.specs.declared.protocol.Protocol.{Protocol}
 use Rattle.zq_replica.specs.declared.protocol.Protocol.TheVariants.{Asking, Pushing}
 use Rattle.zq_site.specs.declared.link_serving.Met.{Met}
-use Rattle.zq_site.specs.declared.link_serving.Met.TheVariants.{Heard, Old, Silent}
+use Rattle.zq_site.specs.declared.link_serving.Met.TheVariants.{Heard, Old, Silent, Unreached}
 use Rattle.zq_wire.specs.declared.form.Form.{Form}
 use Rattle.zq_wire.specs.declared.form.Form.TheVariants as form
 
@@ -12,6 +12,7 @@ use Rattle.zq_wire.specs.declared.form.Form.TheVariants as form
 abbrev pub next_form : Met → Form
 next_form Heard = form.New
 next_form Silent = form.New
+next_form Unreached = form.New
 next_form Old = form.Old
 
 -- what goes over a link of this version: from 2 on it is pushed

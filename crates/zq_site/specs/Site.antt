@@ -1,9 +1,11 @@
 -- What a site does with its settings.
 
 use Rattle.std.specs.Net.Text.{socket_text}
-use Rattle.std.specs.Prelude.{List, Some, [], codes, decimal, max, min, ℕ, ◌*◌, ◌++◌, ◌-◌, ◌^◌, ◌≡◌, ◌∷◌, length, slice_get}
+use Rattle.std.specs.Prelude.{Bool, Err, List, Result, false, true, Some, [], codes, decimal, max, min, ℕ, ◌*◌, ◌++◌, ◌-◌, ◌^◌, ◌≡◌, ◌∷◌, length, slice_get}
 use Rattle.zq_journal.specs.Limits.{limits_of}
 use Rattle.zq_model.specs.Limits.{standard}
+use Rattle.zq_serve.specs.declared.fault.ServeFault.{ServeFault}
+use Rattle.zq_serve.specs.declared.fault.ServeFault.TheVariants.{Fenced}
 use Rattle.zq_session.specs.declared.site_plan.SitePlan.{SitePlan}
 use Rattle.zq_settings.specs.declared.values.SiteSettings.{SiteSettings}
 
@@ -17,8 +19,13 @@ announced settings =
 abbrev pub acceptors_for : ℕ → ℕ
 acceptors_for dialers = max (min (dialers * 2) (2 ^ 64 - 1)) 1
 
--- the one plan of a site of these settings, with a server for each of so many workers, and a mebibyte
--- of names at most in a tail
+-- how a site ends whose threads ended so, and whose number another run may have used
+abbrev pub ended_by : Bool → Result (Unit {0}) ServeFault → Result (Unit {0}) ServeFault
+ended_by true ended = Err Fenced
+ended_by false ended = ended
+
+-- the one plan of a site of these settings, with a server for each of so many workers, and a
+-- mebibyte of names at most in a tail
 pub record IsPlanOf (settings : SiteSettings) (workers : ℕ) (plans : List SitePlan) : Type 0 where
   pub one : length plans ≡ 1
   pub number : (plan : SitePlan) → slice_get plans 0 ≡ Some plan → plan.number ≡ settings.site

@@ -7,10 +7,18 @@ seconds n = n * 1_000_000_000
 
 -- a dialled peer may take so long to accept, and a peer to open a link
 abbrev pub connecting : ℕ
-connecting = seconds 5
+connecting = 800 * 1_000_000
 
 abbrev pub opening : ℕ
 opening = seconds 5
+
+-- a read of an opening waits so long before it is looked whether the site ends
+abbrev pub looking : ℕ
+looking = 100 * 1_000_000
+
+-- a peer that is let go may take so long to close its end
+abbrev pub parting : ℕ
+parting = seconds 1
 
 -- the site tells its peers what it has so often, where nobody calls it
 abbrev pub telling : ℕ
@@ -36,6 +44,10 @@ silence = 4 * telling
 -- the site waits so long where a connection could not be accepted
 abbrev pub not_accepted : ℕ
 not_accepted = 100 * 1_000_000
+
+-- clients are told for so long that another run used the site's number
+abbrev pub fencing : ℕ
+fencing = 300 * 1_000_000
 
 -- a frame that goes over a link has a gibibyte at most
 abbrev pub most_frame : ℕ

@@ -1,9 +1,11 @@
 //! What accepts peers.
 
+use crate::caller::Caller;
 use crate::link_serving::serve_link;
 use crate::opening::Way;
 use crate::peer_listener::PeerListener;
 use crate::shared::Shared;
+use crate::standing::Standing;
 use crate::times::not_accepted;
 use log::Log;
 use std::random::RandomSource;
@@ -30,9 +32,24 @@ where
     L: Log + RandomSource + Clock + Wait,
 {
     match listener.listener.accept() {
-        Ok((stream, _)) => {
+        Ok((stream, address)) => {
             if !shared.halt.is_over(log) {
-                serve_link(log, shared, stream, shared.dialers, Way::Accepts);
+                let caller = Caller {
+                    site: None,
+                    address,
+                };
+                shared.hiring.take(log);
+                let mut standing = Standing::Well;
+                serve_link(
+                    log,
+                    shared,
+                    stream,
+                    caller,
+                    shared.dialers,
+                    Way::Accepts,
+                    &mut standing,
+                );
+                shared.hiring.free(log);
             }
         }
         Err(_) => {

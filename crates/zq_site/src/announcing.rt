@@ -5,7 +5,7 @@ ghost use Rattle.std.specs.Prelude.{OnOk};
 ghost use Rattle.zq_site.specs.Site.{announced};
 
 use std::io::Write;
-use zq_serve::ServeFault;
+use zq_serve::{Cause, ServeFault};
 use zq_settings::SiteSettings;
 
 /// Writes a line with the site's number, the port of its clients and the address of its peers.
@@ -19,7 +19,7 @@ pub fn announce<W: Write>(settings: &SiteSettings, out: &mut W) -> Result<(), Se
     let port = settings.port.value();
     let listen = settings.listen;
     if writeln!(out, "site {site} port {port} peers {listen}").is_err() || out.flush().is_err() {
-        return Err(ServeFault::Device);
+        return Err(ServeFault::Device(Cause::Output));
     }
     Ok(())
 }

@@ -1,6 +1,8 @@
 //! The thread that takes what a site makes and hears into the logs.
 
+ghost use Rattle.std.specs.Prelude.{◌≡◌};
 ghost use Rattle.zq_node.specs.Node.{IsNode, IsSameHome};
+ghost use Rattle.zq_site.specs.Draining as wanted;
 
 use crate::shared::Shared;
 use crate::times::gathering;
@@ -8,13 +10,16 @@ use std::sync::Wait;
 use std::time::Clock;
 use zq_dots::SiteNo;
 use zq_links::Message;
-use zq_node::Node;
+use zq_node::{Node, NodeFault};
 use zq_peers::{Inbox, Incoming};
 use zq_replica::Drained;
 use zq_serve::NodeWork;
 
-/// Taking what the calls of a site's clients make, and what its link thread hears, into the logs of its
-/// heaps.
+/// How many operations may be made that are not in the logs yet, before calls wait.
+const MOST_LEFT: u64 = 65_536;
+
+/// Taking what the calls of a site's clients make, and what its link thread hears, into the logs of
+/// its heaps.
 #[derive(Drop)]
 pub struct Draining<'a, L: Clock + Wait> {
     pub log: &'a L,
@@ -27,8 +32,8 @@ impl<L: Clock + Wait> NodeWork for Draining<'_, L> {
     }
 }
 
-/// Takes what is made and heard into the logs, until the site ends: at once what the first call after
-/// a rest made, and then what all made that came while some time was gathered.
+/// Takes what is made and heard into the logs, until the site ends: at once what the first call
+/// after a rest made, and then what all made that came while some time was gathered.
 fn drain_calls<L: Clock + Wait>(rt: &L, shared: Shared<'_>, node: &mut Node<'_>)
     requires { IsNode node.old }
     ensures node { IsNode node.new }
@@ -46,21 +51,74 @@ fn drain_calls<L: Clock + Wait>(rt: &L, shared: Shared<'_>, node: &mut Node<'_>)
     }
 }
 
-/// Takes all that was made into the logs, piece by piece, and tells the link thread of each. What is
-/// refused memory is taken the next time.
+/// Takes all that was made into the logs, round by round. While a round leaves too much the gate
+/// before the site's calls is shut. What is refused memory is taken the next time.
 fn drain_pieces<L: Wait>(rt: &L, shared: Shared<'_>, node: &mut Node<'_>)
     requires { IsNode node.old }
     ensures node { IsNode node.new }
     ensures home { IsSameHome node.old node.new }
 {
-    for _piece in 0..u64::MAX {
-        match shared.logs.drain(rt, shared.alloc, node) {
-            Ok(Drained::Piece) => shared.post.call(rt),
-            Ok(Drained::All) => {
-                shared.post.call(rt);
-                break;
-            }
-            Ok(Drained::Nothing) | Err(_) => break,
+    for _round in 0..u64::MAX {
+        let Ok(left) = drain_round(rt, shared, node) else {
+            break;
+        };
+        if left == 0 {
+            break;
+        }
+        shared.gate.set(rt, is_much(left));
+    }
+    shared.gate.set(rt, false);
+}
+
+/// Takes a piece of what each heap has made into its log, and tells the link thread where there was
+/// something. It says how many operations are left.
+fn drain_round<L: Wait>(rt: &L, shared: Shared<'_>, node: &mut Node<'_>) -> Result<u64, NodeFault>
+    requires { IsNode node.old }
+    ensures node { IsNode node.new }
+    ensures home { IsSameHome node.old node.new }
+{
+    let mut left = 0u64;
+    let mut some = false;
+    for heap in 0..shared.logs.heaps() {
+        let (has_some, left_here) = drain_heap(rt, shared, node, heap)?;
+        some = some || has_some;
+        left = left.saturating_add(left_here);
+    }
+    if some {
+        shared.post.call(rt);
+    }
+    Ok(left)
+}
+
+/// Takes a piece of what a heap has made into its log, and lets who waits for that go on. It says
+/// whether that is all that there was, where there was something, and how many operations are left;
+/// where some may be left the link thread is told at once.
+fn drain_heap<L: Wait>(
+    rt: &L,
+    shared: Shared<'_>,
+    node: &mut Node<'_>,
+    heap: u8,
+) -> Result<(bool, u64), NodeFault>
+    requires { IsNode node.old }
+    ensures node { IsNode node.new }
+    ensures home { IsSameHome node.old node.new }
+{
+    let drained = shared.logs.drain_piece(rt, shared.alloc, node, heap)?;
+    shared.gate.pass(rt);
+    match drained {
+        Drained::Nothing => Ok((false, 0)),
+        Drained::All => Ok((true, 0)),
+        Drained::Piece => {
+            shared.post.call(rt);
+            let left = shared.logs.lag(rt, node, heap)?;
+            Ok((false, left))
         }
     }
+}
+
+/// Whether calls have to wait where so many operations are not in the logs yet.
+fn is_much(left: u64) -> bool
+    ensures { result ≡ wanted.is_much left }
+{
+    left > MOST_LEFT
 }

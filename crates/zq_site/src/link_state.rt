@@ -2,7 +2,7 @@
 
 ghost use Rattle.std.specs.Prelude.{◌≡◌, ◌≢◌, ℕ, IfOk, IfSome, IsNone, IsSome, None, OnErr, OnOk, Option, Some, [], if◌then◌else◌, is_some, option_map};
 ghost use Rattle.zq_site.specs.FrameQueues.{frames_of};
-ghost use Rattle.zq_site.specs.LinkStates.{IsHeartbeat, IsTaken, append_to, cleared_all, fresh, halted, has_room, is_up, lowered, next_number, protocol_of as link_protocol, put_on, raised, sent, stream_of as link_stream, written_on};
+ghost use Rattle.zq_site.specs.LinkStates.{IsHeartbeat, IsTaken, append_to, cleared_all, fresh, halted, has_room, is_up, lowered, most_before, next_number, protocol_of as link_protocol, put_on, raised, sent, stream_of as link_stream, written_on};
 
 use crate::frame_queue::FrameQueue;
 use crate::heartbeat::heartbeat;
@@ -11,6 +11,18 @@ use std::mem;
 use zq_links::topic_of;
 use zq_replica::Protocol;
 use zq_wire::{Outbox, Topic};
+
+/// The first byte of a frame that is a whole heap.
+const STATE: u8 = 3;
+
+/// A whole heap waits where no more bytes wait before it than these: so a second one waits only
+/// behind one that is small.
+const MOST_BEFORE_STATE: u64 = 1_048_576;
+
+/// Any other frame waits where no more bytes wait before it than these. What is pushed to a peer at
+/// once, a batch of each heap, has fewer before its last frame: a batch has 65,536 bytes and one
+/// operation more, whose names have up to a mebibyte each.
+const MOST_BEFORE: u64 = 33_554_432;
 
 /// A link that is up.
 #[derive(Drop)]
@@ -82,10 +94,10 @@ impl<S> LinkState<S> {
         self.link.is_some() && self.queue.is_empty() && !self.is_busy
     }
 
-    /// The frame waits for the link: behind all others where the peer is pushed to, and in the place
-    /// of an older one of its topic where it asks. Where there is no link, or it is about nothing
-    /// that a peer which asks is told, it is dropped. Where there is no memory for it nothing
-    /// changes.
+    /// The frame waits for the link: behind all others where the peer is pushed to, and in the
+    /// place of an older one of its topic where it asks. Where there is no link, or too much waits
+    /// before it, or it is about nothing that a peer which asks is told, it is dropped. Where there
+    /// is no memory for it nothing changes.
     pub fn send(&mut self, frame: Vec<u8>) -> Result<(), AllocError>
         ensures waits { OnOk result (self.new ≡ sent frame.items self.old) }
         ensures refused { OnErr result (self.new ≡ self.old) }
@@ -112,12 +124,13 @@ impl<S> LinkState<S> {
         }
     }
 
-    /// The frame waits behind all others. Where there is no link it is dropped.
+    /// The frame waits behind all others. Where there is no link, or too much waits before it, it
+    /// is dropped: what waits for a peer that takes nothing does not grow for ever.
     fn append(&mut self, frame: Vec<u8>) -> Result<(), AllocError>
         ensures appended { OnOk result (self.new ≡ append_to frame.items self.old) }
         ensures refused { OnErr result (self.new ≡ self.old) }
     {
-        if self.link.is_none() {
+        if self.link.is_none() || self.queue.bytes() > most_before(&frame) {
             return Ok(());
         }
         self.queue.append(frame)
@@ -239,6 +252,16 @@ impl<S: Drop> LinkState<S> {
         self.over = true;
         self.clear(alloc);
         stream_of(self.link.take())
+    }
+}
+
+/// How many bytes may wait before a frame, so that it is not dropped.
+fn most_before(frame: &[u8]) -> u64
+    ensures { result ≡ most_before frame.now }
+{
+    match frame.first() {
+        Some(&STATE) => MOST_BEFORE_STATE,
+        _ => MOST_BEFORE,
     }
 }
 

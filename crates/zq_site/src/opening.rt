@@ -1,17 +1,20 @@
 //! Opening a link over a stream.
 
-ghost use Rattle.std.specs.Duration.{as_nanos};
-ghost use Rattle.std.specs.Prelude.{IfSome, IsSome, ◌+◌, ◌≡◌, ◌≤◌, ◌↔◌};
-ghost use Rattle.zq_site.specs.Times as wanted;
+ghost use Rattle.std.specs.Prelude.{◌≡◌};
 
+use crate::caller::number_told;
+use crate::hasty::Hasty;
+use crate::notice::{Reason, reason_at_end};
 use crate::shared::Shared;
+use crate::standing::Ending;
 use crate::times;
 use std::io;
-use std::io::{ErrorKind, Read};
 use std::net::TcpStream;
 use std::random::RandomSource;
-use std::time::{Clock, Duration, Instant};
+use std::sync::Wait;
+use std::time::Clock;
 use zq_dots::SiteNo;
+use zq_serve::{Cause, ServeFault};
 use zq_wire::{Form, NONCE, Opened, RUN, Secret, Side, Unopened, Versions, accept_over, dial_over};
 
 /// From this version on the sites of a link push.
@@ -39,19 +42,46 @@ pub enum Way {
 }
 
 /// What names this run of the site: bytes that no other run has.
-pub fn draw_run<R: RandomSource>(rt: &R) -> io::Result<[u8; RUN]> {
+///
+/// `Device` where the system gives no random bytes.
+pub fn draw_run<R: RandomSource>(rt: &R) -> Result<[u8; RUN], ServeFault> {
     let mut run = [0u8; RUN];
-    rt.fill_bytes(&mut run)?;
-    Ok(run)
+    match rt.fill_bytes(&mut run) {
+        Ok(()) => Ok(run),
+        Err(error) => Err(ServeFault::Device(Cause::Random(error.kind()))),
+    }
 }
 
-/// Opens a link over the stream to one of these peers.
-pub fn open_link<R: RandomSource + Clock>(
+/// What came of a peer as a link to it was opened.
+#[derive(Clone, Copy, Debug, PartialEq, Eq)]
+pub struct Told {
+    /// The number that it greets with, as far as that came.
+    pub site: Option<SiteNo>,
+    /// Why it let this site go, where it says so at the end.
+    pub reason: Option<Reason>,
+    /// How the stream ended, where the link was not opened.
+    pub ending: Ending,
+}
+
+impl Told {
+    /// Nothing came.
+    pub fn nothing() -> Told {
+        Told {
+            site: None,
+            reason: None,
+            ending: Ending::Failed,
+        }
+    }
+}
+
+/// Opens a link over the stream to one of these peers. It says also what came of the peer.
+pub fn open_link<R: RandomSource + Clock + Wait>(
     rt: &R,
     shared: Shared<'_>,
     stream: &TcpStream,
     peers: &[SiteNo],
     way: Way,
+    told: &mut Told,
 ) -> Result<Opened, Unopened> {
     let secret = match &shared.settings.secret {
         Some(secret) => Some(Secret {
@@ -68,13 +98,18 @@ pub fn open_link<R: RandomSource + Clock>(
     let counters = [0u64; MOST_HEAPS];
     let heaps = shared.settings.heaps.value() as usize;
     let side = side_of(shared, peers, secret, form, &counters[..heaps]);
-    let start = Instant::now(rt)?;
-    let mut reader = Hasty { rt, stream, start };
+    let mut reader = Hasty::new(rt, shared, stream, times::opening())?;
     let mut writer = stream;
-    match way {
+    let opened = match way {
         Way::Dials(_) => dial_over(shared.alloc, &side, &mut reader, &mut writer),
         Way::Accepts => accept_over(shared.alloc, &side, &mut reader, &mut writer),
-    }
+    };
+    *told = Told {
+        site: number_told(&reader.heard),
+        reason: reason_at_end(&reader.heard),
+        ending: reader.ending,
+    };
+    opened
 }
 
 /// This site as it opens a link to one of these peers, with this secret and nonce, greets in this
@@ -114,31 +149,4 @@ fn draw_nonce<R: RandomSource>(rt: &R) -> Result<[u8; NONCE], Unopened> {
     let mut nonce = [0u8; NONCE];
     rt.fill_bytes(&mut nonce)?;
     Ok(nonce)
-}
-
-/// A stream that is read in what is left of the time of an opening, which began at this moment.
-#[derive(Drop)]
-struct Hasty<'a, R: Clock> {
-    rt: &'a R,
-    stream: &'a TcpStream,
-    start: Instant,
-}
-
-impl<R: Clock> Read for Hasty<'_, R> {
-    fn read(&mut self, buf: &mut [u8]) -> io::Result<usize> {
-        let Some(left) = left_after(self.start.elapsed(self.rt)?) else {
-            return Err(ErrorKind::TimedOut.into());
-        };
-        self.stream.set_read_timeout(Some(left))?;
-        let mut source = self.stream;
-        source.read(buf)
-    }
-}
-
-/// What is left of the time of an opening after so much of it, if anything is.
-fn left_after(elapsed: Duration) -> Option<Duration>
-    ensures left { IfSome result (λ left. as_nanos left + as_nanos elapsed ≡ wanted.opening) }
-    ensures some { IsSome result ↔ (as_nanos elapsed ≤ wanted.opening) }
-{
-    times::opening().checked_sub(elapsed)
 }

@@ -7,24 +7,42 @@ ghost use Rattle.zq_site.specs.LinkStates.{IsHeartbeat, IsTaken, IsTurn};
 
 use crate::link_state::{Connection, LinkState};
 use crate::quota::Quota;
+use crate::run_order::Runs;
 use crate::times::heartbeat;
 use std::alloc::{AllocError, Global};
 use std::net::{Shutdown, TcpStream};
+use std::sync::atomic::{AtomicBool, Ordering};
 use std::sync::{Arc, Condvar, Mutex, Wait};
 use std::time::Clock;
+use zq_dots::SiteNo;
 use zq_replica::Protocol;
-use zq_settings::Peer;
+use zq_wire::Run;
 
 /// The link to a peer, and what waits for it.
 #[derive(Drop)]
 pub struct PeerLink {
     /// The peer.
-    pub peer: Peer,
+    pub site: SiteNo,
     /// How much of what the peer sent waits for the link thread.
     pub quota: Quota,
     alloc: Global,
     state: Mutex<LinkState<Arc<TcpStream>>>,
     changed: Condvar,
+    /// What is known of the runs of the peer's number.
+    runs: Mutex<Runs>,
+    /// Whether a thread writes the links, or is asked for.
+    is_written: AtomicBool,
+}
+
+/// What became of a link that was opened.
+#[derive(Clone, Copy, Debug, PartialEq, Eq)]
+pub enum Raised {
+    /// It is up, and has this number.
+    Up(u64),
+    /// A link to another run of the peer's number is up, and stays.
+    OtherRun,
+    /// The site ends.
+    Over,
 }
 
 /// Frames that go over a link.
@@ -40,28 +58,44 @@ pub struct QueuedFrames {
 
 impl PeerLink {
     /// No link to this peer, of a site of so many heaps.
-    pub fn new(alloc: Global, peer: Peer, heaps: u8) -> Result<PeerLink, AllocError>
-        ensures { IfOk result (λ peer_link. peer_link.peer ≡ peer) }
+    pub fn new(alloc: Global, site: SiteNo, heaps: u8) -> Result<PeerLink, AllocError>
+        ensures { IfOk result (λ peer_link. peer_link.site ≡ site) }
     {
         Ok(PeerLink {
-            peer,
+            site,
             quota: Quota::new(),
             alloc,
             state: Mutex::new(LinkState::new(alloc, heaps)?),
             changed: Condvar::new(),
+            runs: Mutex::new(Runs::none()),
+            is_written: AtomicBool::new(false),
         })
     }
 
-    /// The peer.
-    pub fn peer(&self) -> Peer
-        ensures { result ≡ self.now.peer }
-    {
-        self.peer
+    /// The run of the latest link, where it is another one than those whose operations this site
+    /// may have.
+    pub fn newcomer<R: Wait>(&self, rt: &R) -> Option<Run> {
+        self.runs.lock(rt).newcomer()
     }
 
-    /// The frame waits for the link: behind all others where the peer is pushed to, and in the place
-    /// of an older one of its topic where it asks. Where there is no link it is dropped, and so it
-    /// is where there is no memory for it.
+    /// This site may have operations of the run of the latest link from now on.
+    pub fn know<R: Wait>(&self, rt: &R) {
+        self.runs.lock(rt).know();
+    }
+
+    /// Whether a thread that writes the links has to be asked for. It counts as asked for then.
+    pub fn wants_writer(&self) -> bool {
+        !self.is_written.swap(true, Ordering::SeqCst)
+    }
+
+    /// The thread that was asked for did not start.
+    pub fn lacks_writer(&self) {
+        self.is_written.store(false, Ordering::SeqCst);
+    }
+
+    /// The frame waits for the link: behind all others where the peer is pushed to, and in the
+    /// place of an older one of its topic where it asks. Where there is no link, or too much waits
+    /// for it, it is dropped, and so it is where there is no memory for it.
     pub fn send<R: Wait>(&self, rt: &R, frame: Vec<u8>) {
         let _ = self.state.lock(rt).send(frame);
         self.changed.notify_all();
@@ -72,19 +106,28 @@ impl PeerLink {
         self.state.lock(rt).has_room()
     }
 
-    /// A link is up over this stream, with this protocol, in the place of an older one, whose stream
-    /// is shut down: its number. Where the site ends there is none.
+    /// A link is up over this stream, with this protocol, to the run of the peer that it told, in
+    /// the place of an older link to the same run, whose stream is shut down. Where a link to
+    /// another run is up, that one stays.
     pub fn raise<R: Wait>(
         &self,
         rt: &R,
         stream: Arc<TcpStream>,
         protocol: Protocol,
-    ) -> Option<u64> {
+        run: Option<Run>,
+    ) -> Raised {
+        let mut runs = self.runs.lock(rt);
+        let is_up = self.state.lock(rt).link.is_some();
+        if !runs.come(run, is_up) {
+            return Raised::OtherRun;
+        }
         let raised = self.state.lock(rt).raise(self.alloc, stream, protocol);
-        let (number, older) = raised?;
+        let Some((number, older)) = raised else {
+            return Raised::Over;
+        };
         shut(older);
         self.changed.notify_all();
-        Some(number)
+        Raised::Up(number)
     }
 
     /// The link of this number is down, and its stream is shut down. It says whether that link was

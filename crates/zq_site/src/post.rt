@@ -146,8 +146,8 @@ impl Post {
         self.changed.notify_one();
     }
 
-    /// Takes all that waits. Where nothing does it is waited for, unless the link thread has more to
-    /// do. `None` where the site ends.
+    /// Takes all that waits. Where nothing does it is waited for, unless the link thread has more
+    /// to do. `None` where the site ends.
     pub fn take<R: Wait>(&self, rt: &R, has_more: bool) -> Option<Delivery>
         ensures { IfSome result (λ delivery. has_more ≡ false → IsNothing delivery → ⊥) }
     {

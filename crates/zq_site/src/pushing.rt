@@ -1,7 +1,11 @@
-//! The link thread of a site that pushes. What is made and heard goes into the logs by another thread.
+//! The link thread of a site that pushes. What is made and heard goes into the logs by another
+//! thread.
 
 ghost use Rattle.zq_node.specs.Node.{IsNode, IsSameHome};
 
+use crate::beginning::Beginning;
+use crate::notice::{Notice, read_notice, write_notice};
+use crate::outcome::{Outcome, outcome_of};
 use crate::peer_links::peer_link_of;
 use crate::post::{Delivery, Event};
 use crate::running::MOST_PARKED;
@@ -9,13 +13,14 @@ use crate::shared::Shared;
 use crate::warning::Warning;
 use crate::warning_log::warn_of;
 use log::Log;
+use std::alloc::AllocError;
 use std::collections::VecDeque;
 use std::sync::Wait;
 use zq_dots::SiteNo;
 use zq_follow::SiteSet;
 use zq_node::Node;
 use zq_posheap::Seeded;
-use zq_replica::{Parcels, Replica, window_for};
+use zq_replica::{Parcels, Protocol, Replica, window_for};
 use zq_serve::NodeWork;
 
 /// Pushing to the peers of a site.
@@ -32,8 +37,8 @@ impl<L: Log + Wait> NodeWork for Pushing<'_, L> {
     fn run(self, node: &mut Node<'_>, others: &[SiteNo]) {
         let (shared, settings) = (self.shared, self.shared.settings);
         let heaps = settings.heaps.value() as u8;
-        let window = window_for(MOST_PARKED, others.len(), heaps);
-        let replica = Replica::new(
+        let window = window_of(shared, 0);
+        let made = Replica::new(
             shared.alloc,
             settings.site,
             heaps,
@@ -43,13 +48,19 @@ impl<L: Log + Wait> NodeWork for Pushing<'_, L> {
             shared.logs,
             others,
         );
-        if let Ok(mut replica) = replica {
-            push_to_peers(self.log, shared, node, &mut replica);
+        match made {
+            Ok(mut replica) => {
+                push_to_peers(self.log, shared, node, &mut replica);
+                replica.close();
+            }
+            // Nobody hears what this site makes.
+            Err(AllocError) => shared.admission.open(),
         }
     }
 }
 
-/// Hears what comes over the links, and pushes to the peers what they lack, until the site ends.
+/// Hears what comes over the links, and pushes to the peers what they lack, until the site ends, or
+/// it is found that another run used its number.
 /// What fails is dropped as if it had been lost; frames that were not heard are warned of.
 fn push_to_peers<L: Log + Wait>(
     log: &L,
@@ -61,12 +72,13 @@ fn push_to_peers<L: Log + Wait>(
     ensures node { IsNode node.new }
     ensures home { IsSameHome node.old node.new }
 {
+    let mut beginning = Beginning::new(shared.settings);
     let mut more = false;
     for _ in log.forever() {
         let Some(delivery) = shared.post.take(log, more) else {
             break;
         };
-        more = serve(log, shared, node, replica, delivery);
+        more = serve(log, shared, node, replica, &mut beginning, delivery);
     }
 }
 
@@ -76,6 +88,7 @@ fn serve<L: Log + Wait>(
     shared: Shared<'_>,
     node: &mut Node<'_>,
     replica: &mut Replica<'_>,
+    beginning: &mut Beginning,
     delivery: Delivery,
 ) -> bool
     requires { IsNode node.old }
@@ -90,6 +103,12 @@ fn serve<L: Log + Wait>(
     } = delivery;
     let heard = !events.is_empty();
     hear_all(log, shared, node, replica, events);
+    if shared.admission.is_fenced() {
+        return false;
+    }
+    if heard || beats {
+        beginning.go_on(log, shared, node, replica, beats);
+    }
     if heard || beats {
         shared.mailbox.tick(log);
     }
@@ -140,7 +159,8 @@ fn tell<L: Log + Wait>(
     let _ = replica.tell_haves(log, shared.alloc, node, out);
 }
 
-/// Does what these events ask for, in their order.
+/// Does what these events ask for, in their order, until it is found that another run used the
+/// site's number. Then no link is up any more, so that what waits for a peer is not sent.
 fn hear_all<L: Log + Wait>(
     log: &L,
     shared: Shared<'_>,
@@ -155,8 +175,23 @@ fn hear_all<L: Log + Wait>(
     for event in events {
         let mut out = Vec::new(shared.alloc);
         hear(log, shared, node, replica, event, &mut out);
+        if let Some(fenced) = replica.fenced() {
+            fence(log, shared, Warning::Fenced(fenced));
+        }
+        if shared.admission.is_fenced() {
+            break;
+        }
         post_all(log, shared, out);
     }
+}
+
+/// Another run used the site's number: no command is answered any more, all links are taken down,
+/// the link thread ends, and that is warned of.
+fn fence<L: Log + Wait>(log: &L, shared: Shared<'_>, why: Warning) {
+    shared.admission.fence();
+    shared.halt_all(log);
+    shared.post.stop(log);
+    warn_of(log, shared.settings.site, why);
 }
 
 /// Does what an event asks for.
@@ -178,22 +213,142 @@ fn hear<L: Log + Wait>(
             peer,
             link,
             protocol,
-        } => {
-            let _ = replica.raise(log, alloc, node, peer, link, protocol, out);
-        }
+        } => raise(log, shared, node, replica, peer, link, protocol, out),
         Event::Down { peer, link } => {
             let _ = replica.lower(log, alloc, node, peer, link, out);
+            replica.set_window(window_of(shared, replica.links()));
         }
         Event::Frame { peer, link, bytes } => {
-            let heard = replica.hear(log, alloc, node, peer, link, &bytes, out);
-            if let Err(why) = heard {
-                warn_of(log, shared.settings.site, Warning::Drops(peer, why));
-            }
+            hear_bytes(log, shared, node, replica, peer, link, &bytes, out);
             if let Some(peer_link) = peer_link_of(shared.peer_links, peer) {
                 peer_link.quota.leave(log, bytes.len() as u64);
             }
         }
     }
+}
+
+/// The link of this number to a peer is up, unless the peer's number was used by another run: then
+/// it is told so.
+fn raise<L: Log + Wait>(
+    log: &L,
+    shared: Shared<'_>,
+    node: &mut Node<'_>,
+    replica: &mut Replica<'_>,
+    peer: SiteNo,
+    link: u64,
+    protocol: Protocol,
+    out: &mut Parcels,
+)
+    requires { IsNode node.old }
+    ensures node { IsNode node.new }
+    ensures home { IsSameHome node.old node.new }
+{
+    let alloc = shared.alloc;
+    let is_reused = is_reused(log, shared, node, replica, peer);
+    let _ = replica.raise(log, alloc, node, peer, link, protocol, out);
+    if is_reused {
+        out.clear();
+        let _ = replica.lower(log, alloc, node, peer, link, out);
+        refuse_run(log, shared, peer);
+    }
+    replica.set_window(window_of(shared, replica.links()));
+}
+
+/// Hears a notice or a frame that came over the link of this number to a peer.
+fn hear_bytes<L: Log + Wait>(
+    log: &L,
+    shared: Shared<'_>,
+    node: &mut Node<'_>,
+    replica: &mut Replica<'_>,
+    peer: SiteNo,
+    link: u64,
+    bytes: &[u8],
+    out: &mut Parcels,
+)
+    requires { IsNode node.old }
+    ensures node { IsNode node.new }
+    ensures home { IsSameHome node.old node.new }
+{
+    match read_notice(bytes) {
+        Some(notice) => hear_notice(log, shared, peer, notice),
+        None => hear_frame(log, shared, node, replica, peer, link, bytes, out),
+    }
+}
+
+/// Whether the run of a peer's link uses a number that another run used: it is another run than the
+/// one of the links before, and began with fewer operations than this site has of the number.
+fn is_reused<L: Log + Wait>(
+    log: &L,
+    shared: Shared<'_>,
+    node: &mut Node<'_>,
+    replica: &mut Replica<'_>,
+    peer: SiteNo,
+) -> bool
+    requires { IsNode node.old }
+    ensures node { IsNode node.new }
+    ensures home { IsSameHome node.old node.new }
+{
+    let Some(peer_link) = peer_link_of(shared.peer_links, peer) else {
+        return false;
+    };
+    let Some(run) = peer_link.newcomer(log) else {
+        return false;
+    };
+    let is_reused = replica
+        .knows_more(log, node, peer, run.counters.as_slice())
+        .unwrap_or(true);
+    if !is_reused {
+        peer_link.know(log);
+    }
+    is_reused
+}
+
+/// Tells a peer that another run used its number. What it says is not heard.
+fn refuse_run<L: Log + Wait>(log: &L, shared: Shared<'_>, peer: SiteNo) {
+    warn_of(log, shared.settings.site, Warning::Reused(peer));
+    if let Ok(frame) = write_notice(shared.alloc, Notice::Refused)
+        && let Some(peer_link) = peer_link_of(shared.peer_links, peer)
+    {
+        peer_link.send(log, frame);
+    }
+}
+
+/// Hears a frame of a peer. Where it is not heard that is warned of.
+fn hear_frame<L: Log + Wait>(
+    log: &L,
+    shared: Shared<'_>,
+    node: &mut Node<'_>,
+    replica: &mut Replica<'_>,
+    peer: SiteNo,
+    link: u64,
+    bytes: &[u8],
+    out: &mut Parcels,
+)
+    requires { IsNode node.old }
+    ensures node { IsNode node.new }
+    ensures home { IsSameHome node.old node.new }
+{
+    let heard = replica.hear(log, shared.alloc, node, peer, link, bytes, out);
+    if let Err(why) = heard {
+        warn_of(log, shared.settings.site, Warning::Drops(peer, why));
+    }
+}
+
+/// Hears what a peer says of another run of the site's number.
+fn hear_notice<L: Log + Wait>(log: &L, shared: Shared<'_>, peer: SiteNo, notice: Notice) {
+    match outcome_of(peer, notice) {
+        Outcome::Ends(why) => fence(log, shared, why),
+        Outcome::Warns(why) => warn_of(log, shared.settings.site, why),
+        Outcome::Nothing => {}
+    }
+}
+
+/// How many operations of a heap each peer may have under way to the site, where it has so many
+/// links: by as many peers as are linked, or listed where those are more.
+fn window_of(shared: Shared<'_>, links: usize) -> u64 {
+    let listed = shared.settings.peers.as_slice().len();
+    let heaps = shared.settings.heaps.value() as u8;
+    window_for(MOST_PARKED, links.max(listed), heaps)
 }
 
 /// Has each frame wait for its peer.
@@ -210,7 +365,7 @@ fn with_room<L: Wait>(rt: &L, shared: Shared<'_>) -> SiteSet {
     let mut peers = SiteSet::empty();
     for peer_link in shared.peer_links {
         if peer_link.has_room(rt) {
-            peers = peers.with(peer_link.peer().site);
+            peers = peers.with(peer_link.site);
         }
     }
     peers

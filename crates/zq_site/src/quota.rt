@@ -95,8 +95,8 @@ fn cost_of(length: u64) -> u64
     length.saturating_add(BESIDE)
 }
 
-/// How much of a peer's frames waits for the link thread. A reader that finds no room waits, so that
-/// the peer is held back by its stream.
+/// How much of a peer's frames waits for the link thread. A reader that finds no room waits, so
+/// that the peer is held back by its stream.
 #[derive(Drop)]
 pub struct Quota {
     held: Mutex<Held>,

@@ -3,13 +3,19 @@
 ghost use Rattle.std.specs.Io.KnownBytes.{Consumes};
 ghost use Rattle.std.specs.Prelude.{IfErr, IfOk, IfSome, List, OnErr, [], ℕ, ◌≡◌, ◌≢◌};
 ghost use Rattle.zq_site.specs.Heard.{AreHeard, IsOfStream, end_of};
+ghost use Rattle.zq_site.specs.Standings.{sign_of};
+ghost use Rattle.zq_site.specs.Standings.{sign_of};
 ghost use Rattle.zq_wire.specs.StreamLaws.{given_by};
 ghost use Rattle.zq_wire.specs.Stream.{answered, frames_in};
 
 use crate::loss::Loss;
+use crate::notice::{Notice, read_notice};
 use crate::post::{Event, Post};
 use crate::quota::Quota;
+use crate::reception::Reception;
+use crate::standing::Sign;
 use crate::times::{PIECE, most_frame};
+use log::Log;
 use std::alloc::Global;
 use std::io::{ErrorKind, Read};
 use std::sync::Wait;
@@ -26,10 +32,10 @@ pub trait Hear {
         ensures { hears self.old frame.items self.new };
 }
 
-/// Leaves the frames of a peer at the site's post, and notes that one came.
+/// Leaves the frames of a peer at the site's post, and says how the peer takes this site.
 #[derive(Drop)]
-pub struct Ear<'a, R: Wait> {
-    pub rt: &'a R,
+pub struct Ear<'a, L: Log + Wait> {
+    pub reception: Reception<'a, L>,
     pub post: &'a Post,
     /// How much of what the peer sent may wait.
     pub quota: &'a Quota,
@@ -38,27 +44,63 @@ pub struct Ear<'a, R: Wait> {
     pub link: u64,
     /// Whether a frame came.
     pub heard: bool,
+    /// Whether the peer said that it lets this site go.
+    pub refused: bool,
 }
 
-impl<R: Wait> Hear for Ear<'_, R> {
-    ghost use Rattle.std.specs.Prelude.{true, ◌≡◌};
+impl<L: Log + Wait> Hear for Ear<'_, L> {
+    ghost use Rattle.std.specs.Prelude.{◌≡◌};
+    ghost use Rattle.zq_site.specs.Standings.{has_heard, is_refused, sign_of, standing_after};
 
     ghost hears = { λ old frame new. (new.peer ≡ old.peer) × (new.link ≡ old.link)
-        × (new.heard ≡ true) };
+        × (new.reception.standing ≡ standing_after old.reception.standing (sign_of frame))
+        × (new.heard ≡ has_heard old.heard (sign_of frame))
+        × (new.refused ≡ is_refused old.refused (sign_of frame)) };
 
     fn hear(&mut self, frame: Vec<u8>) {
-        self.heard = true;
-        let length = frame.len() as u64;
-        self.quota.enter(self.rt, length);
-        let event = Event::Frame {
-            peer: self.peer,
-            link: self.link,
-            bytes: frame,
-        };
-        if self.post.leave(self.rt, event).is_err() {
-            // There was no memory: it is lost, and what the peer tells from time to time shows it.
-            self.quota.leave(self.rt, length);
+        let sign = sign_of(&frame);
+        self.reception.see(sign);
+        match sign {
+            Sign::Refusal(_) => self.refused = true,
+            Sign::Unopened(_) => {}
+            Sign::Frame => {
+                self.heard = true;
+                let log = self.reception.log;
+                leave_frame(log, self.post, self.quota, self.peer, self.link, frame);
+            }
         }
+    }
+}
+
+/// What is seen by a frame of a peer: that the peer lets this site go, or that it takes it.
+fn sign_of(frame: &[u8]) -> Sign
+    ensures { result ≡ sign_of frame.now }
+{
+    match read_notice(frame) {
+        Some(Notice::Unwelcome(reason)) => Sign::Refusal(reason),
+        Some(Notice::Refused | Notice::Kept) | None => Sign::Frame,
+    }
+}
+
+/// Leaves a frame at the site's post, once as much may wait of what the peer sent.
+fn leave_frame<R: Wait>(
+    rt: &R,
+    post: &Post,
+    quota: &Quota,
+    peer: SiteNo,
+    link: u64,
+    frame: Vec<u8>,
+) {
+    let length = frame.len() as u64;
+    quota.enter(rt, length);
+    let event = Event::Frame {
+        peer,
+        link,
+        bytes: frame,
+    };
+    if post.leave(rt, event).is_err() {
+        // There was no memory: it is lost, and what the peer tells from time to time shows it.
+        quota.leave(rt, length);
     }
 }
 

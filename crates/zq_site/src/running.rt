@@ -6,12 +6,12 @@ ghost use Rattle.zq_site.specs.Site.{acceptors_for};
 use crate::accepting::accept_peers;
 use crate::dialing::dial_line;
 use crate::draining::Draining;
+use crate::hired::hire_all;
 use crate::peer_links::is_dialled;
 use crate::peer_listener::PeerListener;
 use crate::pushing::Pushing;
 use crate::shared::Shared;
-use crate::times::beat;
-use crate::writing::write_link;
+use crate::times::{beat, fencing};
 use log::Log;
 use std::net::{Net, TcpListener, TcpStream};
 use std::random::RandomSource;
@@ -19,8 +19,12 @@ use std::sync::Wait;
 use std::thread;
 use std::thread::Threads;
 use std::time::Clock;
+use zq_loop::Port;
 use zq_posheap::Seeded;
-use zq_serve::{Inboxes, Linker, ServeFault, SiteThreads, run_clients};
+use zq_serve::{Cause, ClientThreads, Inboxes, Linker, ServeFault, SiteThreads, run_clients};
+
+/// How many threads accept peers at first.
+const FIRST_ACCEPTORS: usize = 1;
 
 /// How many operations that came early are parked.
 pub const MOST_PARKED: usize = 65_536;
@@ -32,10 +36,11 @@ pub struct Seeds {
     pub draws: u64,
 }
 
-/// Runs the threads of a site: its link thread, what takes what calls make into the logs, what tells
-/// of each second, what sends frames to each peer, what dials each peer of a smaller number, what
-/// accepts peers, and what serves clients. When all clients are served the site ends: the threads of its links are told to halt, and
-/// then the link thread to stop, and all are waited for.
+/// Runs the threads of a site: its link thread, what takes what calls make into the logs, what
+/// tells of each second, what dials each peer of a smaller number, what accepts peers, what starts
+/// more threads as links come, and what serves clients. When all clients are served the site ends:
+/// the threads of its links are told to halt, and then the link thread to stop, and all are waited
+/// for.
 ///
 /// `Device` where a thread did not start. Then no client is served.
 pub fn run_site<N, L>(
@@ -54,57 +59,58 @@ where
     let SiteThreads { clients, linkers } = threads;
     thread::scope(thread::scope_env(), log, move |scope| {
         let mut ended = Ok(());
+        let port = first_port(&clients);
         for linker in linkers {
-            let work = move || link_site(log, shared, linker, seeds.hasher);
+            let work = move || link_site(log, shared, linker, port, seeds.hasher);
             if scope.spawn(work).is_err() {
-                ended = Err(ServeFault::Device);
+                ended = Err(ServeFault::Device(Cause::Thread));
             }
         }
         for drainer in drainers {
             let work = move || drain_site(log, shared, drainer);
             if scope.spawn(work).is_err() {
-                ended = Err(ServeFault::Device);
+                ended = Err(ServeFault::Device(Cause::Thread));
             }
         }
         if ended.is_ok() && scope.spawn(move || beat_time(log, shared)).is_err() {
-            ended = Err(ServeFault::Device);
+            ended = Err(ServeFault::Device(Cause::Thread));
         }
-        for peer_link in shared.peer_links {
+        if ended.is_ok()
+            && scope
+                .spawn(move || hire_all(log, shared, listener))
+                .is_err()
+        {
+            ended = Err(ServeFault::Device(Cause::Thread));
+        }
+        for peer in shared.settings.peers.as_slice() {
             if ended.is_ok()
+                && is_dialled(shared.settings, peer)
                 && scope
-                    .spawn(move || write_link(log, shared, peer_link))
+                    .spawn(move || dial_line(net, log, shared, peer))
                     .is_err()
             {
-                ended = Err(ServeFault::Device);
+                ended = Err(ServeFault::Device(Cause::Thread));
             }
         }
-        for peer_link in shared.peer_links {
-            if ended.is_ok()
-                && is_dialled(shared.settings, &peer_link.peer())
-                && scope
-                    .spawn(move || dial_line(net, log, shared, peer_link))
-                    .is_err()
-            {
-                ended = Err(ServeFault::Device);
-            }
-        }
-        for _ in 0..acceptors(shared.dialers.len()) {
+        for _ in 0..FIRST_ACCEPTORS {
             if ended.is_ok() {
+                shared.hiring.join(log);
                 listener.enter();
                 if scope
                     .spawn(move || accept_peers(log, shared, listener))
                     .is_err()
                 {
                     listener.leave();
-                    ended = Err(ServeFault::Device);
+                    ended = Err(ServeFault::Device(Cause::Thread));
                 }
             }
         }
         if ended.is_ok() {
-            let inboxes = Inboxes::One(shared.mailbox);
+            let inboxes = Inboxes::One(shared.mailbox, shared.gate, shared.admission);
             ended = run_clients(log, shared.alloc, clients, inboxes, seeds.draws);
         }
         shared.halt_all(log);
+        shared.hiring.stop(log);
         listener.wake(net, log, shared.settings.listen);
         shared.mailbox.stop(log);
         shared.post.stop(log);
@@ -112,14 +118,36 @@ where
     })
 }
 
-/// Links a site to its peers, until it is to stop.
-fn link_site<L: Log + Wait>(log: &L, shared: Shared<'_>, linker: Linker<'_, '_>, hasher: Seeded) {
+/// The port of the first site.
+fn first_port<'b>(clients: &ClientThreads<'b, '_>) -> Option<&'b Port> {
+    if clients.acceptors.is_empty() {
+        return None;
+    }
+    Some(clients.acceptors[0].port())
+}
+
+/// Links a site to its peers, until it is to stop. Where another run used the site's number, its
+/// clients are told so for a moment, and then no client is served any more: their connections are
+/// closed with what they are owed.
+fn link_site<L: Log + Clock + Wait>(
+    log: &L,
+    shared: Shared<'_>,
+    linker: Linker<'_, '_>,
+    port: Option<&Port>,
+    hasher: Seeded,
+) {
     let pushing = Pushing {
         log,
         shared,
         hasher,
     };
     linker.lend(shared.alloc, MOST_PARKED, pushing);
+    if shared.admission.is_fenced()
+        && let Some(port) = port
+    {
+        let _ = thread::sleep(log, fencing());
+        port.cut();
+    }
 }
 
 /// Takes what calls make into the logs, until the site is to stop.
@@ -137,9 +165,9 @@ fn beat_time<L: Wait + Clock>(rt: &L, shared: Shared<'_>) {
     }
 }
 
-/// How many threads accept peers, of which so many dial: two for each, and at least one. So a peer
-/// comes in whose old link has not ended yet.
-fn acceptors(dialers: usize) -> usize
+/// How many threads accept peers at most, of which so many may dial: two for each, and at least
+/// one. So a peer comes in whose old link has not ended yet.
+pub fn acceptors(dialers: usize) -> usize
     ensures { result ≡ acceptors_for dialers }
 {
     dialers.saturating_mul(2).max(1)

@@ -8,15 +8,16 @@ ghost use Rattle.zq_model.specs.Limits.{standard};
 ghost use Rattle.zq_serve.specs.Plans.{IsManned};
 ghost use Rattle.zq_session.specs.LentSites.{IsLentBy};
 ghost use Rattle.zq_session.specs.declared.site_plan.SitePlan.{SitePlan as Plans};
-ghost use Rattle.zq_site.specs.Site.{IsPlanOf};
+ghost use Rattle.zq_site.specs.Site.{IsPlanOf, ended_by};
 
 use crate::announcing::announce;
 use crate::halt::Halt;
+use crate::hiring::Hiring;
 use crate::opening::draw_run;
-use crate::peer_links::{dialers_of, open_peer_links, peers_of};
+use crate::peer_links::{dialers_of, open_peer_links, others_of};
 use crate::peer_listener::PeerListener;
 use crate::post::Post;
-use crate::running::{Seeds, run_site};
+use crate::running::{Seeds, acceptors, run_site};
 use crate::shared::Shared;
 use log::Log;
 use std::alloc::{AllocError, Global};
@@ -31,8 +32,8 @@ use zq_peers::{Link, Mailbox};
 use zq_posheap::Seeded;
 use zq_replica::Logs;
 use zq_serve::{
-    Linker, ServeFault, SiteThreads, draw_hasher, limits_of, listen, most_clients, most_waiting,
-    open_port, plan_of, warn_few,
+    Admission, Gate, Linker, ServeFault, SiteThreads, draw_hasher, limits_of, listen, most_clients,
+    most_waiting, open_port, plan_of, warn_few,
 };
 use zq_session::{LentSite, close_sites, end_loan, lend_sites, open_sites};
 use zq_settings::{SiteSettings, WorkerCount};
@@ -40,8 +41,8 @@ use zq_settings::{SiteSettings, WorkerCount};
 // At most so many workers are taken where the settings do not say how many.
 const MOST_WORKERS: usize = 4;
 
-// Peers are served by the logs, so that a heap's tail keeps so many bytes of names at most beyond what
-// is not in them yet.
+// Peers are served by the logs, so that a heap's tail keeps so many bytes of names at most beyond
+// what is not in them yet.
 const MOST_TAIL: u64 = 1_048_576;
 
 /// Serves the site of the settings in this process: the connections of its port by `workers`
@@ -49,19 +50,27 @@ const MOST_TAIL: u64 = 1_048_576;
 /// `site N port P peers A` to `out`, and only then accepts. It ends when the port has accepted and
 /// served as many connections as `connections` says.
 ///
-/// It dials its peers of a smaller number, and those of a greater number dial it; after a break a
-/// peer is dialled again, after a pause that doubles from 100 milliseconds to 5 seconds, and is the
-/// first one again once a frame came over a link. A peer that is not expected, has another number
-/// of heaps or another rule, or does not know the secret, is let go. After each call of a
-/// connection the peers are told what the site has, and those that lack something are sent it. A
-/// link over which nothing came for 20 seconds is given up.
+/// It dials its peers of a smaller number, and sites of a greater number dial it: its peers, or
+/// where it accepts any all that agree. After a break a peer is dialled again, after a pause that
+/// doubles from 100 milliseconds to 5 seconds, and is the first one again once a frame came over a
+/// link. A peer that is not expected, has another number of heaps or another rule, or does not know
+/// the secret, is let go and told so, and so is another run of a number of which a link is up.
+///
+/// Commands that write are refused until each peer that it dials has said what it has of each heap,
+/// or until it has waited for as many seconds as `alone` says. Where a peer has more operations of
+/// this site's number than this run made, or has a link to another run of it, the site answers PING
+/// alone, sends nothing more, and ends within a second, whatever its clients are owed, or once the
+/// system has looked up the name of a peer. After each call of a connection the peers are told what
+/// the site has, and those that lack something are sent it. A link over which nothing came for 20
+/// seconds is given up.
 ///
 /// What goes wrong at a connection, with a peer or on a link ends that alone, and is warned of in
 /// the log. The log's own handle does not connect within a time, so the net is passed beside it.
 ///
 /// # Errors
 ///
-/// `Device` or `NoMemory`, before any connection was accepted.
+/// `Device`, with what failed, or `NoMemory`, before any connection was accepted. `Fenced` where another run used the
+/// site's number.
 pub fn serve_site<N, L, W>(
     net: &N,
     log: &L,
@@ -138,11 +147,11 @@ where
     requires { IsManned workers site.old }
 {
     let listener = PeerListener::new(listen(net, settings.listen)?);
-    let most = most_clients(1, workers, links_of(settings));
+    let others = others_of(alloc, settings)?;
+    let most = most_clients(1, workers, links_of(settings, others.len()));
     let limits = limits_of(settings.connections, &settings.limits, most);
     let address = clients_address(settings);
     let mut port = open_port(net, alloc, address, workers, limits)?;
-    let others = peers_of(alloc, settings)?;
     let link = Link { others, hasher };
     let mut threads = SiteThreads::new(alloc);
     let other = threads.add(site, &mut port, &link)?;
@@ -152,25 +161,31 @@ where
         drainers.push(drainer).map_err(AllocError::from)?;
     }
     let logs = open_logs(alloc, settings)?;
-    let peer_links = open_peer_links(alloc, settings)?;
-    let dialers = dialers_of(alloc, settings)?;
+    let heaps = settings.heaps.value() as u8;
+    let peer_links = open_peer_links(alloc, &link.others, heaps)?;
+    let dialers = dialers_of(alloc, settings.site, &link.others)?;
     let mailbox = open_mailbox(alloc, settings)?;
+    let gate = Gate::new();
     let post = Post::new(alloc);
-    let Ok(run) = draw_run(log) else {
-        return Err(ServeFault::Device);
-    };
+    let run = draw_run(log)?;
     announce(settings, out)?;
     let number = u64::from(settings.site.value());
     warn_few(log, number, settings.limits.clients, most);
     let halt = Halt::new();
+    let hiring = Hiring::new(alloc, acceptors(dialers.len()));
+    let waits = settings.alone.value() > 0 && !link.others.is_empty();
+    let admission = Admission::new(settings.site, waits);
     let shared = Shared {
         alloc,
         settings,
         run,
         peer_links: &peer_links,
         dialers: &dialers,
+        admission: &admission,
+        hiring: &hiring,
         mailbox: &mailbox,
         logs: &logs,
+        gate: &gate,
         post: &post,
         halt: &halt,
     };
@@ -178,14 +193,28 @@ where
         hasher,
         draws: settings.seed.value(),
     };
-    run_site(net, log, shared, &listener, threads, drainers, seeds)
+    let ended = run_site(net, log, shared, &listener, threads, drainers, seeds);
+    ended_by(admission.is_fenced(), ended)
 }
 
-/// How many connections the site's links take at most: one or an older one for each peer, another
-/// that is dialled or that comes, and the address where peers come.
-fn links_of(settings: &SiteSettings) -> u64 {
+/// How a site ends whose threads ended so, and whose number another run may have used.
+fn ended_by(is_fenced: bool, ended: Result<(), ServeFault>) -> Result<(), ServeFault>
+    ensures { result ≡ ended_by is_fenced ended }
+{
+    if is_fenced {
+        Err(ServeFault::Fenced)
+    } else {
+        ended
+    }
+}
+
+/// How many connections the site's links take at most, where so many sites may have one: one or an
+/// older one for each of these, for each peer of the settings another that is dialled or that comes
+/// and its older one, and the address where peers come.
+fn links_of(settings: &SiteSettings, others: usize) -> u64 {
     let peers = settings.peers.as_slice().len() as u64;
-    peers.saturating_mul(4).saturating_add(2)
+    let all = peers.saturating_add(others as u64);
+    all.saturating_mul(2).saturating_add(2)
 }
 
 /// So many workers as are given, and where none are as many as there are processors, 4 at most.

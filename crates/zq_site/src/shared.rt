@@ -1,6 +1,7 @@
 //! What the threads of a site's links share.
 
 use crate::halt::Halt;
+use crate::hiring::Hiring;
 use crate::peer_link::PeerLink;
 use crate::post::{Event, Post};
 use std::alloc::Global;
@@ -8,6 +9,7 @@ use std::sync::Wait;
 use zq_dots::SiteNo;
 use zq_peers::Mailbox;
 use zq_replica::Logs;
+use zq_serve::{Admission, Gate};
 use zq_settings::SiteSettings;
 use zq_wire::RUN;
 
@@ -19,12 +21,18 @@ pub struct Shared<'a> {
     /// What names this run of the site.
     pub run: [u8; RUN],
     pub peer_links: &'a [PeerLink],
-    /// The peers that dial this site.
+    /// The sites that may dial this one.
     pub dialers: &'a [SiteNo],
+    /// Which commands of clients are answered.
+    pub admission: &'a Admission,
+    /// Where threads are asked for as links come.
+    pub hiring: &'a Hiring,
     /// Where calls are told of.
     pub mailbox: &'a Mailbox,
     /// Where what calls made goes, for the peers.
     pub logs: &'a Logs,
+    /// Where calls wait while the logs lack too much of what was made.
+    pub gate: &'a Gate,
     /// Where the link thread is told what to do.
     pub post: &'a Post,
     pub halt: &'a Halt,

@@ -23,11 +23,12 @@ const HEARTBEAT: u64 = 6;
 // beats three times.
 const _: () = prove!(4 * TELLING <= SILENCE && 3 * HEARTBEAT <= SILENCE);
 
-/// How long a dialled peer may take to accept: 5 seconds.
+/// How long a dialled peer may take to accept: 800 milliseconds, since a site that ends waits for a
+/// dial that is under way.
 pub fn connecting() -> Duration
     ensures { as_nanos result ≡ wanted.connecting }
 {
-    Duration::from_secs(5)
+    Duration::from_millis(800)
 }
 
 /// How long a peer may take to open a link: 5 seconds.
@@ -35,6 +36,21 @@ pub fn opening() -> Duration
     ensures { as_nanos result ≡ wanted.opening }
 {
     Duration::from_secs(5)
+}
+
+/// For how long a read of an opening waits before it is looked whether the site ends: 100
+/// milliseconds.
+pub fn looking() -> Duration
+    ensures { as_nanos result ≡ wanted.looking }
+{
+    Duration::from_millis(100)
+}
+
+/// How long a peer that is let go may take to close its end: a second.
+pub fn parting() -> Duration
+    ensures { as_nanos result ≡ wanted.parting }
+{
+    Duration::from_secs(1)
 }
 
 /// After what time the link thread is told that a beat has gone by: a second.
@@ -70,6 +86,14 @@ pub fn not_accepted() -> Duration
     ensures { as_nanos result ≡ wanted.not_accepted }
 {
     Duration::from_millis(100)
+}
+
+/// How long clients are told that another run used the site's number before the site ends: 300
+/// milliseconds.
+pub fn fencing() -> Duration
+    ensures { as_nanos result ≡ wanted.fencing }
+{
+    Duration::from_millis(300)
 }
 
 /// The most bytes of a frame: a gibibyte. A state has some forty bytes and a member's text for each

@@ -41,7 +41,7 @@ fn write_queued<L: Log + Wait>(
     peer_link: &PeerLink,
     queued: &QueuedFrames,
 ) {
-    let (site, peer) = (shared.settings.site, peer_link.peer().site);
+    let (site, peer) = (shared.settings.site, peer_link.site);
     if queued.frames.iter().any(|frame| is_too_long(frame)) {
         warn_of(log, site, Warning::Keeps(peer));
     }

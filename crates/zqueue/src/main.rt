@@ -4,6 +4,7 @@
 mod asked;
 mod configured;
 mod drilling;
+mod logging;
 mod number;
 mod piping;
 mod refusal;
@@ -15,7 +16,7 @@ mod tests;
 use asked::{Command, asked};
 use drilling::drill_out;
 use piping::pipe;
-use refusal::{DEVICE, Refusal, finish, refuse};
+use refusal::{DEVICE, Refusal, conclude, refuse};
 use serving::{serve_file, serve_site_file};
 use std::alloc::AllocError;
 use std::io;
@@ -37,12 +38,12 @@ fn main(rt: HostRuntime) -> ExitCode {
     let code = match asked(&rt) {
         Ok(Some(Command::Pipe)) => pipe(rt.alloc(), &mut rt.reader(), &mut io::writer(&rt)),
         Ok(Some(Command::Serve(path))) => {
-            let ended = serve_file(&rt, rt.alloc(), path.as_str());
-            finish(ended, &mut io::writer(&rt))
+            let served = serve_file(rt, rt.alloc(), path.as_str());
+            conclude(served, &mut io::writer(&rt))
         }
         Ok(Some(Command::Site(path))) => {
-            let ended = serve_site_file(&rt, rt.alloc(), path.as_str());
-            finish(ended, &mut io::writer(&rt))
+            let served = serve_site_file(rt, rt.alloc(), path.as_str());
+            conclude(served, &mut io::writer(&rt))
         }
         Ok(Some(Command::Drill { seed, rounds })) => {
             drill_out(&rt, rt.alloc(), seed, rounds, &mut io::writer(&rt))

@@ -1,7 +1,7 @@
 //! How the program says that it did not do what it was asked.
 
 ghost use Rattle.std.specs.Prelude.{◌≡◌};
-ghost use Rattle.zqueue.specs.Refusal.{Finishes, Refuses, line_of, status_of};
+ghost use Rattle.zqueue.specs.Refusal.{Concludes, Finishes, Refuses, line_of, status_of};
 
 use std::io::Write;
 
@@ -10,6 +10,9 @@ const USAGE: u8 = 3;
 
 /// The status where a device or memory failed.
 pub const DEVICE: u8 = 4;
+
+/// The status where another run used the number of the site.
+const FENCED: u8 = 5;
 
 /// Why the program did not do what it was asked.
 #[derive(Clone, Copy, Debug, PartialEq, Eq)]
@@ -22,6 +25,8 @@ pub enum Refusal {
     Device,
     /// There was no memory.
     Memory,
+    /// Another run used the number of the site.
+    Fenced,
 }
 
 impl Refusal {
@@ -34,6 +39,7 @@ impl Refusal {
             Refusal::Settings => b"zqueue: settings\n",
             Refusal::Device => b"zqueue: device\n",
             Refusal::Memory => b"zqueue: memory\n",
+            Refusal::Fenced => b"zqueue: number\n",
         }
     }
 
@@ -44,6 +50,7 @@ impl Refusal {
         match self {
             Refusal::Usage | Refusal::Settings => USAGE,
             Refusal::Device | Refusal::Memory => DEVICE,
+            Refusal::Fenced => FENCED,
         }
     }
 }
@@ -56,6 +63,17 @@ pub fn refuse<W: Write>(refusal: Refusal, writer: &mut W) -> u8
     match writer.write_all(refusal.line()) {
         Ok(()) => refusal.status(),
         Err(_) => DEVICE,
+    }
+}
+
+/// The status of a program that served, or the refusal of one that could not begin, which is
+/// written.
+pub fn conclude<W: Write>(served: Result<u8, Refusal>, writer: &mut W) -> u8
+    ensures { Concludes (W.contents writer.old) (W.contents writer.new) served result }
+{
+    match served {
+        Ok(status) => status,
+        Err(refusal) => refuse(refusal, writer),
     }
 }
 

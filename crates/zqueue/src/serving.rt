@@ -1,26 +1,34 @@
 //! Serving the sites of a settings file.
 
+ghost use Rattle.log.specs.Handle.{max_level};
 ghost use Rattle.std.specs.Prelude.{◌≡◌};
 ghost use Rattle.zqueue.specs.Refusal.{ended_of};
 
 use crate::configured::{configured, site_configured};
+use crate::logging::{close_log, open_log};
 use crate::refusal::Refusal;
 use crate::settling::{read_file, settled};
-use log::sink::Locked;
 use log::{LevelFilter, Logged};
 use std::alloc::Global;
 use std::io;
+use std::io::{BufWriter, Printer};
 use std::net::{Net, TcpListener, TcpStream};
 use std::random::RandomSource;
 use std::rt::Files;
 use std::sync::Wait;
 use std::thread::Threads;
 use std::time::Clock;
+use zq_log::{LogQueue, QueueLog};
 use zq_server::{ServeFault, serve, serve_site};
 
-/// Serves the sites of the settings file of this name, and returns when all connections are done.
-/// Warnings go to standard output. Where the settings break a rule, standard error names the rule.
-pub fn serve_file<R>(rt: &R, alloc: Global, path: &str) -> Result<(), Refusal>
+/// The most verbose level that is written.
+const LEVEL: LevelFilter = LevelFilter::Info;
+
+/// Serves the sites of the settings file of this name, and returns when all connections are done:
+/// then with the status of the program, whose last line is written. Warnings go to standard output,
+/// by a thread of their own (`open_log`, `close_log`). Where the settings break a rule standard error
+/// names the file and the rule, and where something of the system failed it says what.
+pub fn serve_file<R>(rt: R, alloc: Global, path: &str) -> Result<u8, Refusal>
 where
     R: Files
         + Net<Listener = TcpListener, Stream = TcpStream>
@@ -31,18 +39,25 @@ where
         + Print
         + Eprint
         + Alloc<A = Global>
-        + Sync,
+        + Copy
+        + Send
+        + Sync
+        + 'static,
 {
-    let bytes = read_file(rt, path)?;
-    let settings = settled(rt, configured(alloc, &bytes))?;
-    let log = Logged::new(rt, LevelFilter::Warn, Locked::new(rt, io::writer(rt)));
-    ended(serve(&log, alloc, &settings, &mut io::writer(rt)))
+    let bytes = read_file(&rt, path)?;
+    let settings = settled(&rt, path, configured(alloc, &bytes))?;
+    let mut out = start_lines(&rt, alloc)?;
+    let queue = open_log(rt, alloc)?;
+    let log = log_of(&rt, alloc, &*queue, LEVEL);
+    let served = serve(&log, alloc, &settings, &mut out);
+    tell_cause(&rt, &served);
+    Ok(close_log(&rt, alloc, &*queue, ended(served)))
 }
 
 /// Serves the one site of the settings file of this name, linked to its peers, and returns when all
-/// connections of its clients are done. Warnings go to standard output. Where the settings break a
-/// rule, standard error names the rule.
-pub fn serve_site_file<R>(rt: &R, alloc: Global, path: &str) -> Result<(), Refusal>
+/// connections of its clients are done. Warnings and notes, and what it returns, are as those of
+/// `serve_file`.
+pub fn serve_site_file<R>(rt: R, alloc: Global, path: &str) -> Result<u8, Refusal>
 where
     R: Files
         + Net<Listener = TcpListener, Stream = TcpStream>
@@ -53,12 +68,47 @@ where
         + Print
         + Eprint
         + Alloc<A = Global>
-        + Sync,
+        + Copy
+        + Send
+        + Sync
+        + 'static,
 {
-    let bytes = read_file(rt, path)?;
-    let settings = settled(rt, site_configured(alloc, &bytes))?;
-    let log = Logged::new(rt, LevelFilter::Warn, Locked::new(rt, io::writer(rt)));
-    ended(serve_site(rt, &log, alloc, &settings, &mut io::writer(rt)))
+    let bytes = read_file(&rt, path)?;
+    let settings = settled(&rt, path, site_configured(alloc, &bytes))?;
+    let mut out = start_lines(&rt, alloc)?;
+    let queue = open_log(rt, alloc)?;
+    let log = log_of(&rt, alloc, &*queue, LEVEL);
+    let served = serve_site(&rt, &log, alloc, &settings, &mut out);
+    tell_cause(&rt, &served);
+    Ok(close_log(&rt, alloc, &*queue, ended(served)))
+}
+
+/// What start lines are written to, all at once where they are flushed, so that no line of the log
+/// comes between.
+fn start_lines<R: Print>(rt: &R, alloc: Global) -> Result<BufWriter<Printer<'_, R>>, Refusal> {
+    match BufWriter::new(alloc, io::writer(rt)) {
+        Ok(out) => Ok(out),
+        Err(_) => Err(Refusal::Memory),
+    }
+}
+
+/// What logs into this queue, up to this level.
+fn log_of<'a, R: Wait + Clock>(
+    rt: &'a R,
+    alloc: Global,
+    queue: &'a LogQueue,
+    level: LevelFilter,
+) -> Logged<&'a R, QueueLog<'a, R>>
+    ensures { max_level result ≡ level }
+{
+    Logged::new(rt, level, QueueLog::new(rt, alloc, queue))
+}
+
+/// Standard error says what failed of the system, where something did.
+fn tell_cause<R: Eprint>(rt: &R, served: &Result<(), ServeFault>) {
+    if let Err(ServeFault::Device(cause)) = served {
+        let _ = eprintln!(rt; "zqueue: {cause}");
+    }
 }
 
 /// How the program ends after it served.
@@ -67,7 +117,8 @@ fn ended(served: Result<(), ServeFault>) -> Result<(), Refusal>
 {
     match served {
         Ok(()) => Ok(()),
-        Err(ServeFault::Device) => Err(Refusal::Device),
+        Err(ServeFault::Device(_)) => Err(Refusal::Device),
         Err(ServeFault::NoMemory) => Err(Refusal::Memory),
+        Err(ServeFault::Fenced) => Err(Refusal::Fenced),
     }
 }

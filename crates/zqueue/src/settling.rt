@@ -13,13 +13,19 @@ use std::io::ErrorKind;
 use std::rt::Files;
 use zq_server::SettingsFault;
 
-/// The bytes of the file. A file that is not there or cannot be read is a device that failed.
-pub fn read_file<R: Files + Alloc<A = Global>>(rt: &R, path: &str) -> Result<Vec<u8>, Refusal>
+/// The bytes of the file. A file that is not there or cannot be read is a device that failed, and
+/// standard error says what the system said of it.
+pub fn read_file<R>(rt: &R, path: &str) -> Result<Vec<u8>, Refusal>
+where
+    R: Files + Eprint + Alloc<A = Global>,
     ensures { IfErr result IsUnread }
 {
     match fs::read(rt, path) {
         Ok(bytes) => Ok(bytes),
-        Err(error) => Err(unread(error.kind())),
+        Err(error) => {
+            let _ = eprintln!(rt; "zqueue: {path}: {error}");
+            Err(unread(error.kind()))
+        }
     }
 }
 
@@ -35,9 +41,13 @@ fn unread(kind: ErrorKind) -> Refusal
     }
 }
 
-/// The settings that were read; where there are none, the refusal. Standard error names the rule
-/// that they break.
-pub fn settled<S: Drop, R: Eprint>(rt: &R, read: Result<S, Unsettled>) -> Result<S, Refusal>
+/// The settings that were read of the file of this name; where there are none, the refusal. Standard
+/// error names the file, and the rule that it breaks.
+pub fn settled<S: Drop, R: Eprint>(
+    rt: &R,
+    path: &str,
+    read: Result<S, Unsettled>,
+) -> Result<S, Refusal>
     ensures given { IfOk result (λ settings. read ≡ Ok settings) }
     ensures refused { IfErr result (λ refusal. (why : Unsettled) × (read ≡ Err why)
         × (refusal ≡ refusal_of why)) }
@@ -46,7 +56,7 @@ pub fn settled<S: Drop, R: Eprint>(rt: &R, read: Result<S, Unsettled>) -> Result
         Ok(settings) => Ok(settings),
         Err(Unsettled::Fault(SettingsFault::NoMemory)) => Err(Refusal::Memory),
         Err(why) => {
-            let _ = rt.eprintln(why);
+            let _ = eprintln!(rt; "zqueue: {path}: {why}");
             Err(Refusal::Settings)
         }
     }

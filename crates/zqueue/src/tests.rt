@@ -4,7 +4,7 @@ use crate::asked::{Command, asked};
 use crate::configured::{Unsettled, configured, site_configured};
 use crate::drilling::drill_out;
 use crate::piping::pipe;
-use crate::refusal::{Refusal, finish, refuse};
+use crate::refusal::{Refusal, conclude, finish, refuse};
 use crate::serving::{serve_file, serve_site_file};
 use std::env::{Env, FillError};
 use std::test::Fail;
@@ -139,16 +139,17 @@ fn a_file_that_is_no_settings_is_refused_with_its_status(rt: HostRuntime) {
         ("/dev/null", b"zqueue: settings\n", 3),
     ];
     for (path, line, status) in rows {
-        let sites = serve_file(&rt, rt.alloc(), path);
-        let site = serve_site_file(&rt, rt.alloc(), path);
-        for ended in [sites, site] {
+        let sites = serve_file(rt, rt.alloc(), path);
+        let site = serve_site_file(rt, rt.alloc(), path);
+        for served in [sites, site] {
             let mut written = Vec::new(rt.alloc());
-            assert_eq!(rt; finish(ended, &mut written), status);
+            assert_eq!(rt; conclude(served, &mut written), status);
             assert_eq!(rt; written.as_slice(), line);
         }
     }
     let mut written = Vec::new(rt.alloc());
     assert_eq!(rt; finish(Ok(()), &mut written), 0);
+    assert_eq!(rt; conclude(Ok(5), &mut written), 5);
     assert!(rt; written.is_empty());
 }
 

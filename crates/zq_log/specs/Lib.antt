@@ -1,0 +1,7 @@
+pub mod Stamp
+pub mod Lines
+pub mod Limits
+pub mod LimitLaws
+pub mod Kinds
+pub mod Backlogs
+pub mod Intakes

@@ -1,0 +1,5 @@
+//! Lines, limits and queues.
+
+mod ends;
+mod limits;
+mod lines;

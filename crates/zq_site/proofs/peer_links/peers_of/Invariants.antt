@@ -1,6 +1,0 @@
-use Rattle.std.proofs.Common.{take, ◌≡◌}
-use Rattle.zq_site.proofs.peer_links.peers_of.Given as goal
-use Rattle.zq_settings.specs.Peers.{sites_of}
-
-abbrev pub invariant-loop-peer : goal.invariant-loop-peer
-invariant-loop-peer l = l.sites.items ≡ sites_of (take l.peer-index l.peer-items)
