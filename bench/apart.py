@@ -152,7 +152,7 @@ class Apart:
             self.wait(folder, site)
 
     def settings(self, site, listens):
-        text = (f'site = {site}\nport = {self.ports[site]}\nlisten = "127.0.0.1:{listens[site]}"\nheaps = {HEAPS}\nworkers = 8\n'
+        text = (f'site = {site}\nport = {self.ports[site]}\nlisten = "127.0.0.1:{listens[site]}"\nheaps = {HEAPS}\nworkers = 8\nalone = 0\n'
                 'secret = "only for this run"\n')
         for peer in range(SITES):
             if peer != site:

@@ -46,7 +46,7 @@ class Site:
     def __init__(self, program, folder):
         self.port, listen = served.free_ports(2)
         settings, written = pathlib.Path(folder) / "settings.toml", pathlib.Path(folder) / "written"
-        settings.write_text(f'site = 0\nport = {self.port}\nlisten = "127.0.0.1:{listen}"\nworkers = {WORKERS}\nclients = {2 * IDLE}\n')
+        settings.write_text(f'site = 0\nport = {self.port}\nlisten = "127.0.0.1:{listen}"\nworkers = {WORKERS}\nclients = {2 * IDLE}\nalone = 0\n')
         with open(written, "wb") as out:
             self.server = subprocess.Popen(served.guarded([program, "site", settings]), stdin=subprocess.DEVNULL, stdout=out,
                                            stderr=subprocess.STDOUT, env=served.ENVIRONMENT)

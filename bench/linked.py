@@ -299,7 +299,7 @@ class Sites(Group):
 
     def settings(self, site):
         text = (f'site = {site}\nport = {self.ports[site]}\nlisten = "127.0.0.1:{self.listens[site]}"\nheaps = {HEAPS}\n'
-                f"workers = {WORKERS}\nseed = {site + 1}\n")
+                f"workers = {WORKERS}\nseed = {site + 1}\nalone = 0\n")
         if self.secret:
             text += f'secret = "{self.secret}"\n'
         for peer in range(self.count):

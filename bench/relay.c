@@ -107,6 +107,8 @@ static void end_head(struct reader *it, struct counters *counters) {
     counters->frames[kind]++;
     counters->frame_bytes[kind] += 4 + (uint64_t)it->length;
     if (kind == 2 && it->held == 5) counters->operations += number_at(it->head + 1);
+    // (at most 4,096: a number of two bytes, of seven bits each, the lowest first)
+    if (kind == 11 && it->held == 5) counters->operations += (it->head[3] & 127) + (it->head[3] & 128 ? (it->head[4] & 127) << 7 : 0);
     it->skip = it->length - it->held;
     want(it, LENGTH, 4);
 }

@@ -18,25 +18,42 @@ patience = 10.0
 
 
 class Server:
-    """A server of one site with these settings. It ends with the `with` that it is used in."""
+    """A server of one site with these settings. It ends with the `with` that it is used in. One that is not heard has a pipe for
+    standard output, which is full from the line on that says it serves."""
 
-    def __init__(self, program, kind, **values):
-        self.program, self.kind, self.values = program, kind, values
+    def __init__(self, program, kind, is_heard=True, **values):
+        self.program, self.kind, self.is_heard, self.values = program, kind, is_heard, values
         self.held = contextlib.ExitStack()
 
     def start(self, folder):
         """Starts it, and says whether it serves."""
         self.port, listen = served.free_ports(2)
-        place = {"ports": [self.port]} if self.kind == "serve" else {"site": 0, "port": self.port, "listen": f'"127.0.0.1:{listen}"'}
+        place = {"ports": [self.port]} if self.kind == "serve" else {"site": 0, "port": self.port, "listen": f'"127.0.0.1:{listen}"', "alone": 0}
         settings, self.written = folder / "settings.toml", folder / "written"
         settings.write_text("".join(f"{key} = {value}\n" for key, value in {**place, **self.values}.items()))
-        with open(self.written, "wb") as out:
+        with open(self.written, "wb") if self.is_heard else self.pipe() as out:
             self.process = subprocess.Popen(served.guarded([*self.program, self.kind, settings]), stdin=subprocess.DEVNULL, stdout=out,
                                             stderr=subprocess.STDOUT, env=served.ENVIRONMENT)
-        self.held.callback(self.process.wait)
-        self.held.callback(self.process.kill)
-        holds(lambda: self.process.poll() is not None or self.has_told(f"site 0 port {self.port}", seconds=0.001), served.OPENING)
+            self.held.callback(self.process.wait)
+            self.held.callback(self.process.kill)
+            holds(lambda: self.process.poll() is not None or self.has_begun(), served.OPENING)
+            if not self.is_heard:
+                fill(out)
         return self.process.poll() is None
+
+    def pipe(self):
+        """The end of a new pipe that the server writes to. The other end is kept."""
+        end, out = os.pipe()
+        self.held.callback(os.close, end)
+        os.set_blocking(end, False)
+        self.end = end
+        return open(out, "wb", buffering=0)
+
+    def has_begun(self):
+        if not self.is_heard:
+            with contextlib.suppress(BlockingIOError), open(self.written, "ab") as file:
+                file.write(os.read(self.end, 1 << 12))
+        return self.has_told(f"site 0 port {self.port}", seconds=0.001)
 
     def __enter__(self):
         folder = pathlib.Path(self.held.enter_context(tempfile.TemporaryDirectory(prefix="zqueue-connections-")))
@@ -50,7 +67,7 @@ class Server:
         self.held.close()
 
     def has_told(self, line, times=1, seconds=None):
-        return holds(lambda: self.written.read_text().count(line) >= times, seconds)
+        return holds(lambda: self.written.exists() and self.written.read_text().count(line) >= times, seconds)
 
     def status(self):
         """The status with which it ends, or `None` where it does not end in time."""
@@ -89,6 +106,15 @@ class Server:
             if took(link, 7) != b":1000\r\n":
                 raise RuntimeError("the key is not filled")
         link.close()
+
+
+def fill(pipe):
+    """Fills a pipe, by a descriptor of its own, since whoever else writes to it is to wait."""
+    own = os.open(f"/proc/self/fd/{pipe.fileno()}", os.O_WRONLY | os.O_NONBLOCK)
+    with contextlib.suppress(BlockingIOError):
+        while os.write(own, b"-"):
+            pass
+    os.close(own)
 
 
 def holds(what, seconds=None):

@@ -4,9 +4,12 @@ keeps the settings that limit clients, but does one thing wrong, which the first
 Usage: python3 bench/stand_loop.py FAULT serve|site FILE
 """
 import contextlib
+import os
+import queue
 import select
 import socket
 import sys
+import threading
 import time
 import tomllib
 
@@ -33,6 +36,7 @@ FAULTS = {
     "leaking": "what a connection took is not given back",
     "endless": "it does not end after its last connection",
     "failing": "it ends with status 1",
+    "waiting": "nobody is served while standard output takes nothing",
 }
 FULL = b"-ERR max number of clients reached\r\n"
 MOST_OWED = 65536
@@ -67,6 +71,9 @@ class Server:
         self.poll = select.epoll()
         self.listener = socket.create_server(("127.0.0.1", settings["port"]), backlog=1024)
         self.listener.setblocking(False)
+        # The lines that are told, which a thread of its own writes.
+        self.lines = queue.SimpleQueue()
+        threading.Thread(target=self.write_lines, daemon=True).start()
         # When it accepts again where it pauses, and whether a connection broke the protocol.
         self.resume_at, self.is_broken = 0.0, False
 
@@ -83,6 +90,16 @@ class Server:
                     self.serve(self.clients[place], events)
             self.sweep(time.monotonic())
         return self.fault == "failing"
+
+    def write_lines(self):
+        while True:
+            os.write(1, self.lines.get())
+
+    def tell(self, line):
+        if self.fault == "waiting":
+            os.write(1, f"{line}\n".encode())
+        elif self.fault != "quiet" or line == "site 0 protocol fault":
+            self.lines.put(f"{line}\n".encode())
 
     def pause(self, seconds):
         self.poll.unregister(self.listener)
@@ -147,7 +164,7 @@ class Server:
             client.heard = client.heard[end:]
 
     def refuse(self, client):
-        print("site 0 protocol fault", flush=True)
+        self.tell("site 0 protocol fault")
         client.is_closing = client.is_last = True
         client.owed = b"" if self.fault == "mute" else client.owed + plain_model.CLOSING
         self.is_broken = True
@@ -175,8 +192,8 @@ class Server:
             self.kept.append(client.link)
         else:
             client.link.close()
-        if told and self.fault != "quiet":
-            print(told, flush=True)
+        if told:
+            self.tell(told)
 
     def sweep(self, now):
         for client in list(self.clients.values()) if self.is_broken and self.fault == "collective" else []:

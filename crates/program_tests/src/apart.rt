@@ -4,13 +4,15 @@ mod clients;
 mod guests;
 mod herald;
 mod places;
+mod recorded;
 
 use clients::{Step, serve_all};
 use guests::{Guests, greeting, is_logged, logged_with, read_out};
 use herald::Herald;
 use log::sink::Locked;
 use log::{LevelFilter, Logged};
-use places::{Place, free_places, settings_at, settings_of};
+use places::{Place, free_places, settings_at, settings_of, settings_with};
+use recorded::{version_1, version_2};
 use std::alloc::Global;
 use std::net::{Net, TcpListener, TcpStream};
 use std::random::RandomSource;
@@ -115,11 +117,14 @@ fn who_is_not_welcome_is_let_go(rt: HostRuntime) -> Result<(), Fail> {
         &greeting(0, 2, 0),
     ];
     let words = [
-        "site 1 refuses a peer: it does not greet as a site does",
-        "site 1 refuses a peer: it has another rule",
-        "site 1 refuses a peer: it has 3 heaps",
-        "site 1 refuses a peer: site 3 is not expected",
-        "site 1 refuses a peer: site 0 is not expected",
+        "site 1 refuses a peer at 127.0.0.1:",
+        ": it does not greet as a site does",
+        "site 1 refuses site 2 at 127.0.0.1:",
+        ": it has another rule",
+        ": it has 3 heaps",
+        "site 1 refuses site 3 at 127.0.0.1:",
+        ": site 3 is not expected",
+        ": site 0 is not expected",
     ];
     let places = free_places(&rt, rt.alloc(), rt.process(), 3)?;
     assert!(rt; lets_go(&rt, rt.alloc(), &places, None, &strangers, &words)?);
@@ -130,8 +135,9 @@ fn who_is_not_welcome_is_let_go(rt: HostRuntime) -> Result<(), Fail> {
 fn who_does_not_know_the_secret_is_let_go(rt: HostRuntime) -> Result<(), Fail> {
     let strangers: [&[u8]; 2] = [&greeting(2, 2, 0), GUESSED];
     let words = [
-        "site 1 refuses a peer: it has no secret, and this site wants one",
-        "site 1 refuses a peer: it does not know the secret",
+        "site 1 refuses site 2 at 127.0.0.1:",
+        ": it has no secret, and this site wants one",
+        ": it does not know the secret",
     ];
     let secret = Some("a secret of sites");
     let places = free_places(&rt, rt.alloc(), rt.process(), 3)?;
@@ -204,7 +210,7 @@ fn each_byte_of_a_nonce_is_drawn(rt: HostRuntime) -> Result<(), Fail> {
     let settings = settings_of(alloc, *own, &places, Some("a secret of sites"))?;
     let guests = Guests::Curious(own.door());
     let log = logged_with(&rt, alloc, &settings, &guests, own.clients)?;
-    let words = ["site 0 refuses a peer: it has no secret, and this site wants one"];
+    let words = [": it has no secret, and this site wants one"];
     assert!(rt; is_logged(&log, &words)?);
     Ok(())
 }
@@ -220,6 +226,81 @@ fn no_loss_is_warned_of_where_a_newer_link_or_the_end_came(rt: HostRuntime) -> R
     let guests = Guests::Twice(own.door());
     let log = logged_with(&rt, alloc, &settings, &guests, own.clients)?;
     assert_eq!(rt; log.as_slice(), b"".as_slice());
+    Ok(())
+}
+
+// The sites that play have the numbers 0 and 2, which nobody had as it was recorded.
+#[test]
+fn a_conversation_of_version_1_is_understood(rt: HostRuntime) -> Result<(), Fail> {
+    let alloc = rt.alloc();
+    let places = free_places(&rt, alloc, rt.process(), 3)?;
+    let [lesser, peer, greater] = places.as_slice() else {
+        return Err("three places".into());
+    };
+    let settings = settings_with(alloc, *lesser, &[*lesser], None, "alone = 0\n")?;
+    let guests = Guests::Dials(lesser.door(), &version_1::DIALLED);
+    let log = logged_with(&rt, alloc, &settings, &guests, lesser.clients)?;
+    assert!(rt; !is_logged(&log, &["drops"])?);
+    let settings = settings_with(alloc, *greater, &[*peer, *greater], None, "alone = 0\n")?;
+    let listener = TcpListener::bind(&rt, peer.door())?;
+    let guests = Guests::Old(&listener, &version_1::ACCEPTED, b"$4\r\n5000\r\n");
+    let log = logged_with(&rt, alloc, &settings, &guests, greater.clients)?;
+    assert!(rt; !is_logged(&log, &["drops"])?);
+    Ok(())
+}
+
+#[test]
+fn a_conversation_of_version_2_is_understood(rt: HostRuntime) -> Result<(), Fail> {
+    let alloc = rt.alloc();
+    let places = free_places(&rt, alloc, rt.process(), 3)?;
+    let [lesser, peer, greater] = places.as_slice() else {
+        return Err("three places".into());
+    };
+    let settings = settings_with(alloc, *lesser, &[*lesser], None, "alone = 0\n")?;
+    let guests = Guests::Dials(lesser.door(), &version_2::DIALLED);
+    let log = logged_with(&rt, alloc, &settings, &guests, lesser.clients)?;
+    assert!(rt; !is_logged(&log, &["drops"])?);
+    let settings = settings_with(alloc, *greater, &[*peer, *greater], None, "alone = 0\n")?;
+    let listener = TcpListener::bind(&rt, peer.door())?;
+    let guests = Guests::Accepts(&listener, &version_2::ACCEPTED, b"$5\r\n60000\r\n");
+    let log = logged_with(&rt, alloc, &settings, &guests, greater.clients)?;
+    assert!(rt; !is_logged(&log, &["drops"])?);
+    Ok(())
+}
+
+#[test]
+fn another_run_of_a_number_is_let_go_and_told_so(rt: HostRuntime) -> Result<(), Fail> {
+    let alloc = rt.alloc();
+    let places = free_places(&rt, alloc, rt.process(), 2)?;
+    let [own, _] = places.as_slice() else {
+        return Err("two places".into());
+    };
+    let settings = settings_with(alloc, *own, &[*own], None, "alone = 0\n")?;
+    let guests = Guests::Runs(own.door());
+    let log = logged_with(&rt, alloc, &settings, &guests, own.clients)?;
+    let words = [
+        "site 0 refuses site 1 at 127.0.0.1:",
+        ": another run of that number is linked",
+    ];
+    assert!(rt; is_logged(&log, &words)?);
+    Ok(())
+}
+
+#[test]
+fn no_write_is_taken_before_peers_are_heard(rt: HostRuntime) -> Result<(), Fail> {
+    let alloc = rt.alloc();
+    let places = free_places(&rt, alloc, rt.process(), 1)?;
+    let [own] = places.as_slice() else {
+        return Err("a place".into());
+    };
+    let mut settings = Vec::new(alloc);
+    settings.push(settings_with(alloc, *own, &places, None, "alone = 1000\n")?)?;
+    let log = Logged::new(&rt, LevelFilter::Warn, Locked::new(&rt, Vec::new(alloc)));
+    let steps = [
+        Step::Ask(0, ADD_A, b"-LOADING site 0 waits for its peers\r\n"),
+        Step::Ask(0, CARD, b":0\r\n"),
+    ];
+    assert!(rt; serve_all(&rt, &log, alloc, &places, &settings, &steps)?);
     Ok(())
 }
 

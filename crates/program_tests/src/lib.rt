@@ -6,6 +6,8 @@ mod apart;
 #[cfg(test)]
 mod drill;
 #[cfg(test)]
+mod gate;
+#[cfg(test)]
 mod patience;
 #[cfg(test)]
 mod ports;

@@ -10,14 +10,14 @@ use crate::ports::two_ports;
 use log::sink::Locked;
 use log::{LevelFilter, Logged};
 use std::alloc::Global;
-use std::io::{Read, Write};
+use std::io::{ErrorKind, Read, Write};
 use std::net::{Net, TcpListener, TcpStream};
 use std::sync::Wait;
 use std::test::Fail;
 use std::thread::Threads;
 use std::time::Clock;
 use std::{str, thread};
-use zq_serve::{ServeFault, serve};
+use zq_serve::{Cause, ServeFault, serve};
 use zq_settings::{Settings, settings};
 
 /// Settings of sites of two heaps on these ports, each of which accepts one connection, and wants no
@@ -224,12 +224,13 @@ fn what_is_no_request_is_warned_of(rt: HostRuntime) -> Result<(), Fail> {
 fn a_port_that_is_taken_is_a_device_fault(rt: HostRuntime) -> Result<(), Fail> {
     let alloc = rt.alloc();
     let taken = TcpListener::bind(&rt, "127.0.0.1:0")?;
-    let settings = settings_of(alloc, &[taken.local_addr()?.port()])?;
+    let address = taken.local_addr()?;
+    let settings = settings_of(alloc, &[address.port()])?;
     let log = Logged::new(&rt, LevelFilter::Warn, Locked::new(&rt, Vec::new(alloc)));
     let mut written = Vec::new(alloc);
     assert_eq!(rt;
         serve(&log, alloc, &settings, &mut written),
-        Err(ServeFault::Device)
+        Err(ServeFault::Device(Cause::Address(address, ErrorKind::AddrInUse)))
     );
     assert!(rt; written.is_empty());
     Ok(())

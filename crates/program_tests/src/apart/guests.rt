@@ -2,6 +2,7 @@
 
 use super::clients::is_answered;
 use super::places::connect;
+use super::recorded::{accept_as_recorded, dial_as_recorded, let_newer_go};
 use log::sink::Locked;
 use log::{LevelFilter, Logged};
 use std::alloc::Global;
@@ -56,6 +57,14 @@ pub enum Guests<'a> {
     Twice(SocketAddr),
     /// Such a peer, which says nothing after its greeting.
     Silent(SocketAddr),
+    /// Two runs of such a peer, which dial in here at once.
+    Runs(SocketAddr),
+    /// A site that dials in here, and says this as it was recorded.
+    Dials(SocketAddr, &'a [&'a [u8]]),
+    /// A site that listens here, says this, and gives this score of `a`.
+    Accepts(&'a TcpListener, &'a [&'a [u8]], &'a [u8]),
+    /// Such a site, which does not know the newer form of a greeting.
+    Old(&'a TcpListener, &'a [&'a [u8]], &'a [u8]),
 }
 
 /// Dials in with these bytes, and waits until the site lets go: what the site said.
@@ -147,6 +156,33 @@ pub fn link_twice<N: Net<Listener = TcpListener, Stream = TcpStream>, R: Clock>(
     drop(client);
     let _ = read_out(alloc, &second);
     Ok(())
+}
+
+/// The greeting of site 1 that names its run by 16 such bytes.
+fn run_greeting(name: u8) -> [u8; 55] {
+    let mut bytes = range_greeting(1, 0, 2);
+    for place in 14..30usize {
+        bytes[place] = name;
+    }
+    bytes
+}
+
+/// Dials in as one run, which gets the length of a frame, and then as another one: that one is told
+/// so by a frame of nine bytes and let go.
+pub fn come_as_two<N: Net<Listener = TcpListener, Stream = TcpStream>, R: Clock>(
+    net: &N,
+    rt: &R,
+    alloc: Global,
+    door: SocketAddr,
+) -> Result<(), Fail> {
+    let mut first = connect(net, rt, door.port())?;
+    first.write_all(run_greeting(7).as_slice())?;
+    first.read_exact(&mut [0u8; 59])?;
+    let heard = dial_in(net, rt, alloc, run_greeting(8).as_slice(), door)?;
+    if heard.get(55..) == Some(b"\x00\x00\x00\x09zq-note\n\x01".as_slice()) {
+        return Ok(());
+    }
+    Err("the other run is not told".into())
 }
 
 /// Dials in and says nothing after its greeting. The site gives it up after 20 seconds, and not
@@ -271,6 +307,17 @@ pub fn entertain<N: Net<Listener = TcpListener, Stream = TcpStream>, R: Clock>(
         Guests::Curious(door) => look_at_nonces(net, rt, alloc, *door)?,
         Guests::Twice(door) => return link_twice(net, rt, alloc, *door, clients),
         Guests::Silent(door) => stay_silent(net, rt, alloc, *door)?,
+        Guests::Runs(door) => come_as_two(net, rt, alloc, *door)?,
+        Guests::Dials(door, said) => {
+            return dial_as_recorded(net, rt, alloc, *door, clients, said);
+        }
+        Guests::Accepts(listener, said, score) => {
+            return accept_as_recorded(net, rt, alloc, listener, clients, said, score);
+        }
+        Guests::Old(listener, said, score) => {
+            let_newer_go(listener, said)?;
+            return accept_as_recorded(net, rt, alloc, listener, clients, said, score);
+        }
     }
     drop(connect(net, rt, clients)?);
     Ok(())

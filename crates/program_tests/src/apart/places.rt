@@ -58,18 +58,30 @@ pub fn settings_at(alloc: Global, own: Place, bind: &str) -> Result<SiteSettings
         peers,
     } = own;
     let text = format!(in alloc;
-        "site = {site}\nport = {clients}\nbind = \"{bind}\"\nlisten = \"127.0.0.1:{peers}\"\nconnections = 1\n"
+        "site = {site}\nport = {clients}\nbind = \"{bind}\"\nlisten = \"127.0.0.1:{peers}\"\nconnections = 1\nalone = 0\n"
     )?;
     Ok(site_settings(alloc, text.as_str())?)
 }
 
 /// The settings of one of the sites, of two heaps, which accepts one connection. The other places
-/// are its peers.
+/// are its peers, and no others are accepted. It waits for nobody.
 pub fn settings_of(
     alloc: Global,
     own: Place,
     places: &[Place],
     secret: Option<&str>,
+) -> Result<SiteSettings, Fail> {
+    let more = "alone = 0\naccept = \"listed\"\n";
+    settings_with(alloc, own, places, secret, more)
+}
+
+/// The same with these lines in place of whom it accepts and waits for.
+pub fn settings_with(
+    alloc: Global,
+    own: Place,
+    places: &[Place],
+    secret: Option<&str>,
+    more: &str,
 ) -> Result<SiteSettings, Fail> {
     let Place {
         site,
@@ -80,6 +92,7 @@ pub fn settings_of(
         "site = {site}\nport = {clients}\nlisten = \"127.0.0.1:{peers}\"\n"
     )?;
     text.push_str("heaps = 2\nworkers = 1\nconnections = 1\n")?;
+    text.push_str(more)?;
     if let Some(secret) = secret {
         text.push_str(format!(in alloc; "secret = \"{secret}\"\n")?.as_str())?;
     }

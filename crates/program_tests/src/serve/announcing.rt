@@ -12,7 +12,7 @@ use std::sync::Wait;
 use std::test::Fail;
 use std::thread::Threads;
 use std::time::Clock;
-use zq_serve::{ServeFault, serve};
+use zq_serve::{Cause, ServeFault, serve};
 use zq_settings::settings;
 
 /// Connects to a port whenever it is to write, and fails as it writes or as it is flushed.
@@ -74,7 +74,7 @@ fn a_site_that_is_not_announced_is_not_served(rt: HostRuntime) -> Result<(), Fai
     for writes in [false, true] {
         let [port, ..] = free_ports(&rt, rt.process())?;
         let (ended, heard) = served_to(&rt, rt.alloc(), port, writes)?;
-        assert!(rt; ended == Err(ServeFault::Device), "{writes}");
+        assert!(rt; ended == Err(ServeFault::Device(Cause::Output)), "{writes}");
         assert!(rt; heard, "{writes}");
     }
     Ok(())

@@ -14,7 +14,7 @@ use std::test::Fail;
 use std::thread::Threads;
 use std::time::Clock;
 use std::{io, thread};
-use zq_serve::{ServeFault, draw_hasher, serve};
+use zq_serve::{Cause, ServeFault, draw_hasher, serve};
 use zq_settings::{Settings, SiteSettings, settings, site_settings};
 use zq_site::serve_site;
 
@@ -31,7 +31,7 @@ fn apart_settings_of(alloc: Global, ports: [u16; 2], seed: u64) -> Result<SiteSe
     let [port, peers] = ports;
     let head = format!(in alloc; "site = 0\nport = {port}\nlisten = \"127.0.0.1:{peers}\"\n")?;
     let text = format!(in alloc;
-        "{head}heaps = 16\nworkers = 1\nconnections = 1\nseed = {seed}\n"
+        "{head}heaps = 16\nworkers = 1\nconnections = 1\nalone = 0\nseed = {seed}\n"
     )?;
     Ok(site_settings(alloc, text.as_str())?)
 }
@@ -169,6 +169,11 @@ fn hashed(given: Given) -> Result<u64, ServeFault> {
     Ok(draw_hasher(&given)?.build_hasher().finish())
 }
 
+/// What it is that the system gives no random bytes.
+fn no_random_bytes() -> ServeFault {
+    ServeFault::Device(Cause::Random(ErrorKind::Other))
+}
+
 #[test]
 fn the_hasher_goes_by_each_byte_that_the_system_gives(rt: HostRuntime) {
     let nothing = hashed(Given(Some([0; 8])));
@@ -178,5 +183,5 @@ fn the_hasher_goes_by_each_byte_that_the_system_gives(rt: HostRuntime) {
         bytes[place] = 1;
         assert!(rt; hashed(Given(Some(bytes))) != nothing, "{place}");
     }
-    assert!(rt; hashed(Given(None)) == Err(ServeFault::Device));
+    assert!(rt; hashed(Given(None)) == Err(no_random_bytes()));
 }
