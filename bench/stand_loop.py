@@ -69,6 +69,8 @@ class Server:
         self.limits = {"clients": 10000, "timeout": 0, "write_timeout": 60, "output": 1 << 28, "connections": 0, **settings}
         self.left = self.limits["connections"] or -1
         self.poll = select.epoll()
+        # What is looked for on each connection, however much it is owed: where its client writes no more it is closed.
+        self.always = select.EPOLLRDHUP if fault == "hasty" else 0
         self.listener = socket.create_server(("127.0.0.1", settings["port"]), backlog=1024)
         self.listener.setblocking(False)
         # The lines that are told, which a thread of its own writes.
@@ -123,17 +125,19 @@ class Server:
             return
         link.setblocking(False)
         self.clients[link.fileno()] = Client(link)
-        self.poll.register(link, select.EPOLLIN)
+        self.poll.register(link, select.EPOLLIN | self.always)
 
     def serve(self, client, events):
-        if events & ~select.EPOLLOUT:
+        if events & self.always:
+            client.owed, client.is_closing = b"", True
+        elif events & ~select.EPOLLOUT:
             self.read(client)
         self.answer(client)
         self.write(client)
         if client.is_over():
             self.close(client)
         if client.link.fileno() in self.clients:
-            self.poll.modify(client.link, client.events())
+            self.poll.modify(client.link, client.events() | self.always)
 
     def read(self, client):
         if client.is_last or not client.has_part:
@@ -146,8 +150,6 @@ class Server:
         client.is_last = not piece
         client.heard_at = time.monotonic()
         client.heard = piece if self.fault == "forgetting" and client.has_part else client.heard + piece
-        if self.fault == "hasty" and client.is_last:
-            client.owed, client.is_closing = b"", True
 
     def answer(self, client):
         client.has_part = client.is_closing
