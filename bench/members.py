@@ -30,7 +30,7 @@ def holds(what, seconds=PATIENCE):
 class Member:
     """A site of this number, which begins with nothing: `run` counts its starts."""
 
-    def __init__(self, group, program, number, peers, run, port, listen, values):
+    def __init__(self, group, words, number, peers, run, port, listen, values):
         self.number, self.port, self.listen, self.status = number, port, listen, None
         folder = group.folder
         settings, self.written = folder / f"{number}.{run}.toml", folder / f"{number}.{run}.out"
@@ -40,7 +40,7 @@ class Member:
             text += f'[[peers]]\nsite = {peer}\naddress = "{address}"\n'
         settings.write_text(text)
         with open(self.written, "wb") as out:
-            self.process = subprocess.Popen(served.guarded([str(program), "site", str(settings)]), stdin=subprocess.DEVNULL, stdout=out,
+            self.process = subprocess.Popen(served.guarded([*words, "site", str(settings)]), stdin=subprocess.DEVNULL, stdout=out,
                                             stderr=subprocess.STDOUT, env=served.ENVIRONMENT)
         group.held.callback(self.process.wait)
         group.held.callback(self.process.kill)
@@ -101,13 +101,13 @@ class Members:
         ports = served.free_ports(32)
         self.ports, self.listens = ports[:16], ports[16:]
 
-    def start(self, number, peers=(), program=None, place=None, addresses=None, **values):
+    def start(self, number, peers=(), program=None, place=None, addresses=None, before=(), **values):
         """Starts a site of this number, with these peers: at the place of its number unless another is named. A peer is listed where
-        it listens, unless `addresses` has another address for it."""
+        it listens, unless `addresses` has another address for it. The words of `before` stand before those of the program."""
         self.runs += 1
         place = number if place is None else place
         listed = [(peer, (addresses or {}).get(peer, f"127.0.0.1:{self.listens[peer]}")) for peer in peers]
-        return Member(self, program or self.program, number, listed, self.runs, self.ports[place], self.listens[place], values)
+        return Member(self, [*before, str(program or self.program)], number, listed, self.runs, self.ports[place], self.listens[place], values)
 
     def __enter__(self):
         return self

@@ -21,7 +21,7 @@ use std::test::Fail;
 use std::thread::Threads;
 use std::time::Clock;
 use zq_settings::SiteSettings;
-use zq_site::serve_site;
+use zq_site::{Ending, serve_site};
 
 const ADD_A: &[u8] = b"*4\r\n$4\r\nZADD\r\n$1\r\nq\r\n$1\r\n3\r\n$1\r\na\r\n";
 
@@ -318,7 +318,7 @@ fn clients_are_heard_at_the_address_of_bind(rt: HostRuntime) -> Result<(), Fail>
     let settings = settings_at(alloc, *own, "127.0.0.2")?;
     let log = Logged::new(&rt, LevelFilter::Warn, Locked::new(&rt, Vec::new(alloc)));
     let mut herald = Herald::new(&rt, alloc, *own);
-    serve_site(&rt, &log, alloc, &settings, &mut herald)?;
+    serve_site(&rt, &log, alloc, &settings, &mut herald, &Ending::new())?;
     let line = format!(in alloc; "site 0 port {port} peers {}\n", own.door())?;
     assert_eq!(rt; herald.line.as_slice(), line.as_bytes());
     let client = herald.client.as_ref().ok_or("nobody asked")?;

@@ -20,3 +20,4 @@ pub mod Notices
 pub mod Runs
 pub mod Standings
 pub mod Beginnings
+pub mod Endings

@@ -1,6 +1,6 @@
 -- How long things take at most, in nanoseconds, and how many bytes a frame has.
 
-use Rattle.std.specs.Prelude.{Bool, List, length, nat_lt, ℕ, ◌*◌, ◌^◌}
+use Rattle.std.specs.Prelude.{Bool, List, length, nat_lt, ℕ, ◌*◌, ◌+◌, ◌^◌}
 
 abbrev seconds : ℕ → ℕ
 seconds n = n * 1_000_000_000
@@ -48,6 +48,10 @@ not_accepted = 100 * 1_000_000
 -- clients are told for so long that another run used the site's number
 abbrev pub fencing : ℕ
 fencing = 300 * 1_000_000
+
+-- a site whose number another run used is waited for so long, in which its clients are told
+abbrev pub leaving : ℕ
+leaving = fencing + 400 * 1_000_000
 
 -- a frame that goes over a link has a gibibyte at most
 abbrev pub most_frame : ℕ

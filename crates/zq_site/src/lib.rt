@@ -18,6 +18,7 @@ mod beginning;
 mod caller;
 mod dialing;
 mod draining;
+mod ending;
 mod frame_queue;
 mod halt;
 mod hasty;
@@ -56,4 +57,5 @@ mod warning;
 mod warning_log;
 mod writing;
 
+pub use ending::Ending;
 pub use serving::serve_site;

@@ -189,6 +189,7 @@ fn hear_all<L: Log + Wait>(
 /// the link thread ends, and that is warned of.
 fn fence<L: Log + Wait>(log: &L, shared: Shared<'_>, why: Warning) {
     shared.admission.fence();
+    shared.ending.fence(log);
     shared.halt_all(log);
     shared.post.stop(log);
     warn_of(log, shared.settings.site, why);

@@ -11,6 +11,7 @@ ghost use Rattle.zq_session.specs.declared.site_plan.SitePlan.{SitePlan as Plans
 ghost use Rattle.zq_site.specs.Site.{IsPlanOf, ended_by};
 
 use crate::announcing::announce;
+use crate::ending::Ending;
 use crate::halt::Halt;
 use crate::hiring::Hiring;
 use crate::opening::draw_run;
@@ -59,10 +60,11 @@ const MOST_TAIL: u64 = 1_048_576;
 /// Commands that write are refused until each peer that it dials has said what it has of each heap,
 /// or until it has waited for as many seconds as `alone` says. Where a peer has more operations of
 /// this site's number than this run made, or has a link to another run of it, the site answers PING
-/// alone, sends nothing more, and ends within a second, whatever its clients are owed, or once the
-/// system has looked up the name of a peer. After each call of a connection the peers are told what
-/// the site has, and those that lack something are sent it. A link over which nothing came for 20
-/// seconds is given up.
+/// alone, sends nothing more and ends, whatever its clients are owed. `ending` tells who waits for
+/// the site as soon as that is found, since it returns once the commands that are being answered
+/// are done and the system has looked up the names that it is looking up. After each call of a
+/// connection the peers are told what the site has, and those that lack something are sent it. A
+/// link over which nothing came for 20 seconds is given up.
 ///
 /// What goes wrong at a connection, with a peer or on a link ends that alone, and is warned of in
 /// the log. The log's own handle does not connect within a time, so the net is passed beside it.
@@ -77,6 +79,7 @@ pub fn serve_site<N, L, W>(
     alloc: Global,
     settings: &SiteSettings,
     out: &mut W,
+    ending: &Ending,
 ) -> Result<(), ServeFault>
 where
     N: Net<Listener = TcpListener, Stream = TcpStream> + Sync,
@@ -95,7 +98,9 @@ where
     let mut made = open_sites(alloc, &plans, hasher)?;
     let ended = match lend_sites(alloc, &plans, &mut made) {
         Ok(mut lent) => {
-            let ended = serve_lent(net, log, alloc, settings, out, workers, hasher, &mut lent);
+            let ended = serve_lent(
+                net, log, alloc, settings, out, ending, workers, hasher, &mut lent,
+            );
             end_loan(lent);
             ended
         }
@@ -112,6 +117,7 @@ fn serve_lent<'a, N, L, W>(
     alloc: Global,
     settings: &SiteSettings,
     out: &mut W,
+    ending: &Ending,
     workers: WorkerCount,
     hasher: Seeded,
     sites: &mut [LentSite<'a>],
@@ -126,7 +132,9 @@ where
     let Some(site) = sites.first_mut() else {
         unreachable!()
     };
-    serve_one(net, log, alloc, settings, out, workers, hasher, site)
+    serve_one(
+        net, log, alloc, settings, out, ending, workers, hasher, site,
+    )
 }
 
 /// Serves the site, which is that of the settings.
@@ -136,6 +144,7 @@ fn serve_one<'a, N, L, W>(
     alloc: Global,
     settings: &SiteSettings,
     out: &mut W,
+    ending: &Ending,
     workers: WorkerCount,
     hasher: Seeded,
     site: &mut LentSite<'a>,
@@ -188,6 +197,7 @@ where
         gate: &gate,
         post: &post,
         halt: &halt,
+        ending,
     };
     let seeds = Seeds {
         hasher,

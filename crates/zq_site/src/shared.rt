@@ -1,5 +1,6 @@
 //! What the threads of a site's links share.
 
+use crate::ending::Ending;
 use crate::halt::Halt;
 use crate::hiring::Hiring;
 use crate::peer_link::PeerLink;
@@ -36,6 +37,8 @@ pub struct Shared<'a> {
     /// Where the link thread is told what to do.
     pub post: &'a Post,
     pub halt: &'a Halt,
+    /// Where who waits for the site is told how it ends.
+    pub ending: &'a Ending,
 }
 
 impl Shared<'_> {

@@ -96,6 +96,14 @@ pub fn fencing() -> Duration
     Duration::from_millis(300)
 }
 
+/// How long a site whose number another run used is waited for: 700 milliseconds, in which its
+/// clients are told and its threads end.
+pub fn leaving() -> Duration
+    ensures { as_nanos result ≡ wanted.leaving }
+{
+    Duration::from_millis(700)
+}
+
 /// The most bytes of a frame: a gibibyte. A state has some forty bytes and a member's text for each
 /// addition, so that some ten million members of a heap fit. A greater number is no length that a
 /// peer would send: it would cost the memory of as many bytes as come.

@@ -47,6 +47,15 @@ IsStatusOf (Err refusal) status = (status ≡ status_of refusal) ⊎ (status ≡
 abbrev pub IsUnread : Refusal → Type 0
 IsUnread refusal = (refusal ≡ Device) ⊎ (refusal ≡ Memory)
 
+-- for how many milliseconds standard output may take nothing as a program ends so
+abbrev pub patience_with : Result (Unit {0}) Refusal → ℕ
+patience_with (Ok done) = 2000
+patience_with (Err Usage) = 2000
+patience_with (Err Settings) = 2000
+patience_with (Err Device) = 2000
+patience_with (Err Memory) = 2000
+patience_with (Err Fenced) = 200
+
 -- how the program ends after it served
 abbrev pub ended_of : Result (Unit {0}) ServeFault → Result (Unit {0}) Refusal
 ended_of (Ok done) = Ok done

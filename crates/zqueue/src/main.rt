@@ -10,6 +10,7 @@ mod piping;
 mod refusal;
 mod serving;
 mod settling;
+mod site_thread;
 #[cfg(test)]
 mod tests;
 

@@ -1,6 +1,5 @@
 //! Serving the sites of a settings file.
 
-ghost use Rattle.log.specs.Handle.{max_level};
 ghost use Rattle.std.specs.Prelude.{◌≡◌};
 ghost use Rattle.zqueue.specs.Refusal.{ended_of};
 
@@ -8,8 +7,9 @@ use crate::configured::{configured, site_configured};
 use crate::logging::{close_log, open_log};
 use crate::refusal::Refusal;
 use crate::settling::{read_file, settled};
+use crate::site_thread::serve_in_thread;
 use log::{LevelFilter, Logged};
-use std::alloc::Global;
+use std::alloc::{AllocError, Global};
 use std::io;
 use std::io::{BufWriter, Printer};
 use std::net::{Net, TcpListener, TcpStream};
@@ -19,7 +19,7 @@ use std::sync::Wait;
 use std::thread::Threads;
 use std::time::Clock;
 use zq_log::{LogQueue, QueueLog};
-use zq_server::{ServeFault, serve, serve_site};
+use zq_server::{ServeFault, serve};
 
 /// The most verbose level that is written.
 const LEVEL: LevelFilter = LevelFilter::Info;
@@ -46,16 +46,19 @@ where
 {
     let bytes = read_file(&rt, path)?;
     let settings = settled(&rt, path, configured(alloc, &bytes))?;
-    let mut out = start_lines(&rt, alloc)?;
+    let Ok(mut out) = start_lines(&rt, alloc) else {
+        return Err(Refusal::Memory);
+    };
     let queue = open_log(rt, alloc)?;
-    let log = log_of(&rt, alloc, &*queue, LEVEL);
+    let log = log_of(&rt, alloc, &*queue);
     let served = serve(&log, alloc, &settings, &mut out);
     tell_cause(&rt, &served);
     Ok(close_log(&rt, alloc, &*queue, ended(served)))
 }
 
-/// Serves the one site of the settings file of this name, linked to its peers, and returns when all
-/// connections of its clients are done. Warnings and notes, and what it returns, are as those of
+/// Serves the one site of the settings file of this name, linked to its peers, by a thread of its
+/// own, and returns when all connections of its clients are done, or within a second where another
+/// run used the site's number. Warnings and notes, and what it returns, are as those of
 /// `serve_file`.
 pub fn serve_site_file<R>(rt: R, alloc: Global, path: &str) -> Result<u8, Refusal>
 where
@@ -75,33 +78,28 @@ where
 {
     let bytes = read_file(&rt, path)?;
     let settings = settled(&rt, path, site_configured(alloc, &bytes))?;
-    let mut out = start_lines(&rt, alloc)?;
     let queue = open_log(rt, alloc)?;
-    let log = log_of(&rt, alloc, &*queue, LEVEL);
-    let served = serve_site(&rt, &log, alloc, &settings, &mut out);
+    let served = serve_in_thread(rt, alloc, settings, &queue);
     tell_cause(&rt, &served);
     Ok(close_log(&rt, alloc, &*queue, ended(served)))
 }
 
 /// What start lines are written to, all at once where they are flushed, so that no line of the log
 /// comes between.
-fn start_lines<R: Print>(rt: &R, alloc: Global) -> Result<BufWriter<Printer<'_, R>>, Refusal> {
-    match BufWriter::new(alloc, io::writer(rt)) {
-        Ok(out) => Ok(out),
-        Err(_) => Err(Refusal::Memory),
-    }
+pub fn start_lines<R: Print>(
+    rt: &R,
+    alloc: Global,
+) -> Result<BufWriter<Printer<'_, R>>, AllocError> {
+    BufWriter::new(alloc, io::writer(rt)).map_err(|_| AllocError)
 }
 
-/// What logs into this queue, up to this level.
-fn log_of<'a, R: Wait + Clock>(
+/// What logs into this queue, up to the level that is written.
+pub fn log_of<'a, R: Wait + Clock>(
     rt: &'a R,
     alloc: Global,
     queue: &'a LogQueue,
-    level: LevelFilter,
-) -> Logged<&'a R, QueueLog<'a, R>>
-    ensures { max_level result ≡ level }
-{
-    Logged::new(rt, level, QueueLog::new(rt, alloc, queue))
+) -> Logged<&'a R, QueueLog<'a, R>> {
+    Logged::new(rt, LEVEL, QueueLog::new(rt, alloc, queue))
 }
 
 /// Standard error says what failed of the system, where something did.

@@ -13,7 +13,7 @@ use std::thread;
 use std::thread::Threads;
 use std::time::Clock;
 use zq_settings::SiteSettings;
-use zq_site::serve_site;
+use zq_site::{Ending, serve_site};
 
 /// A step of the sites' clients, each of which has one connection.
 #[derive(Drop)]
@@ -112,7 +112,7 @@ where
     L: Log + RandomSource + Clock + Threads + Wait + Sync,
 {
     let mut written = Vec::new(alloc);
-    if serve_site(net, log, alloc, settings, &mut written).is_err() {
+    if serve_site(net, log, alloc, settings, &mut written, &Ending::new()).is_err() {
         *wrong.lock(log) = true;
     }
 }

@@ -15,7 +15,7 @@ use std::thread::Threads;
 use std::time::{Clock, Duration, Instant};
 use std::{str, thread};
 use zq_settings::SiteSettings;
-use zq_site::serve_site;
+use zq_site::{Ending, serve_site};
 
 /// The greeting of a site of so many heaps with the rule of this byte, which has no secret.
 pub fn greeting(site: u8, heaps: u8, rule: u8) -> [u8; 13] {
@@ -343,7 +343,7 @@ where
     let mut written = Vec::new(alloc);
     let (ended, entertained) = thread::join(
         rt,
-        || serve_site(rt, &log, alloc, settings, &mut written),
+        || serve_site(rt, &log, alloc, settings, &mut written, &Ending::new()),
         || entertain(rt, rt, alloc, guests, clients),
     );
     entertained?;

@@ -16,7 +16,7 @@ use std::time::Clock;
 use std::{io, thread};
 use zq_serve::{Cause, ServeFault, draw_hasher, serve};
 use zq_settings::{Settings, SiteSettings, settings, site_settings};
-use zq_site::serve_site;
+use zq_site::{Ending, serve_site};
 
 /// Settings of a site of 16 heaps that is alone, with this seed, which accepts one connection.
 fn settings_of(alloc: Global, port: u16, seed: u64) -> Result<Settings, Fail> {
@@ -108,7 +108,7 @@ where
     let mut written = Vec::new(alloc);
     let (ended, answer) = thread::join(
         rt,
-        || serve_site(rt, &log, alloc, &settings, &mut written),
+        || serve_site(rt, &log, alloc, &settings, &mut written, &Ending::new()),
         || asked(rt, alloc, ports[0], &bytes),
     );
     Ok((ended, answer?))
