@@ -2,6 +2,12 @@
 use denote.Param.Send.{IsSend, IsSync, sendable}
 use denote.Ref.{NamedLft}
 use Rattle.std.proofs.Crossing.{crosses}
+use Rattle.std.specs.contracts.net.socket_addr.SocketAddr as SocketAddr
+use Rattle.zq_serve.specs.contracts.fault.Cause as Cause
+use Rattle.zq_serve.specs.contracts.fault.ServeFault as ServeFault
+use Rattle.zq_site.specs.contracts.ending.Ending as Ending
+use Rattle.zq_site.specs.contracts.ending.Stage as Stage
+use Rattle.zq_site.specs.contracts.front.Front as Front
 use Rattle.zq_site.specs.contracts.peer_link.PeerLink as PeerLink
 use Rattle.zq_site.specs.contracts.post.Post as Post
 use Rattle.zq_site.specs.contracts.shared.Shared as Shared
@@ -22,5 +28,23 @@ logs_sync = search (sendable, crosses) depth 100 fits 100000
 hiring_sync : IsSync Hiring.the_row
 hiring_sync = search (sendable, crosses) depth 100 fits 100000
 
+address_send : IsSend SocketAddr.the_row
+address_send = search (sendable, crosses) depth 100 fits 100000
+
+cause_send : IsSend Cause.the_row
+cause_send = search (address_send, sendable, crosses) depth 100 fits 100000
+
+fault_send : IsSend ServeFault.the_row
+fault_send = search (cause_send, sendable, crosses) depth 100 fits 100000
+
+stage_send : IsSend Stage.the_row
+stage_send = search (fault_send, sendable, crosses) depth 100 fits 100000
+
+pub ending_sync : IsSync Ending.the_row
+ending_sync = search (stage_send, sendable, crosses) depth 100 fits 100000
+
+front_sync : IsSync Front.the_row
+front_sync = search (sendable, crosses) depth 100 fits 100000
+
 pub shared_send : (κ : NamedLft) → IsSend (Shared.the_row κ)
-shared_send κ = search (link_sync, post_sync, logs_sync, hiring_sync, admission_sync, gate_sync, mailbox_sync, sendable, crosses) depth 60 fits 100000
+shared_send κ = search (link_sync, post_sync, logs_sync, hiring_sync, ending_sync, front_sync, admission_sync, gate_sync, mailbox_sync, sendable, crosses) depth 60 fits 100000
