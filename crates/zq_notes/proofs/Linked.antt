@@ -6,7 +6,7 @@ use Rattle.std.specs.Prelude.{List, [], map, refl, slice_index, take, true, ℕ,
 use Rattle.zq_dots.specs.Placed.{Placed}
 use Rattle.zq_model.specs.Books.{Book, Merged, Step, TookOver}
 use Rattle.zq_journal.specs.Books.{steps_when}
-use Rattle.zq_model.proofs.Dots.{counter_positive, dots_below, has_parts, last_above}
+use Rattle.zq_model.proofs.Dots.{last_above}
 use Rattle.zq_model.proofs.Membership.{in_left}
 use Rattle.zq_model.proofs.Same.{image_of-same}
 use Rattle.zq_model.proofs.Taken.{taken_known}
@@ -16,7 +16,7 @@ use Rattle.zq_model.specs.Limits.{TailLimits}
 use Rattle.zq_model.specs.Operation.{Operation, has}
 use Rattle.zq_model.specs.Queue.{queue_of}
 use Rattle.zq_model.specs.Rule.{Rule}
-use Rattle.zq_model.specs.Sets.{AreSame, Early, HasDot, IsClosed, IsIn, IsWorld, Known, New, Taken, last, taken_of, vector_of}
+use Rattle.zq_model.specs.Sets.{AreSame, Early, IsIn, IsWorld, Known, New, Taken, taken_of, vector_of}
 use Rattle.zq_model.proofs.Lists.{in_filter}
 use Rattle.zq_notes.proofs.OfSites.{all_answers, all_world, does_as, gathered-append, gathered_on, images_by, in_later, notes_at-append, notes_here, of_world_at, off_as, stands_at, thread_at}
 use Rattle.zq_notes.proofs.Alike.{take_front}

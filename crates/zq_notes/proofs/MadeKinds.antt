@@ -3,7 +3,7 @@
 use Rattle.std.proofs.Common.{Err, Ok, ap, inl, inr, refl, subst, sym, ◌∙◌}
 use Rattle.std.specs.Prelude.{List, [], false, if◌then◌else◌, map, slice_index, slice_set, true, ℕ, ◌+◌, ◌++◌, ◌==◌, ◌∷◌, ◌≡◌, ◌⊎◌}
 use Rattle.zq_dots.specs.Placed.{Placed}
-use Rattle.zq_model.specs.Books.{HandedOn, Made, Step}
+use Rattle.zq_model.specs.Books.{Made, Step}
 use Rattle.zq_journal.specs.Books.{step_of, steps_when}
 use Rattle.zq_journal.specs.declared.since.Since.TheVariants.{Ops, TooOld}
 use Rattle.zq_model.specs.Heaps.{heap_of}

@@ -10,19 +10,19 @@ use Rattle.std.specs.List.{sum, sum_by}
 use Rattle.std.specs.Ordering.{eq_by_cmp}
 use Rattle.zq_model.proofs.Entries.{get-put_entry}
 use Rattle.zq_model.proofs.Maps.{in_map, key_same, place_exact, place_total, same_key}
-use Rattle.zq_model.specs.Image.{Entry, Image, Members, Place, entry_at, image_of, is_bare, no_additions, place_cmp, unless_bare}
+use Rattle.zq_model.specs.Image.{Entry, Image, Place, image_of, is_bare, no_additions, place_cmp, unless_bare}
 use Rattle.zq_model.specs.Operation.{Operation}
-use Rattle.zq_model.specs.Rows.{AreEntries, Row, entry_with, image_of_rows, place_in, row_of, rows_of}
-use Rattle.zq_model.specs.Sets.{IsIn, IsWorld, vector_of}
+use Rattle.zq_model.specs.Rows.{Row, entry_with, image_of_rows, place_in, row_of, rows_of}
+use Rattle.zq_model.specs.Sets.{IsIn, IsWorld}
 use Rattle.zq_shard.specs.Listed.{lent_place, lent_row}
 use Rattle.zq_shard.specs.Shard.{HeapImage, HoldsImage, IsHeapImage, with_entry}
 use Rattle.zq_shard.specs.Standing.{IsEnd}
 use Rattle.zq_shard.specs.Walk.{IsPiece}
 use Rattle.zq_shard.specs.declared.row.RowRef.{RowRef}
 use Rattle.zq_shard.specs.declared.spot.Spot.{Spot}
-use Rattle.zq_stage.proofs.Replaced.{entry_is, with_rows-vector}
+use Rattle.zq_stage.proofs.Replaced.{with_rows-vector}
 use Rattle.zq_stage.proofs.RowsOf.{row_got}
-use Rattle.zq_stage.specs.Portion.{AreHanded, IsPortion, lent_weight, weight_at, weight_of}
+use Rattle.zq_stage.specs.Portion.{IsPortion, lent_weight, weight_at, weight_of}
 use Rattle.zq_stage.specs.Rows.{has_row, with_rows}
 use Rattle.zq_stage.specs.Staged.{IsPieceOf}
 use Rattle.zq_stage.specs.declared.portion.PortionLimits.{PortionLimits}

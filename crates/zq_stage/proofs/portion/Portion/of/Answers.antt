@@ -1,5 +1,4 @@
 use Rattle.std.proofs.Common.{[], ap, map, subst, sym, ◌∙◌, ◌≡◌}
-use Rattle.zq_model.specs.Image.{Image}
 use Rattle.zq_model.specs.Rows.{image_of_rows}
 use Rattle.zq_model.specs.Sets.{IsIn}
 use Rattle.zq_shard.specs.Listed.{lent_row}
