@@ -34,8 +34,8 @@ abbrev pub lent_weight : RowRef → ℕ
 lent_weight row = weight_of (lent_place row) row.entry.now
 
 -- By an order in which all members of the heap stand, these are left at the first spot and no more
--- at the next, the last one first. They are as many as the limits allow, but for one that is alone;
--- and there is one, unless none is left.
+-- at the next, the last one first. They are no more than the limits allow, but for one that is
+-- alone; and there is one, unless none is left.
 pub record AreHanded (s : HeapImage) (spot : Spot) (limits : PortionLimits) (handed : List Place)
     (next : Spot) : Type 0 where
   pub order : Order
