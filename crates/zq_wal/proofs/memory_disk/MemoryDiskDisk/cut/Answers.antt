@@ -1,0 +1,39 @@
+use Rattle.std.proofs.Common.{ap, refl, ◌∙◌, Vec}
+use Rattle.std.specs.declared.alloc.Global.{Global}
+use Rattle.zq_wal.specs.declared.image.Image.{Image}
+use Rattle.zq_wal.proofs.Images.{cut_replaced, replaced_elapses, same_elapses, uncut}
+use Rattle.zq_wal.proofs.memory_disk.MemoryDiskDisk.cut.Goals as goal
+
+pub returns-in_err-shorter-clause-crash : goal.returns-in_err-shorter-clause-crash
+returns-in_err-shorter-clause-crash c =
+    let self = c.args.self.now in
+    uncut self.log self.log self.elders.items self.elders.items c.args.len refl refl c.requires.within c.requires.durable
+
+pub returns-in_err-replace-clause-crash : goal.returns-in_err-replace-clause-crash
+returns-in_err-replace-clause-crash c =
+    let self = c.args.self.now in
+    let same = c.in_err-replace.ensures.refused in
+    uncut self.log c.replace.new.self.log self.elders.items c.replace.new.self.elders.items c.args.len same.0 same.1 c.requires.within c.requires.durable
+
+pub returns-in_err-replace-clause-time : goal.returns-in_err-replace-clause-time
+returns-in_err-replace-clause-time c =
+    let self = c.args.self.now in
+    let new = c.replace.new.self in
+    let same = c.in_err-replace.ensures.refused in
+    same_elapses self.log new.log self.elders.items new.elders.items self.past.items new.past.items same.0 same.1 (ap (λ (v : Vec Image Global). v.items) c.replace.ensures.same.1)
+
+pub returns-clause-crash : goal.returns-clause-crash
+returns-clause-crash c =
+    let self = c.args.self.now in
+    let new = c.replace.new.self in
+    let elder = c.in_ok-replace.ensures.elders in
+    let log = c.in_ok-replace.ensures.log in
+    cut_replaced self.log new.log elder.0 self.elders.items new.elders.items c.args.len elder.1 elder.2 elder.3 c.requires.within c.requires.durable
+    (ap (λ (image : Image). image.firm.items) log ∙ c.in_ok-shorter.ensures.firm) (ap (λ (image : Image). image.loose.items) log ∙ c.in_ok-shorter.ensures.loose)
+
+pub returns-clause-time : goal.returns-clause-time
+returns-clause-time c =
+    let self = c.args.self.now in
+    let new = c.replace.new.self in
+    let elder = c.in_ok-replace.ensures.elders in
+    replaced_elapses self.log new.log elder.0 self.elders.items new.elders.items self.past.items new.past.items elder.1 elder.2 elder.3 (ap (λ (v : Vec Image Global). v.items) c.replace.ensures.same.1)

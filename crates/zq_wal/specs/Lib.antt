@@ -1,0 +1,9 @@
+pub mod Format
+pub mod Disk
+pub mod Wal
+pub mod Replay
+pub mod Found
+pub mod Chunk
+pub mod Walk
+pub mod Image
+pub mod Laws
