@@ -1,10 +1,10 @@
 -- What the test for damage looks at.
 
-use Rattle.std.proofs.Common.{◌≡◌, ℕ, ◌≤◌, List, [], ◌∷◌, ◌++◌, length, refl, sym, ◌∙◌, ap, arith, append_assoc}
-use Rattle.std.specs.Prelude.{Bool, Option, true, false, ◌||◌, ◌&&◌, not, is_none, map, nat_lt}
+use Rattle.std.proofs.Common.{◌≡◌, ℕ, ◌≤◌, List, [], ◌∷◌, length, refl, sym, ◌∙◌, ap, arith, append_assoc}
+use Rattle.std.specs.Prelude.{Bool, Option, true, false, ◌||◌, ◌&&◌, not, is_none, nat_lt}
 use Rattle.std.specs.List.{list_any}
 use Rattle.std.proofs.lemmas.Bool.Decides.{nat_tests}
-use Rattle.zq_wal.specs.Format.{decoded, encoded, file_of, floor_of, chunks_from, recovered, is_damaged, is_late, tells_damage, is_corrupt}
+use Rattle.zq_wal.specs.Format.{decoded, file_of, floor_of, chunks_from, recovered, is_damaged, is_late, tells_damage, is_corrupt}
 use Rattle.zq_wal.specs.Wal.{AreFloors}
 use Rattle.zq_wal.proofs.Chunks.{one_chunk, decoded_again}
 use Rattle.zq_wal.proofs.Tears.{inside, inside_has_no_end, has_zero}

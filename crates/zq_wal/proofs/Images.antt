@@ -4,7 +4,7 @@ use Rattle.std.proofs.Common.{◌≡◌, inl, inr, ◌⊎◌, ⊎_elim, ℕ, zer
 use Rattle.std.specs.Prelude.{Err, IfOk, Ok, Result}
 use Rattle.std.specs.declared.alloc.AllocError.{AllocError}
 use Rattle.std.specs.declared.alloc.Global.{Global}
-use Rattle.std.proofs.lemmas.List.{append-nil, drop_at, take_all, take_at}
+use Rattle.std.proofs.lemmas.List.{append-nil, take_all}
 use Rattle.zq_wal.specs.Disk.{Cut, Elapses, Follows, IsTear, NoLonger, Only, Torn}
 use Rattle.zq_wal.specs.Image.{AnyLeft, LeftNow, LeftOf, LeftSince, bytes_of}
 use Rattle.zq_wal.specs.declared.image.Image.{Image}

@@ -1,11 +1,11 @@
 -- One byte more of a file.
 
-use Rattle.std.proofs.Common.{◌≡◌, ◌≢◌, inl, inr, ℕ, ◌+◌, ◌≤◌, List, [], ◌∷◌, ◌++◌, length, take, drop, refl, sym, ◌∙◌, ap, subst, arith, append_assoc, length-append}
+use Rattle.std.proofs.Common.{◌≡◌, ◌≢◌, inl, inr, ℕ, ◌+◌, List, [], ◌∷◌, ◌++◌, length, take, drop, refl, sym, ◌∙◌, ap, subst, arith, append_assoc, length-append}
 use Rattle.std.specs.Prelude.{Bool, Err, IfOk, IsErrOf, Ok, Option, None, Result, Some, true, false, ◌||◌, ◌==◌, ◌&&◌, not, is_none, map, nat_lt}
 use Rattle.std.specs.List.{list_any}
 use Rattle.std.proofs.lemmas.Bool.{cases_eq}
 use Rattle.std.proofs.lemmas.Bool.Decides.{nat_tests}
-use Rattle.std.proofs.lemmas.List.{append-nil, drop_at, map-append, take_at}
+use Rattle.std.proofs.lemmas.List.{append-nil, drop_at, take_at}
 use Rattle.zq_wal.specs.Chunk.{IsChunk}
 use Rattle.zq_wal.specs.Found.{IsFound}
 use Rattle.zq_wal.specs.Format.{chunks_from, decoded, encoded, file_of, floor_of, is_corrupt, is_damaged, is_late, recovered, tells_damage, whole_front}
@@ -15,7 +15,7 @@ use Rattle.zq_wal.specs.declared.error.WalError.TheVariants.{Corrupt}
 use Rattle.zq_wal.specs.declared.recovery.Found.{Found}
 use Rattle.zq_wal.specs.declared.walk.Known.{Known}
 use Rattle.zq_wal.specs.declared.walk.Walk.{Walk}
-use Rattle.zq_wal.proofs.Alarms.{damage_parts, neither}
+use Rattle.zq_wal.proofs.Alarms.{damage_parts}
 use Rattle.zq_wal.proofs.ChunkSteps.{any_push}
 use Rattle.zq_wal.proofs.Chunks.{decoded_is, recovered_file}
 use Rattle.zq_wal.proofs.Outcomes.{file_of_one}

@@ -44,6 +44,7 @@ pub fn read_records<S: Source, R: Replay>(
         (Replayed R.replays replay.old (recovered (S.given source.new)) replay.new) }
 
     ensures corrupt { IsErrOf result WalError.Corrupt → is_corrupt (S.given source.new) ≡ true }
+    ensures whole { IsErrOf result WalError.Corrupt → S.at_end source.new }
     ensures stopped { IsErrOf result WalError.Stopped → R.has_stopped replay.new }
     ensures failed { IsErrOf result WalError.Failed → S.failures source.old < S.failures source.new }
     ensures full { IsErrOf result WalError.Full → 2 ^ 60 ≤ length (S.given source.new) }

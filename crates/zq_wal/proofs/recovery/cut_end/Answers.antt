@@ -1,4 +1,4 @@
-use Rattle.std.proofs.Common.{◌≡◌, ◌∙◌, List, ℕ, take}
+use Rattle.std.proofs.Common.{◌≡◌, ◌∙◌, take}
 use Rattle.zq_wal.specs.Wal.{Reads}
 use Rattle.zq_wal.proofs.Replays.{on_ok}
 use Rattle.zq_wal.proofs.Cuts.{cut_done_reads}

@@ -14,3 +14,6 @@ pub returns-clause-replayed : goal.returns-clause-replayed
 returns-clause-replayed g c =
     let inv = c.loop-walk.invariant in
     on_ok c.found.result (c.in_ok-walk_piece.ensures.replayed c.args.replay.now inv.1)
+
+pub returns-clause-whole : goal.returns-clause-whole
+returns-clause-whole g c = λ err. c.in_ok-walk_piece.ensures.end c.if-branch.false

@@ -1,4 +1,4 @@
-use Rattle.std.proofs.Common.{◌≡◌, ◌<◌, ◌≤◌, ◌++◌, ◌∙◌, IfSome, List, Option, ap, arith, length, length-take, subst, sym, take, ℕ}
+use Rattle.std.proofs.Common.{◌≡◌, ◌<◌, ◌≤◌, ◌++◌, ◌∙◌, IfSome, List, Option, ap, length, subst, sym, take, ℕ}
 use Rattle.zq_wal.specs.Format.{recovered}
 use Rattle.zq_wal.specs.Replay.{Replayed}
 use Rattle.zq_wal.specs.Walk.{IsWalk}

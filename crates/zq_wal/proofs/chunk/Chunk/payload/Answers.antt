@@ -1,4 +1,4 @@
-use Rattle.std.proofs.Common.{◌≡◌, Bor, IfSome, List, ap, subst, ℕ}
+use Rattle.std.proofs.Common.{◌≡◌, IfSome, List, subst, ℕ}
 use Rattle.std.specs.Prelude.{IfNone, None, Some}
 use Rattle.zq_wal.specs.Format.{checked_bytes}
 use Rattle.zq_wal.proofs.ChunkSteps.{escaped_is_none, payload_none, payload_some, spoilt_is_none}

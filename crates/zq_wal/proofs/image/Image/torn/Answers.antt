@@ -1,4 +1,4 @@
-use Rattle.std.proofs.Common.{◌⊎◌, ◌∙◌, ◌<◌, ◌≤◌, ⊎_elim, arith, inl, inr, length, rules}
+use Rattle.std.proofs.Common.{◌∙◌, ◌<◌, ◌≤◌, ⊎_elim, arith, inl, inr, length, rules}
 use Rattle.zq_wal.proofs.Images.{torn_on}
 use Rattle.zq_wal.proofs.image.Image.torn.Goals as goal
 
