@@ -32,12 +32,20 @@ fn step<D: Disk>(alloc: Global, log: &mut Wal<D>, word: &[u8]) -> bool
     }
 }
 
+/// The word of this number in a script, counted from 0 on.
+fn word_at(script: &str, number: usize) -> Option<&str> {
+    script.split(' ').nth(number)
+}
+
 /// Makes the steps up to the first that is not done, and gives the disk as it is then.
 fn play<D: Disk + Drop>(alloc: Global, mut log: Wal<D>, script: &str) -> D
     requires { IsLog D.seen D.staged D.may_leave log }
 {
-    for word in script.as_bytes().split(|byte| *byte == b' ') {
-        if !step(alloc, &mut log, word) {
+    for number in 0..script.len() {
+        let Some(word) = word_at(script, number) else {
+            break;
+        };
+        if !step(alloc, &mut log, word.as_bytes()) {
             break;
         }
     }
