@@ -16,4 +16,5 @@ with_rest spoilt front rest = if spoilt then None else behind front rest
 -- these are its bytes
 pub record IsChunk (bytes : List ℕ) (chunk : Chunk) : Type 0 where
   pub zero : chunk.has_zero ≡ list_any (λ b. b == 0) bytes
-  pub means : (more : List ℕ) → unescaped false (bytes ++ more) ≡ with_rest chunk.spoilt chunk.bytes.items (unescaped chunk.escaped more)
+  pub means : (more : List ℕ) → unescaped false (bytes ++ more)
+      ≡ with_rest chunk.spoilt chunk.bytes.items (unescaped chunk.escaped more)

@@ -4,7 +4,8 @@ use Rattle.std.specs.Prelude.{◌<◌, ◌≡◌, ◌⊎◌, ℕ, ◌≤◌, Lis
 use Rattle.zq_wal.specs.declared.error.WalError.{WalError}
 use Rattle.zq_wal.specs.declared.error.WalError.TheVariants.{Corrupt, Failed, Full, Stopped}
 
--- what a crash may leave of bytes that were written behind the end: each byte is there or still 0, and a part of the end may be missing
+-- what a crash may leave of bytes that were written behind the end: each byte is there or still 0,
+-- and a part of the end may be missing
 abbrev pub IsTear : List ℕ → List ℕ → Type 0
 IsTear [] written = Unit {0}
 IsTear (c ∷ left) [] = ⊥
@@ -32,14 +33,17 @@ Only file outcomes = (c : List ℕ) → outcomes c → c ≡ file
 abbrev pub NoLonger : List ℕ → (List ℕ → Type 0) → Type 0
 NoLonger file outcomes = (c : List ℕ) → outcomes c → length c ≤ length file
 
--- time goes on: a crash since t might have left what it might have left before, or what it may leave now
-pub record Elapses (before now : ℕ) (past since : ℕ → List ℕ → Type 0) (may_leave : List ℕ → Type 0) : Type 0 where
+-- time goes on: a crash since t might have left what it might have left before, or what it may
+-- leave now
+pub record Elapses (before now : ℕ) (past since : ℕ → List ℕ → Type 0) (may_leave : List ℕ → Type 0)
+    : Type 0 where
   pub later : before ≤ now
   pub nothing_else : (t : ℕ) (c : List ℕ) → t ≤ before → since t c → past t c ⊎ may_leave c
   pub keeps : (t : ℕ) (c : List ℕ) → t ≤ before → past t c → since t c
 
 -- a crash at any moment since old leaves a file that has P
-pub record LeavesOnly {D : Type 0} (moment : D → ℕ) (left_since : D → ℕ → List ℕ → Type 0) (old new : D) (P : List ℕ → Type 0) : Type 0 where
+pub record LeavesOnly {D : Type 0} (moment : D → ℕ) (left_since : D → ℕ → List ℕ → Type 0)
+    (old new : D) (P : List ℕ → Type 0) : Type 0 where
   pub later : moment old ≤ moment new
   pub each : (c : List ℕ) → left_since new (moment old) c → P c
   -- for a run that began earlier

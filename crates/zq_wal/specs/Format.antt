@@ -5,11 +5,14 @@ use Rattle.std.specs.List.{list_any}
 use Rattle.std.specs.Prelude.{Bool, List, None, Option, Some, [], bytes_eq, drop, false, if◌then◌else◌, is_none, length, map, nat_lt, not, take, true, ℕ, ◌&&◌, ◌++◌, ◌==◌, ◌∷◌, ◌||◌}
 use Rattle.zq_model.specs.Heaps.{fnv1a64}
 
--- a byte that is 0, 254 or 255 is written as two, so that no byte is 0, and 255 stands at the end of a record alone
+-- a byte that is 0, 254 or 255 is written as two, so that no byte is 0, and 255 stands at the end
+-- of a record alone
 abbrev pub escaped : List ℕ → List ℕ
 escaped [] = []
 escaped (b ∷ bytes) =
-    if b == 0 then 254 ∷ 1 ∷ escaped bytes else (if b == 254 then 254 ∷ 2 ∷ escaped bytes else (if b == 255 then 254 ∷ 3 ∷ escaped bytes else b ∷ escaped bytes))
+    if b == 0 then 254 ∷ 1 ∷ escaped bytes else (
+    if b == 254 then 254 ∷ 2 ∷ escaped bytes else (
+    if b == 255 then 254 ∷ 3 ∷ escaped bytes else b ∷ escaped bytes))
 
 -- a checksum in eight bytes
 abbrev pub sum_bytes : List ℕ → List ℕ
@@ -31,19 +34,22 @@ with_front (Some b) (Some bytes) = Some (b ∷ bytes)
 
 -- the byte that this one stands for, behind an escape or not
 abbrev pub meant : Bool → ℕ → Option ℕ
-meant true b = if b == 1 then Some 0 else (if b == 2 then Some 254 else (if b == 3 then Some 255 else None))
+meant true b =
+    if b == 1 then Some 0 else (if b == 2 then Some 254 else (if b == 3 then Some 255 else None))
 meant false b = if (b == 0) || (b == 255) then None else Some b
 
 -- what was escaped; the flag says that the last byte was 254
 abbrev pub unescaped : Bool → List ℕ → Option (List ℕ)
 unescaped false [] = Some []
 unescaped true [] = None
-unescaped false (b ∷ bytes) = if b == 254 then unescaped true bytes else with_front (meant false b) (unescaped false bytes)
+unescaped false (b ∷ bytes) =
+    if b == 254 then unescaped true bytes else with_front (meant false b) (unescaped false bytes)
 unescaped true (b ∷ bytes) = with_front (meant true b) (unescaped false bytes)
 
 -- the payload behind its checksum
 abbrev pub checked_bytes : List ℕ → Option (List ℕ)
-checked_bytes bytes = if bytes_eq (take 8 bytes) (sum_bytes (drop 8 bytes)) then Some (drop 8 bytes) else None
+checked_bytes bytes =
+    if bytes_eq (take 8 bytes) (sum_bytes (drop 8 bytes)) then Some (drop 8 bytes) else None
 
 abbrev pub checked : Option (List ℕ) → Option (List ℕ)
 checked None = None
@@ -56,7 +62,8 @@ decoded chunk = checked (unescaped false chunk)
 -- what stands before each end mark, behind the one before; the chunk has come before the bytes
 abbrev pub chunks_from : List ℕ → List ℕ → List (List ℕ)
 chunks_from chunk [] = []
-chunks_from chunk (b ∷ bytes) = if b == 255 then chunk ∷ chunks_from [] bytes else chunks_from (chunk ++ b ∷ []) bytes
+chunks_from chunk (b ∷ bytes) =
+    if b == 255 then chunk ∷ chunks_from [] bytes else chunks_from (chunk ++ b ∷ []) bytes
 
 -- the payloads up to the first that is not whole
 abbrev pub whole_front : List (Option (List ℕ)) → List (List ℕ)
@@ -68,7 +75,8 @@ whole_front (Some payload ∷ more) = payload ∷ whole_front more
 abbrev pub recovered : List ℕ → List (List ℕ)
 recovered file = whole_front (map decoded (chunks_from [] file))
 
--- the number in the first eight bytes of a payload: how many records had been synced when it was written
+-- the number in the first eight bytes of a payload: how many records had been synced when it was
+-- written
 unfoldable pub floor_of : List ℕ → ℕ
 floor_of payload = if nat_lt (length payload) 8 then 0 else from_be_bytes w64 (take 8 payload)
 

@@ -33,7 +33,8 @@ none_past [] c had = had
 none_past (image ∷ past) c had = none_past past c had
 
 -- since the last moment there is what is there now
-pub only_left_now : (log : Image) (elders past : List Image) (c : List ℕ) → LeftSince log elders past (length past) c → LeftNow log elders c
+pub only_left_now : (log : Image) (elders past : List Image) (c : List ℕ) →
+    LeftSince log elders past (length past) c → LeftNow log elders c
 only_left_now log elders past c (inl now) = now
 only_left_now log elders past c (inr had) = absurd (none_past past c had)
 

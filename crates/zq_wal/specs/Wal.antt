@@ -11,7 +11,8 @@ pub record IsOutcome (payloads : List (List ℕ)) (n : ℕ) (c : List ℕ) : Typ
   pub file : c ≡ file_of (take n payloads) ++ left
   pub torn : IsTear left (file_of (drop n payloads))
 
--- the records up to some one are read, the first n at least, none of them in part; and nothing is taken for damage
+-- the records up to some one are read, the first n at least, none of them in part; and nothing is
+-- taken for damage
 pub record Keeps (payloads : List (List ℕ)) (n : ℕ) (c : List ℕ) : Type 0 where
   pub at : ℕ
   pub least : n ≤ at
@@ -35,13 +36,16 @@ abbrev pub IsNext : Option ℕ → List ℕ → Type 0
 IsNext None staged = Unit {0}
 IsNext (Some n) staged = AreRecords n staged
 
--- the file is whole records, and a crash leaves those that were synced and of the others what a torn write leaves
-pub record IsLog {D : Type 0} (seen staged : D → List ℕ) (may_leave : D → List ℕ → Type 0) (log : Wal D) : Type 0 where
+-- the file is whole records, and a crash leaves those that were synced and of the others what a
+-- torn write leaves
+pub record IsLog {D : Type 0} (seen staged : D → List ℕ) (may_leave : D → List ℕ → Type 0)
+    (log : Wal D) : Type 0 where
   pub file : seen log.disk ≡ file_of (recovered (seen log.disk))
   pub count : log.count ≡ length (recovered (seen log.disk))
   pub synced : log.synced ≤ log.count
   pub floors : AreFloors log.synced (recovered (seen log.disk))
-  pub outcomes : (c : List ℕ) → may_leave log.disk c → IsOutcome (recovered (seen log.disk)) log.synced c
+  pub outcomes : (c : List ℕ) → may_leave log.disk c →
+      IsOutcome (recovered (seen log.disk)) log.synced c
   pub next : IsNext log.next (staged log.disk)
 
 -- it is read as the file is, and if nothing in that is damaged nothing is in this

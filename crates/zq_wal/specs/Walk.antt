@@ -21,7 +21,8 @@ pub record IsKnown (bytes : List ℕ) (known : Known) : Type 0 where
   pub end : known.end ≡ length (file_of (recovered bytes))
   pub torn : known.torn ≡ list_any is_torn (chunks_from [] bytes)
   pub damaged : known.damaged ≡ list_any is_damaged (chunks_from [] bytes)
-  pub highest : (n : ℕ) → nat_lt n known.highest ≡ list_any (λ c. is_late n (decoded c)) (chunks_from [] bytes)
+  pub highest : (n : ℕ) → nat_lt n known.highest
+      ≡ list_any (λ c. is_late n (decoded c)) (chunks_from [] bytes)
 
 -- these bytes have been walked
 pub record IsWalk (bytes : List ℕ) (walk : Walk) : Type 0 where

@@ -10,7 +10,5 @@
 mod disk;
 mod files;
 mod record;
-#[cfg(test)]
-mod tests;
 
 pub use disk::{FileDisk, FoundLog, open};
