@@ -1,5 +1,5 @@
-//! Tests of a log over a disk in memory: what is read of damaged and of torn files, and what a crash
-//! leaves after each call of a script. What is expected was told by an independent model of the
+//! Tests of a log over a disk in memory: what is read of damaged and of torn files, and what a
+//! crash leaves after each call of a script. What is expected was told by an independent model of the
 //! format, of the disk and of a log.
 #![tactic(auto)]
 

@@ -27,9 +27,9 @@ pub struct Found {
 /// Reads a file that a crash may have left, from its first byte to its last, and has its records
 /// taken again, each as soon as it is whole. It holds one record and a piece of 64 KiB at a time.
 ///
-/// A torn end is passed over. A file with damage that no crash leaves is `Corrupt`; that is known at
-/// its end, so what was taken before is then to be thrown away, as after every error. `Full`: the
-/// file has 2^60 bytes.
+/// A torn end is passed over. A file with damage that no crash leaves is `Corrupt`; that is known
+/// at its end, so what was taken before is then to be thrown away, as after every error. `Full`:
+/// the file has 2^60 bytes.
 pub fn read_records<S: Source, R: Replay>(
     alloc: Global,
     source: &mut S,
@@ -46,7 +46,8 @@ pub fn read_records<S: Source, R: Replay>(
     ensures corrupt { IsErrOf result WalError.Corrupt → is_corrupt (S.given source.new) ≡ true }
     ensures whole { IsErrOf result WalError.Corrupt → S.at_end source.new }
     ensures stopped { IsErrOf result WalError.Stopped → R.has_stopped replay.new }
-    ensures failed { IsErrOf result WalError.Failed → S.failures source.old < S.failures source.new }
+    ensures failed { IsErrOf result WalError.Failed →
+        S.failures source.old < S.failures source.new }
     ensures full { IsErrOf result WalError.Full → 2 ^ 60 ≤ length (S.given source.new) }
 {
     let mut piece = vec![in alloc; 0u8; PIECE]?;
@@ -73,7 +74,8 @@ fn walk_piece<S: Source, R: Replay>(
     ensures more { IfOk result (λ more. more ≡ true → walk.old.walked < walk.new.walked) }
     ensures end { IfOk result (λ more. more ≡ false → S.at_end source.new) }
     ensures failures { S.failures source.old ≤ S.failures source.new }
-    ensures failed { IsErrOf result WalError.Failed → S.failures source.old < S.failures source.new }
+    ensures failed { IsErrOf result WalError.Failed →
+        S.failures source.old < S.failures source.new }
     ensures full { IsErrOf result WalError.Full → 2 ^ 60 ≤ length (S.given source.new) }
     ensures stopped { IsErrOf result WalError.Stopped → R.has_stopped replay.new }
     ensures sound { IsErrOf result WalError.Corrupt → ⊥ }
@@ -88,8 +90,8 @@ fn walk_piece<S: Source, R: Replay>(
     Ok(true)
 }
 
-/// Reads the next bytes into the front of the piece, and answers how many; `None` where there are no
-/// more.
+/// Reads the next bytes into the front of the piece, and answers how many; `None` where there are
+/// no more.
 fn next_piece<S: Source>(source: &mut S, piece: &mut Vec<u8>) -> Result<Option<usize>, WalError>
     requires { 0 < length piece.old.items }
     ensures some { IfOk result (λ more. IfSome more (λ n. (0 < n) × (n ≤ length piece.new.items)

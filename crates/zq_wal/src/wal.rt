@@ -143,7 +143,8 @@ impl<D: Disk> Wal<D> {
             × (D.staged self.new.disk ≡ D.staged self.old.disk) }
 
         ensures any_moment { LeavesOnly D.moment D.left_since self.old.disk self.new.disk
-            (Keeps (recovered (D.seen self.old.disk) ++ payload_over self.old.synced body.items ∷ [])
+            (Keeps
+            (recovered (D.seen self.old.disk) ++ payload_over self.old.synced body.items ∷ [])
             self.old.synced) }
 
         ensures failed { IsErrOf result WalError.Failed →

@@ -1,4 +1,5 @@
-//! A disk of real files. Each method makes the calls that it notes, and notes them with their answer.
+//! A disk of real files. Each method makes the calls that it notes, and notes them with their
+//! answer.
 ghost use Rattle.std.specs.Prelude.{◌≡◌, [], IfOk, IfSome, length};
 ghost use Rattle.zq_wal.specs.Disk.{Only};
 ghost use Rattle.zq_wal_file.specs.Events.{IsAtEnd, LeftSince, MayLeave, NextLeft, counts_now_of, only_now_of, replay};
@@ -42,8 +43,8 @@ pub struct FileDisk<R: Files<File = File> + Drop> {
     record: Record,
 }
 
-/// Opens the log of a folder, or makes one: the folder's path, the log's, and that of the next file,
-/// both in the folder. A next file that is there is removed. `None` where another process has the
+/// Opens the log of a folder, or makes one: the folder's path, the log's, and that of the next
+/// file, both in the folder. A next file that is there is removed. `None` where another process has the
 /// folder.
 pub fn open<R: Files<File = File> + Drop>(
     rt: R,

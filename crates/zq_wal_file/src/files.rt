@@ -7,8 +7,8 @@ use std::os::unix::fs::{FileExt, MetadataExt};
 use std::rt::Files;
 use std::{fs, io};
 
-/// How many zeros are written at once, and how often: 16 MiB are written and synced ahead, so that a
-/// sync of records behind each other changes no length of the file.
+/// How many zeros are written at once, and how often: 16 MiB are written and synced ahead, so that
+/// a sync of records behind each other changes no length of the file.
 const AHEAD: usize = 1 << 16;
 
 const AHEADS: u64 = 256;
@@ -105,8 +105,8 @@ impl<R: Files<File = File> + Drop> LogFiles<R> {
         Ok(())
     }
 
-    /// Syncs the log, and its name where that is new. A log that has no name any more is an error: its
-    /// folder was deleted.
+    /// Syncs the log, and its name where that is new. A log that has no name any more is an error:
+    /// its folder was deleted.
     pub(crate) fn sync(&mut self) -> io::Result<()> {
         self.log.sync_data()?;
         if self.log.metadata()?.nlink() == 0 {
