@@ -39,6 +39,7 @@ class Member:
         for peer, address in peers:
             text += f'[[peers]]\nsite = {peer}\naddress = "{address}"\n'
         settings.write_text(text)
+        self.settings = settings
         with open(self.written, "wb") as out:
             self.process = subprocess.Popen(served.guarded([*words, "site", str(settings)]), stdin=subprocess.DEVNULL, stdout=out,
                                             stderr=subprocess.STDOUT, env=served.ENVIRONMENT)
@@ -117,30 +118,39 @@ class Members:
 
 
 class Load:
-    """Writes to a site at a rate, until it is told to stop."""
+    """Writes to a site at a rate, until it is told to stop, or the site ends. `count` is how many writes were acknowledged."""
 
     def __init__(self, member, rate):
-        self.member, self.rate, self.over, self.count = member, rate, threading.Event(), 0
+        self.member, self.rate, self.over, self.count, self.fault = member, rate, threading.Event(), 0, None
         self.thread = threading.Thread(target=self.run)
         self.thread.start()
 
     def run(self):
-        start = time.monotonic()
-        with Client(self.member.port) as client:
-            while not self.over.is_set():
-                due = int((time.monotonic() - start) * self.rate) - self.count
-                if due <= 0:
-                    time.sleep(0.001)
-                    continue
-                names = range(self.count, self.count + due)
-                client.link.sendall(b"".join(streams.request(b"ZADD", KEY, b"%d" % name, b"load%d" % name) for name in names))
-                for _ in names:
-                    client.reply()
-                self.count += due
+        try:
+            with Client(self.member.port) as client:
+                self.write(client)
+        except (OSError, RuntimeError) as fault:
+            self.fault = fault
 
-    def stop(self):
+    def write(self, client):
+        start = time.monotonic()
+        while not self.over.is_set():
+            due = int((time.monotonic() - start) * self.rate) - self.count
+            if due <= 0:
+                time.sleep(0.001)
+                continue
+            names = range(self.count, self.count + due)
+            client.link.sendall(b"".join(streams.request(b"ZADD", KEY, b"%d" % name, b"load%d" % name) for name in names))
+            for _ in names:
+                client.reply()
+                self.count += 1
+
+    def stop(self, may_end=False):
+        """Waits until no more is written. Where the site may not have ended, its end is an error."""
         self.over.set()
         self.thread.join()
+        if self.fault and not may_end:
+            raise self.fault
 
 
 def are_alike(members, seconds=PATIENCE):

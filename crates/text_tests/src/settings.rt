@@ -1,5 +1,6 @@
 //! Texts with settings, and texts that are refused.
 
+mod admin_refused;
 mod given;
 mod name_refused;
 mod refused;

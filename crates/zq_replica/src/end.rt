@@ -1,6 +1,7 @@
 //! This site's end of the link to a peer.
 
 ghost use Rattle.std.specs.Prelude.{◌≡◌};
+ghost use Rattle.zq_replica.specs.Passing.{is_pushed};
 ghost use Rattle.zq_replica.specs.Sites.{is_end_of};
 
 use crate::protocol::Protocol;
@@ -118,7 +119,9 @@ impl End {
     }
 
     /// Whether the peer pushes, and is pushed to.
-    pub(crate) fn pushes(&self) -> bool {
+    pub(crate) fn pushes(&self) -> bool
+        ensures { result ≡ is_pushed self.now.protocol }
+    {
         self.protocol == Some(Protocol::Pushing)
     }
 }

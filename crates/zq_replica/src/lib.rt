@@ -20,6 +20,7 @@ mod hearing;
 mod joining;
 mod logs;
 mod parcels;
+mod passing;
 mod protocol;
 mod pushing;
 mod raising;

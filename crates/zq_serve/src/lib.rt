@@ -31,7 +31,7 @@ mod worker;
 pub use admission::Admission;
 pub use client_acceptor::ClientAcceptor;
 pub use descriptors::most_clients;
-pub use fault::{Cause, ServeFault};
+pub use fault::{Cause, ServeFault, fault_of};
 pub use gate::{Gate, Pace};
 pub use hashing::draw_hasher;
 pub use inboxes::Inboxes;

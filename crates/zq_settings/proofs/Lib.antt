@@ -1,3 +1,4 @@
+pub mod AddressFaults
 pub mod Apart
 pub mod Broken
 pub mod Faults
@@ -5,6 +6,7 @@ pub mod HostBytes
 pub mod Meant
 pub mod MeantAccept
 pub mod MeantAddresses
+pub mod MeantAdmin
 pub mod MeantNumbers
 pub mod MeantPeers
 pub mod NamedTexts

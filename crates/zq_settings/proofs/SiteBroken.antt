@@ -1,27 +1,28 @@
 -- A table is refused as the settings of one site for a rule that it breaks.
+use Rattle.zq_settings.proofs.AddressFaults.{AddressFault, address_fault}
 use Rattle.zq_settings.proofs.Broken.{repeated}
 use Rattle.zq_settings.proofs.MeantAccept.{accept_fault}
+use Rattle.zq_settings.proofs.MeantAdmin.{admin_fault}
 use Rattle.zq_settings.proofs.Faults.{HasFault, by_steps, common_fault, count_listed, listed, number_fault, required_fault, rule_fault, unknown_fault}
 use Rattle.zq_settings.proofs.MeantAddresses.{secret_since}
 use Rattle.zq_settings.proofs.MeantNumbers.{required_since}
 use Rattle.zq_settings.proofs.MeantPeers.{each_since, peer_since}
 use Rattle.zq_settings.proofs.NamedTexts.{local_peer_from, peer_text_from, peer_text_since}
-use Rattle.zq_settings.proofs.Spelled.{address_since, loopback_from, no_address, no_ip}
+use Rattle.zq_settings.proofs.Spelled.{no_ip}
 use Rattle.zq_settings.proofs.Steps.{both_err, some_since, none_since, text_since, array_since, table_since}
 use Rattle.std.proofs.Common.{◌+◌, ◌≡◌, ◌⊎◌, ℕ, pos, Bool, true, false, eqb, ltb, List, [], ◌∷◌, ◌++◌, length, Option, Some, None, Result, Ok, Err, refl, sym, ap, ◌∙◌, inl, inr}
 use Rattle.std.proofs.lemmas.Bool.{cases_Bool, ltb-true, eqb-true}
 use Rattle.std.specs.Option.{is_some, ok_or}
-use Rattle.std.specs.declared.net.socket_addr.SocketAddr.{SocketAddr}
 use Rattle.toml.specs.Data.{Data, Items, no_items, item, Members, integer, string, array, as_array, as_str, as_table, table as subtable}
 use Rattle.toml.specs.View.{items_of}
-use Rattle.zq_settings.specs.Addresses.{IsLoopback, address_of, ip_of, is_local}
+use Rattle.zq_settings.specs.Addresses.{ip_of}
 use Rattle.zq_settings.specs.Breaks.{HasUnknown, IsNoPeerAddress}
 use Rattle.zq_settings.specs.PeerAddresses.{IsLocalPeer, is_local_peer, peer_address_of}
 use Rattle.zq_settings.specs.Peers.{sites_of}
 use Rattle.zq_settings.specs.Ports.{first_twice}
 use Rattle.zq_settings.specs.Settings.{common_of, count_of, each, known_keys, required_of, rule_of, site_of}
-use Rattle.zq_settings.specs.Site.{accept_of, address_at, alone_of, apart, bind_of, link_backlog_of, peer_address_at, peer_at, peer_of, peers_in, peers_of, secret_of, site_seed_of, unless_exposed, unless_far, unless_met, unless_own, unless_short}
-use Rattle.zq_settings.specs.SiteBreaks.{EachRefusalOfASiteIsOfABrokenRule, HasKey, HasPeer, HasTwice, IsExposed, SiteBreaks}
+use Rattle.zq_settings.specs.Site.{accept_of, address_at, admin_of, alone_of, apart, bind_of, drain_of, link_backlog_of, peer_address_at, peer_at, peer_of, peers_in, peers_of, secret_of, site_seed_of, unless_far, unless_met, unless_own, unless_short}
+use Rattle.zq_settings.specs.SiteBreaks.{EachRefusalOfASiteIsOfABrokenRule, HasKey, HasPeer, HasTwice, HasValue, IsExposed, SiteBreaks}
 use Rattle.zq_settings.specs.SiteRules.{AreEach, IsPeer}
 use Rattle.zq_settings.specs.Tables.{value_at}
 use Rattle.zq_settings.specs.declared.form.Form.TheVariants as form
@@ -40,36 +41,6 @@ fault_breaks table t key lift why (inr (same, has)) = rw same (lift _ has)
 missing_breaks : (table t : Members) (key : Key) (lift : (P : Members → Type 0) → P t → HasKey key P table) (why : Why) → ((why ≡ Missing key) × (value_at key t ≡ None)) ⊎ HasFault key t why → SiteBreaks table why
 missing_breaks table t key lift why (inl (same, none)) = rw same (lift _ none)
 missing_breaks table t key lift why (inr fault) = fault_breaks table t key lift why fault
-
--- an address that is not taken
-exposed_since : (secured : Bool) (key : Key) (a : SocketAddr) (why : Why) → unless_exposed secured key a ≡ Err why → (why ≡ Exposed key) × (secured ≡ false) × (is_local a ≡ false)
-exposed_since true key a why h = cc
-exposed_since false key a why h =
-    elim (cases_Bool (is_local a)) [
-      | inl local ↦ let never : Ok a ≡ Err why = rw local at h in cc
-      | inr other ↦ let same : why ≡ Exposed key = let there : Err (Exposed key) ≡ Err why = rw other at h in cc in (same, refl, other)
-    ]
-
-abbrev HasExposed : Key → Members → Type 0
-HasExposed key t = (value : Data) × (value_at key t ≡ Some value) × IsExposed key value
-
-abbrev AddressFault : Bool → Key → Members → Why → Type 0
-AddressFault secured key t why = (((why ≡ Missing key) × (value_at key t ≡ None)) ⊎ HasFault key t why) ⊎ ((why ≡ Exposed key) × (secured ≡ false) × HasExposed key t)
-
-listen_fault : (secured : Bool) (t : Members) (why : Why) (value : Option Data) → value_at key.Listen t ≡ value → address_at secured key.Listen value ≡ Err why → AddressFault secured key.Listen t why
-listen_fault secured t why None seen h = let same : why ≡ Missing key.Listen = cc in inl (inl (same, seen))
-listen_fault secured t why (Some d) seen last =
-    by_steps (ok_or (as_str d) (Kind key.Listen)) _ why (AddressFault secured key.Listen t why) (λ h.
-    let (none, same) = none_since (as_str d) (Kind key.Listen) why h in
-    inl (inr (inl (same, (d, seen, none))))) (λ text is_text.
-    let writes : d ≡ string text = text_since d text (some_since _ _ text is_text) in
-    by_steps (ok_or (address_of text) (Range key.Listen)) (unless_exposed secured key.Listen) why (AddressFault secured key.Listen t why) (λ h.
-    let (none, same) = none_since (address_of text) (Range key.Listen) why h in
-    inl (inr (inr (same, (d, seen, (text, writes, no_address text none)))))) (λ a written h.
-    let (same, bare, other) = exposed_since secured key.Listen a why h in
-    let spells = (address_since text a (some_since _ _ a written)).0 in
-    let far : ¬ IsLoopback a = λ loop. let never : true ≡ false = sym (loopback_from a loop) ∙ other in cc in
-    inr (same, bare, (d, seen, (text, a, writes, spells, far))))) last
 
 -- the address of a peer that is not taken
 far_since : (secured : Bool) (a : PeerAddress) (why : Why) → unless_far secured a ≡ Err why → (why ≡ Exposed key.PeerAddress) × (secured ≡ false) × (is_local_peer a ≡ false)
@@ -100,10 +71,10 @@ peer_address_fault secured t why (Some d) seen last =
     let far : ¬ IsLocalPeer a = λ local. let never : true ≡ false = sym (local_peer_from a local) ∙ other in cc in
     inr (same, bare, (d, seen, (text, a, writes, spells, far))))) last
 
-address_breaks : (table t : Members) (at : Key) (lift : (P : Members → Type 0) → P t → HasKey at P table) (secured : Bool) → (secured ≡ false → value_at key.Secret table ≡ None)
+address_breaks : (table t : Members) (at : Key) (lift : (P : Members → Type 0) → P t → HasKey at P table) (secured : Bool) → (secured ≡ false → HasValue at (IsExposed at) table → SiteBreaks table (Exposed at))
     → (why : Why) → AddressFault secured at t why → SiteBreaks table why
-address_breaks table t at lift secured bare why (inl fault) = missing_breaks table t at lift why fault
-address_breaks table t at lift secured bare why (inr (same, none, has)) = rw same (bare none, lift _ has)
+address_breaks table t at lift secured breaks why (inl fault) = missing_breaks table t at lift why fault
+address_breaks table t at lift secured breaks why (inr (same, none, has)) = rw same (breaks none (lift _ has))
 
 -- the address of clients, and the secret
 bind_fault : (table : Members) (why : Why) (value : Option Data) → value_at key.Bind table ≡ value → bind_of value ≡ Err why → HasFault key.Bind table why
@@ -152,7 +123,7 @@ peer_table_breaks table t lift own secured site bare why =
     let (same, is_own) = own_since own number why h in
     let says = (required_since key.PeerSite 0 63 number _ number_read).0 in
     rw same (site ∙ ap (λ n. Some (integer (pos n))) (sym is_own), lift (λ peer. value_at key.PeerSite peer ≡ Some (integer (pos number))) says)) (λ other _.
-    by_steps (peer_address_at secured (value_at key.PeerAddress t)) _ why P (λ h. address_breaks table t key.PeerAddress lift secured bare why (peer_address_fault secured t why _ refl h)) (λ address _ wrong. cc))))
+    by_steps (peer_address_at secured (value_at key.PeerAddress t)) _ why P (λ h. address_breaks table t key.PeerAddress lift secured (λ none has. (bare none, has)) why (peer_address_fault secured t why _ refl h)) (λ address _ wrong. cc))))
 
 peer_breaks : (table : Members) (before : List Data) (entry : Data) (others : List Data) (own : ℕ) (secured : Bool) → value_at key.Peers table ≡ Some (array (items_of (before ++ entry ∷ others)))
     → value_at key.Site table ≡ Some (integer (pos own)) → (secured ≡ false → value_at key.Secret table ≡ None) → (why : Why) → peer_of own secured entry ≡ Err why → SiteBreaks table why
@@ -275,7 +246,8 @@ each_refusal_of_a_site_is_of_a_broken_rule table why =
     by_steps (bind_of (value_at key.Bind table)) _ why P (λ h. fault_breaks table table key.Bind (λ Q q. q) why (bind_fault table why _ refl h)) (λ bind _.
     by_steps (secret_of (value_at key.Secret table)) _ why P (λ h. fault_breaks table table key.Secret (λ Q q. q) why (secret_fault table why _ refl h)) (λ secret secret_read.
     by_steps (address_at (is_some secret) key.Listen (value_at key.Listen table)) _ why P
-    (λ h. address_breaks table table key.Listen (λ Q q. q) (is_some secret) (no_secret secret _ secret_read) why (listen_fault (is_some secret) table why _ refl h)) (λ listen _.
+    (λ h. address_breaks table table key.Listen (λ Q q. q) (is_some secret) (λ none has. (no_secret secret _ secret_read none, has)) why
+    (address_fault (is_some secret) key.Listen table (λ d none. none) (λ d out. out) (λ d far. far) why _ refl h)) (λ listen _.
     by_steps (peers_of site (is_some secret) (value_at key.Peers table)) _ why P (peers_break site secret table (required_since key.Site 0 63 site _ site_read).0 (no_secret secret _ secret_read) why _ refl) (λ peers _.
     by_steps (common_of table) _ why P
     (common_fault table why P (fault_breaks table table key.Heaps (λ Q q. q) why) (fault_breaks table table key.Workers (λ Q q. q) why) (fault_breaks table table key.Connections (λ Q q. q) why)
@@ -286,6 +258,9 @@ each_refusal_of_a_site_is_of_a_broken_rule table why =
     by_steps (alone_of (value_at key.Alone table)) _ why P
     (λ h. fault_breaks table table key.Alone (λ Q q. q) why (number_fault table key.Alone 0 1000000 10 (λ d none. none) (λ d out. out) why _ refl h)) (λ alone _.
     by_steps (accept_of (value_at key.Accept table)) _ why P (λ h. fault_breaks table table key.Accept (λ Q q. q) why (accept_fault table why _ refl h)) (λ accept _.
+    by_steps (admin_of (value_at key.Admin table)) _ why P (λ h. address_breaks table table key.Admin (λ Q q. q) false (λ none has. has) why (admin_fault table why _ refl h)) (λ admin _.
+    by_steps (drain_of (value_at key.Drain table)) _ why P
+    (λ h. fault_breaks table table key.Drain (λ Q q. q) why (number_fault table key.Drain 0 1000000 10 (λ d none. none) (λ d out. out) why _ refl h)) (λ drain _.
     by_steps (site_seed_of site (value_at key.Seed table)) _ why P
     (λ h. fault_breaks table table key.Seed (λ Q q. q) why (number_fault table key.Seed 0 9223372036854775807 (site + 1) (λ d none. none) (λ d out. out) why _ refl h)) (λ seed _.
-    by_steps (rule_of (value_at key.Rule table)) _ why P (λ h. fault_breaks table table key.Rule (λ Q q. q) why (rule_fault table why _ refl h)) (λ rule _ wrong. cc)))))))))))))
+    by_steps (rule_of (value_at key.Rule table)) _ why P (λ h. fault_breaks table table key.Rule (λ Q q. q) why (rule_fault table why _ refl h)) (λ rule _ wrong. cc)))))))))))))))

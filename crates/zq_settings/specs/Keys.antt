@@ -20,6 +20,8 @@ name_of key.Output = codes "output"
 name_of key.LinkBacklog = codes "link_backlog"
 name_of key.Alone = codes "alone"
 name_of key.Accept = codes "accept"
+name_of key.Admin = codes "admin"
+name_of key.Drain = codes "drain"
 name_of key.Seed = codes "seed"
 name_of key.Rule = codes "rule"
 name_of key.Site = codes "site"
@@ -39,7 +41,7 @@ keys_of form.Sites =
 keys_of form.Site =
     key.Site ∷ key.Port ∷ key.Bind ∷ key.Secret ∷ key.Listen ∷ key.Peers ∷ key.Heaps ∷ key.Workers
     ∷ key.Connections ∷ key.Clients ∷ key.Timeout ∷ key.WriteTimeout ∷ key.Output ∷ key.LinkBacklog
-    ∷ key.Alone ∷ key.Accept ∷ key.Seed ∷ key.Rule ∷ []
+    ∷ key.Alone ∷ key.Accept ∷ key.Admin ∷ key.Drain ∷ key.Seed ∷ key.Rule ∷ []
 keys_of form.Peer = key.PeerSite ∷ key.PeerAddress ∷ []
 
 -- one of the keys of such a table has this name

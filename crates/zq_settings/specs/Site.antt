@@ -1,5 +1,5 @@
 -- The settings of one site that a table has, or the first rule that it breaks.
-use Rattle.std.specs.Prelude.{ℕ, ◌+◌, ◌==◌, nat_lt, ◌||◌, Bool, List, [], length, Option, Some, None, Result, Ok, Err, if◌then◌else◌, option_map}
+use Rattle.std.specs.Prelude.{ℕ, ◌+◌, ◌==◌, nat_lt, ◌||◌, Bool, false, List, [], length, Option, Some, None, Result, Ok, Err, if◌then◌else◌, option_map}
 use Rattle.std.specs.Option.{is_some, ok_or}
 use Rattle.std.specs.declared.net.ip_addr.IpAddr.{IpAddr}
 use Rattle.std.specs.declared.net.socket_addr.SocketAddr.{SocketAddr}
@@ -115,6 +115,15 @@ accept_of None = Ok Any
 accept_of (Some value) = ok_or (as_str value) (Kind key.Accept) >>=
     (λ word. ok_or (accept_named word) (Range key.Accept))
 
+-- where the admin port is, a loopback address as without a secret, and none where there is no value
+abbrev pub admin_of : Option Data → Result (Option SocketAddr) Why
+admin_of None = Ok None
+admin_of (Some value) = address_at false key.Admin (Some value) >>= (λ address. Ok (Some address))
+
+-- how many seconds a site that ends waits for its peers, and 10 where there is no value
+abbrev pub drain_of : Option Data → Result ℕ Why
+drain_of value = number_of key.Drain 0 1000000 10 value
+
 -- what the draws of a site are made with, and its number and 1 where there is no value
 abbrev pub site_seed_of : ℕ → Option Data → Result ℕ Why
 site_seed_of site value = number_of key.Seed 0 9223372036854775807 (site + 1) value
@@ -132,6 +141,8 @@ site_values_of table =
     link_backlog_of (value_at key.LinkBacklog table) >>= (λ link_backlog.
     alone_of (value_at key.Alone table) >>= (λ alone.
     accept_of (value_at key.Accept table) >>= (λ accept.
+    admin_of (value_at key.Admin table) >>= (λ admin.
+    drain_of (value_at key.Drain table) >>= (λ drain.
     site_seed_of site (value_at key.Seed table) >>= (λ seed.
     rule_of (value_at key.Rule table) >>= (λ rule.
     Ok (record {
@@ -148,9 +159,11 @@ site_values_of table =
       link_backlog = link_backlog;
       alone = alone;
       accept = accept;
+      admin = admin;
+      drain = drain;
       seed = seed;
       secret = secret;
-    })))))))))))))
+    })))))))))))))))
 
 -- the settings that a table has, or the first rule that it breaks
 abbrev pub site_settings_of : Members → Result SiteSettings Why

@@ -50,7 +50,8 @@ IsExposed key.PeerAddress value = (text : List ℕ) × (address : PeerAddress)
 IsExposed key value = (text : List ℕ) × (address : SocketAddr) × (value ≡ string text)
     × IsSocketText text address × ¬ IsLoopback address
 
--- the rule that is broken, apart from the order of rules
+-- the rule that is broken, apart from the order of rules; where `admin` is exposed, with a secret
+-- too
 abbrev pub SiteBreaks : Members → Why → Type 0
 SiteBreaks table (Unknown form.Site name) = HasUnknown form.Site name table
 SiteBreaks table (Unknown form.Peer name) = HasPeer (HasUnknown form.Peer name) table
@@ -63,6 +64,7 @@ SiteBreaks table (Range key) = HasValue key (IsOutOfRange key) table
 SiteBreaks table (PeerTwice site) = HasTwice site table
 SiteBreaks table (OwnPeer site) = (value_at key.Site table ≡ Some (integer (pos site)))
     × HasPeer (λ peer. value_at key.PeerSite peer ≡ Some (integer (pos site))) table
+SiteBreaks table (Exposed key.Admin) = HasValue key.Admin (IsExposed key.Admin) table
 SiteBreaks table (Exposed address) = (value_at key.Secret table ≡ None)
     × HasValue address (IsExposed address) table
 SiteBreaks table _ = ⊥

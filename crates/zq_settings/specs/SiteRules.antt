@@ -81,6 +81,14 @@ abbrev pub IsAccept : Option Data → Accept → Type 0
 IsAccept value accept = ((value ≡ None) × (accept ≡ Any))
     ⊎ (value ≡ Some (string (accept_word accept)))
 
+-- there is neither a value nor an address, or the value is a text that writes the address, which is
+-- a loopback address with a port that is not 0
+abbrev pub IsAdmin : Option Data → Option SocketAddr → Type 0
+IsAdmin value admin = ((value ≡ None) × (admin ≡ None))
+    ⊎ ((text : List ℕ) × (address : SocketAddr) × (value ≡ Some (string text))
+    × IsSocketText text address × (1 ≤ socket_port address) × IsLoopback address
+    × (admin ≡ Some address))
+
 -- each key of the table is known, and each value is as its key wants it
 pub record IsSiteSettings (table : Members) (settings : SiteSettings) : Type 0 where
   pub known : All (λ name. IsTrue (is_known form.Site name)) (names_in table)
@@ -98,6 +106,8 @@ pub record IsSiteSettings (table : Members) (settings : SiteSettings) : Type 0 w
       settings.link_backlog
   pub alone : IsNumber 0 1000000 10 (value_at key.Alone table) settings.alone
   pub accept : IsAccept (value_at key.Accept table) settings.accept
+  pub admin : IsAdmin (value_at key.Admin table) settings.admin
+  pub drain : IsNumber 0 1000000 10 (value_at key.Drain table) settings.drain
   pub seed : IsNumber 0 9223372036854775807 (settings.site + 1) (value_at key.Seed table)
       settings.seed
   pub rule : IsRule (value_at key.Rule table) settings.rule

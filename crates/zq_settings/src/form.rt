@@ -36,7 +36,7 @@ impl Form {
                 "settings, which are ports, heaps, workers, connections, clients, timeout, write_timeout, output, seed and rule"
             }
             Form::Site => {
-                "a site's settings, which are site, port, bind, secret, listen, peers, heaps, workers, connections, clients, timeout, write_timeout, output, link_backlog, alone, accept, seed and rule"
+                "a site's settings, which are site, port, bind, secret, listen, peers, heaps, workers, connections, clients, timeout, write_timeout, output, link_backlog, alone, accept, admin, drain, seed and rule"
             }
             Form::Peer => "a peer, which are site and address",
         }
@@ -84,6 +84,8 @@ fn is_key_of_site(name: &str) -> bool
             | "link_backlog"
             | "alone"
             | "accept"
+            | "admin"
+            | "drain"
             | "seed"
             | "rule"
     )

@@ -29,6 +29,10 @@ pub enum Key {
     Alone,
     /// Which sites of greater numbers the one site accepts.
     Accept,
+    /// Where the admin port of the one site is.
+    Admin,
+    /// How long the one site waits, as it is told to end, until its peers have what it made.
+    Drain,
     /// What draws are made with.
     Seed,
     /// Which of a member's values is its score.
@@ -68,6 +72,8 @@ impl Key {
             Key::LinkBacklog => "link_backlog",
             Key::Alone => "alone",
             Key::Accept => "accept",
+            Key::Admin => "admin",
+            Key::Drain => "drain",
             Key::Seed => "seed",
             Key::Rule => "rule",
             Key::Site | Key::PeerSite => "site",
@@ -98,7 +104,7 @@ impl Key {
             Key::Ports => "an array of 1 to 64 different port numbers from 1 to 65535",
             Key::Heaps => "a whole number from 2 to 16",
             Key::Workers => "a whole number from 1 to 64",
-            Key::Connections | Key::Timeout | Key::WriteTimeout | Key::Alone => {
+            Key::Connections | Key::Timeout | Key::WriteTimeout | Key::Alone | Key::Drain => {
                 "a whole number from 0 to 1000000"
             }
             Key::Clients => "a whole number from 1 to 1000000",
@@ -106,6 +112,7 @@ impl Key {
             Key::Seed => "a whole number from 0 to 9223372036854775807",
             Key::Rule => "\"HIGH\" or \"LOW\"",
             Key::Accept => "\"any\" or \"listed\"",
+            Key::Admin => "a loopback address with a port from 1 to 65535, as \"127.0.0.1:7180\"",
             Key::Site | Key::PeerSite => "a whole number from 0 to 63",
             Key::Port => "a whole number from 1 to 65535",
             Key::Bind => "an IP address, as \"127.0.0.1\"",
@@ -118,7 +125,8 @@ impl Key {
         }
     }
 
-    /// That the key's address is open to others, and what it takes without a secret, in words.
+    /// That the key's address is open to others, and what it takes, in words: `admin` a loopback
+    /// address, the others one where there is no secret.
     pub(crate) fn exposed(self) -> &'static str
         ensures { result.now ≡ exposed_of self }
     {
@@ -126,6 +134,7 @@ impl Key {
             Key::PeerAddress => {
                 "neither a loopback address nor localhost: without a secret of at least 16 bytes it takes one of these"
             }
+            Key::Admin => "no loopback address: it takes one",
             _ => "no loopback address: without a secret of at least 16 bytes it takes one",
         }
     }

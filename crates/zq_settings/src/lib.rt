@@ -5,6 +5,7 @@
 mod accept;
 mod accepting;
 mod address;
+mod admin;
 mod common;
 mod entries;
 mod fault;

@@ -58,11 +58,14 @@ pub fn settings(alloc: Global, text: &str) -> Result<Settings, SettingsFault>
 /// | `link_backlog` | 1048576 to 1099511627776 | 67108864 |
 /// | `alone` | 0 to 1000000 | 10 |
 /// | `accept` | `"any"` or `"listed"` | `"any"` |
+/// | `admin` | where its admin port is: a loopback address with a port that is not 0, as `"127.0.0.1:7180"` | there is none |
+/// | `drain` | 0 to 1000000 | 10 |
 /// | `seed` | 0 to 9223372036854775807 | the site's number and 1 |
 /// | `heaps`, `connections`, `clients`, `timeout`, `write_timeout`, `output`, `rule` | as of [`settings`] | as of [`settings`] |
 ///
 /// No two peers have the same number. Where there is no `secret`, `listen` is a loopback address,
-/// and so is each peer's `address`, or it has the name `localhost`.
+/// and so is each peer's `address`, or it has the name `localhost`. `admin` is a loopback address
+/// with a secret too.
 ///
 /// # Errors
 ///

@@ -10,6 +10,7 @@ ghost use Rattle.zq_settings.specs.Texts.{Reads};
 
 use crate::accepting::read_accept;
 use crate::address::{read_address, read_bind};
+use crate::admin::read_admin;
 use crate::common::{read_common, read_rule, read_seed};
 use crate::entries::read_ports;
 use crate::fault::SettingsFault;
@@ -72,6 +73,8 @@ fn read_site_values(alloc: Global, table: &Table) -> Result<SiteSettings, Settin
     let link_backlog = read_number(table, Key::LinkBacklog, Within::of(67_108_864))?;
     let alone = read_number(table, Key::Alone, Within::of(10))?;
     let accept = read_accept(table)?;
+    let admin = read_admin(table)?;
+    let drain = read_number(table, Key::Drain, Within::of(10))?;
     let seed = read_number(table, Key::Seed, seed_of_site(site))?;
     let rule = read_rule(table)?;
     Ok(SiteSettings {
@@ -88,6 +91,8 @@ fn read_site_values(alloc: Global, table: &Table) -> Result<SiteSettings, Settin
         link_backlog,
         alone,
         accept,
+        admin,
+        drain,
         seed,
         secret,
     })

@@ -96,6 +96,12 @@ pub struct SiteSettings {
     pub alone: Seconds,
     /// Which sites of greater numbers it accepts.
     pub accept: Accept,
+    /// Where its admin port is: a loopback address with a port that is not 0, whether or not there
+    /// is a secret. With `None` it has none.
+    pub admin: Option<SocketAddr>,
+    /// How many seconds it waits at most, as it is told to end, until its peers have what it made.
+    /// With 0 it does not wait.
+    pub drain: Seconds,
     /// What each worker's draws are made with.
     pub seed: Seed,
     /// What it shares with its peers, to know them by. With `None` whoever comes is believed.

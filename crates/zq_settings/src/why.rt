@@ -17,9 +17,9 @@ use zq_dots::SiteNo;
 /// other keys, and then the rules of its keys. Of several sites these are `ports`, `heaps`,
 /// `workers`, `connections`, `clients`, `timeout`, `write_timeout`, `output`, `seed` and `rule`, in
 /// this order. Of one site they are `site`, `port`, `bind`, `secret`, `listen`, `peers`, and then
-/// `heaps` and the others, with `link_backlog`, `alone` and `accept` after `output`. The entries of
-/// `peers` come one by one: that it is a table, that it has no other keys, then the rules of its
-/// `site` and of its `address`.
+/// `heaps` and the others, with `link_backlog`, `alone`, `accept`, `admin` and `drain` after
+/// `output`. The entries of `peers` come one by one: that it is a table, that it has no other keys,
+/// then the rules of its `site` and of its `address`.
 #[derive(Debug, Drop)]
 pub enum Why {
     /// The text is not TOML.
@@ -50,7 +50,7 @@ pub enum Why {
     /// A peer has this number, which is the site's own.
     OwnPeer(SiteNo),
     /// The address at the key is no loopback address, nor of a peer `localhost`, and there is no
-    /// secret.
+    /// secret. At `admin` there may be one.
     Exposed(Key),
 }
 

@@ -21,3 +21,4 @@ pub mod Runs
 pub mod Standings
 pub mod Beginnings
 pub mod Endings
+pub mod Fronts

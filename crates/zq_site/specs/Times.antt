@@ -2,7 +2,7 @@
 
 use Rattle.std.specs.Prelude.{Bool, List, length, nat_lt, ℕ, ◌*◌, ◌+◌, ◌^◌}
 
-abbrev seconds : ℕ → ℕ
+abbrev pub seconds : ℕ → ℕ
 seconds n = n * 1_000_000_000
 
 -- a dialled peer may take so long to accept, and a peer to open a link

@@ -83,6 +83,7 @@ impl Beginning {
             waits: shared.admission.waits(),
         };
         self.progress = next_progress(progress, sight);
+        shared.front.show(self.progress.stage);
         let deed = deed_next(progress, sight, shared.settings.alone.value());
         self.carry_out(log, shared, replica, deed);
     }

@@ -13,6 +13,7 @@
 #![tactic(auto)]
 
 mod accepting;
+mod administering;
 mod announcing;
 mod beginning;
 mod caller;
@@ -20,6 +21,7 @@ mod dialing;
 mod draining;
 mod ending;
 mod frame_queue;
+mod front;
 mod halt;
 mod hasty;
 mod heartbeat;

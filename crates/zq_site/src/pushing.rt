@@ -118,7 +118,26 @@ fn serve<L: Log + Wait>(
     let peers = with_room(log, shared);
     let more = replica.push(log, shared.alloc, node, &peers, &mut out);
     post_all(log, shared, out);
+    if shared.front.leaves() {
+        tell_passed_on(log, shared, node, replica);
+    }
     more.unwrap_or(false)
+}
+
+/// Tells the site, which serves no client any more, where its peers have what it made.
+fn tell_passed_on<L: Log + Wait>(
+    log: &L,
+    shared: Shared<'_>,
+    node: &mut Node<'_>,
+    replica: &mut Replica<'_>,
+)
+    requires { IsNode node.old }
+    ensures node { IsNode node.new }
+    ensures home { IsSameHome node.old node.new }
+{
+    if !replica.is_ahead(log, node).unwrap_or(true) {
+        shared.front.pass_on(log);
+    }
 }
 
 /// Does what a second asks for, where one has gone by.

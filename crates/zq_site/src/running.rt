@@ -4,6 +4,7 @@ ghost use Rattle.std.specs.Prelude.{◌≡◌};
 ghost use Rattle.zq_site.specs.Site.{acceptors_for};
 
 use crate::accepting::accept_peers;
+use crate::administering::{pass_on, serve_admin};
 use crate::dialing::dial_line;
 use crate::draining::Draining;
 use crate::hired::hire_all;
@@ -19,6 +20,7 @@ use std::sync::Wait;
 use std::thread;
 use std::thread::Threads;
 use std::time::Clock;
+use zq_admin::AdminPort;
 use zq_loop::Port;
 use zq_posheap::Seeded;
 use zq_serve::{Cause, ClientThreads, Inboxes, Linker, ServeFault, SiteThreads, run_clients};
@@ -38,9 +40,10 @@ pub struct Seeds {
 
 /// Runs the threads of a site: its link thread, what takes what calls make into the logs, what
 /// tells of each second, what dials each peer of a smaller number, what accepts peers, what starts
-/// more threads as links come, and what serves clients. When all clients are served the site ends:
-/// the threads of its links are told to halt, and then the link thread to stop, and all are waited
-/// for.
+/// more threads as links come, what answers at the admin port, if there is one, and what serves
+/// clients. When all clients are served the site ends: where it was told to end it waits until its
+/// peers have what it made; the threads of its links are told to halt, and then the link thread to
+/// stop, and all are waited for.
 ///
 /// `Device` where a thread did not start. Then no client is served.
 pub fn run_site<N, L>(
@@ -50,6 +53,7 @@ pub fn run_site<N, L>(
     listener: &PeerListener,
     threads: SiteThreads<'_, '_>,
     drainers: Vec<Linker<'_, '_>>,
+    admin: Option<AdminPort>,
     seeds: Seeds,
 ) -> Result<(), ServeFault>
 where
@@ -105,9 +109,20 @@ where
                 }
             }
         }
+        if let Some(admin) = admin
+            && ended.is_ok()
+            && scope
+                .spawn(move || serve_admin(log, shared, port, admin))
+                .is_err()
+        {
+            ended = Err(ServeFault::Device(Cause::Thread));
+        }
         if ended.is_ok() {
             let inboxes = Inboxes::One(shared.mailbox, shared.gate, shared.admission);
             ended = run_clients(log, shared.alloc, clients, inboxes, seeds.draws);
+        }
+        if shared.front.stops() && !shared.admission.is_fenced() {
+            pass_on(log, shared);
         }
         shared.halt_all(log);
         shared.hiring.stop(log);

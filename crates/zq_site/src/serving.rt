@@ -10,8 +10,10 @@ ghost use Rattle.zq_session.specs.LentSites.{IsLentBy};
 ghost use Rattle.zq_session.specs.declared.site_plan.SitePlan.{SitePlan as Plans};
 ghost use Rattle.zq_site.specs.Site.{IsPlanOf, ended_by};
 
+use crate::administering::open_admin;
 use crate::announcing::announce;
 use crate::ending::Ending;
+use crate::front::Front;
 use crate::halt::Halt;
 use crate::hiring::Hiring;
 use crate::opening::draw_run;
@@ -46,6 +48,9 @@ const MOST_WORKERS: usize = 4;
 // what is not in them yet.
 const MOST_TAIL: u64 = 1_048_576;
 
+// How many descriptors an admin port takes at most.
+const ADMIN_CONNECTIONS: u64 = 36;
+
 /// Serves the site of the settings in this process: the connections of its port by `workers`
 /// threads, as `zq_serve::serve` does. When it listens on its port and for its peers it writes
 /// `site N port P peers A` to `out`, and only then accepts. It ends when the port has accepted and
@@ -65,6 +70,10 @@ const MOST_TAIL: u64 = 1_048_576;
 /// are done and the system has looked up the names that it is looking up. After each call of a
 /// connection the peers are told what the site has, and those that lack something are sent it. A
 /// link over which nothing came for 20 seconds is given up.
+///
+/// Where the settings have an admin port the site says there how ready it is. Told so there it takes
+/// no connection any more, answers what was read, waits until its peers have what it made, for as
+/// many seconds as `drain` says, and ends.
 ///
 /// What goes wrong at a connection, with a peer or on a link ends that alone, and is warned of in
 /// the log. The log's own handle does not connect within a time, so the net is passed beside it.
@@ -177,10 +186,12 @@ where
     let gate = Gate::new();
     let post = Post::new(alloc);
     let run = draw_run(log)?;
+    let admin = open_admin(net, log, alloc, settings.admin)?;
     announce(settings, out)?;
     let number = u64::from(settings.site.value());
     warn_few(log, number, settings.limits.clients, most);
     let halt = Halt::new();
+    let front = Front::new();
     let hiring = Hiring::new(alloc, acceptors(dialers.len()));
     let waits = settings.alone.value() > 0 && !link.others.is_empty();
     let admission = Admission::new(settings.site, waits);
@@ -198,12 +209,13 @@ where
         post: &post,
         halt: &halt,
         ending,
+        front: &front,
     };
     let seeds = Seeds {
         hasher,
         draws: settings.seed.value(),
     };
-    let ended = run_site(net, log, shared, &listener, threads, drainers, seeds);
+    let ended = run_site(net, log, shared, &listener, threads, drainers, admin, seeds);
     ended_by(admission.is_fenced(), ended)
 }
 
@@ -220,11 +232,17 @@ fn ended_by(is_fenced: bool, ended: Result<(), ServeFault>) -> Result<(), ServeF
 
 /// How many connections the site's links take at most, where so many sites may have one: one or an
 /// older one for each of these, for each peer of the settings another that is dialled or that comes
-/// and its older one, and the address where peers come.
+/// and its older one, and the address where peers come; and those of its admin port.
 fn links_of(settings: &SiteSettings, others: usize) -> u64 {
     let peers = settings.peers.as_slice().len() as u64;
     let all = peers.saturating_add(others as u64);
-    all.saturating_mul(2).saturating_add(2)
+    let asked = match settings.admin {
+        Some(_) => ADMIN_CONNECTIONS,
+        None => 0,
+    };
+    all.saturating_mul(2)
+        .saturating_add(2)
+        .saturating_add(asked)
 }
 
 /// So many workers as are given, and where none are as many as there are processors, 4 at most.

@@ -1,6 +1,7 @@
 //! What the threads of a site's links share.
 
 use crate::ending::Ending;
+use crate::front::Front;
 use crate::halt::Halt;
 use crate::hiring::Hiring;
 use crate::peer_link::PeerLink;
@@ -39,6 +40,8 @@ pub struct Shared<'a> {
     pub halt: &'a Halt,
     /// Where who waits for the site is told how it ends.
     pub ending: &'a Ending,
+    /// What is shown of the site, and how it is told to end.
+    pub front: &'a Front,
 }
 
 impl Shared<'_> {

@@ -104,6 +104,13 @@ pub fn leaving() -> Duration
     Duration::from_millis(700)
 }
 
+/// How long a site that was told to end waits for its peers: so many seconds.
+pub fn draining(seconds: u64) -> Duration
+    ensures { as_nanos result ≡ wanted.seconds seconds }
+{
+    Duration::from_secs(seconds)
+}
+
 /// The most bytes of a frame: a gibibyte. A state has some forty bytes and a member's text for each
 /// addition, so that some ten million members of a heap fit. A greater number is no length that a
 /// peer would send: it would cost the memory of as many bytes as come.

@@ -52,6 +52,18 @@ pub fn note_accepted<L: Log>(log: &L, site: SiteNo, caller: Caller) {
     info!(log; "site {site} is accepted by {caller} again");
 }
 
+/// Writes to the log that a site was told to end.
+pub fn note_stopping<L: Log>(log: &L, site: SiteNo) {
+    let site = site.value();
+    info!(log; "site {site} is told to end");
+}
+
+/// Writes to the log that a site ends before its peers have what it made.
+pub fn warn_left<L: Log>(log: &L, site: SiteNo) {
+    let site = site.value();
+    warn!(log; "site {site} ends, and a peer lacks something that it made");
+}
+
 /// Writes to the log that a site has what its peers had as it went to work.
 pub fn note_caught_up<L: Log>(log: &L, site: SiteNo) {
     let site = site.value();

@@ -1,6 +1,6 @@
 -- What the words of a command line ask for.
 
-use Rattle.zqueue.specs.declared.asked.Command.TheVariants.{Drill, Pipe, Serve, Site}
+use Rattle.zqueue.specs.declared.asked.Command.TheVariants.{Drill, Pipe, Serve, Site, Status, Stop}
 use Rattle.zqueue.specs.declared.asked.Command.{Command}
 use Rattle.std.specs.Prelude.{List, None, Option, Some, [], codes, ℕ, ◌∷◌, ◌≡◌, ◌≤◌}
 use Rattle.std.specs.Str.Parse.{IsNumeral, digits_value}
@@ -31,6 +31,8 @@ abbrev pub Names : List ℕ → List (List ℕ) → Command → Type 0
 Names name rest Pipe = (name ≡ codes "pipe") × (rest ≡ [])
 Names name rest (Serve path) = (name ≡ codes "serve") × (rest ≡ path.bytes.items ∷ [])
 Names name rest (Site path) = (name ≡ codes "site") × (rest ≡ path.bytes.items ∷ [])
+Names name rest (Stop path) = (name ≡ codes "stop") × (rest ≡ path.bytes.items ∷ [])
+Names name rest (Status path) = (name ≡ codes "status") × (rest ≡ path.bytes.items ∷ [])
 Names name rest (Drill seed rounds) = (name ≡ codes "drill") × AreNumbers rest seed rounds
 
 -- what these words ask for, where they ask for anything

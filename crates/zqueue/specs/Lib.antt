@@ -1,3 +1,4 @@
 pub mod Refusal
 pub mod Configured
 pub mod Asked
+pub mod Told

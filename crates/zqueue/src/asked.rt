@@ -19,6 +19,10 @@ pub enum Command {
     Serve(String),
     /// To serve the one site of the settings file of this name.
     Site(String),
+    /// To end the site of the settings file of this name.
+    Stop(String),
+    /// To say how ready the site of the settings file of this name is.
+    Status(String),
     /// To drill three sites by a seed, each called so many times.
     Drill { seed: u64, rounds: u32 },
 }
@@ -63,6 +67,14 @@ fn named(alloc: Global, name: &str, rest: &[String]) -> Result<Option<Command>, 
         ("site", [path]) => {
             let path = String::from_str(alloc, path.as_str())?;
             Ok(Some(Command::Site(path)))
+        }
+        ("stop", [path]) => {
+            let path = String::from_str(alloc, path.as_str())?;
+            Ok(Some(Command::Stop(path)))
+        }
+        ("status", [path]) => {
+            let path = String::from_str(alloc, path.as_str())?;
+            Ok(Some(Command::Status(path)))
         }
         ("drill", [seed, rounds]) => Ok(drill_of(seed.as_str(), rounds.as_str())),
         _ => Ok(None),

@@ -1,6 +1,7 @@
 //! The program zqueue: a replicated priority queue that speaks the protocol of Redis.
 #![tactic(auto)]
 
+mod administering;
 mod asked;
 mod configured;
 mod drilling;
@@ -14,6 +15,7 @@ mod site_thread;
 #[cfg(test)]
 mod tests;
 
+use administering::{status_file, stop_file};
 use asked::{Command, asked};
 use drilling::drill_out;
 use piping::pipe;
@@ -31,6 +33,8 @@ const HELP: &str = "usage:
   zqueue pipe         reads requests on standard input and writes their replies on standard output
   zqueue serve FILE   serves the sites of a settings file, each on a port of its own on loopback
   zqueue site FILE    serves the one site of a settings file, and links it to its peers in other processes
+  zqueue stop FILE    has the site of a settings file end, by its admin port, and waits until it has
+  zqueue status FILE  says how ready the site of a settings file is, by its admin port
   zqueue drill SEED ROUNDS
                       drills three sites over links that fail, and writes whether they end equal
 README.md says what each of them does, and docs/COMMANDS.md what clients can send.";
@@ -45,6 +49,14 @@ fn main(rt: HostRuntime) -> ExitCode {
         Ok(Some(Command::Site(path))) => {
             let served = serve_site_file(rt, rt.alloc(), path.as_str());
             conclude(served, &mut io::writer(&rt))
+        }
+        Ok(Some(Command::Stop(path))) => {
+            let stopped = stop_file(&rt, rt.alloc(), path.as_str());
+            conclude(stopped, &mut io::writer(&rt))
+        }
+        Ok(Some(Command::Status(path))) => {
+            let told = status_file(&rt, rt.alloc(), path.as_str());
+            conclude(told, &mut io::writer(&rt))
         }
         Ok(Some(Command::Drill { seed, rounds })) => {
             drill_out(&rt, rt.alloc(), seed, rounds, &mut io::writer(&rt))

@@ -52,13 +52,15 @@ fn words_of(command: &Option<Command>) -> (&str, &str) {
         Some(Command::Pipe) => ("pipe", ""),
         Some(Command::Serve(path)) => ("serve", path.as_str()),
         Some(Command::Site(path)) => ("site", path.as_str()),
+        Some(Command::Stop(path)) => ("stop", path.as_str()),
+        Some(Command::Status(path)) => ("status", path.as_str()),
         Some(Command::Drill { .. }) => ("drill", ""),
     }
 }
 
 #[test]
 fn a_command_has_its_words_and_no_others(rt: HostRuntime) -> Result<(), Fail> {
-    let rows: [(&[&[u8]], (&str, &str)); 13] = [
+    let rows: [(&[&[u8]], (&str, &str)); 16] = [
         (&[b"zqueue", b"pipe"], ("pipe", "")),
         (&[b"zqueue"], ("none", "")),
         (&[b"zqueue", b"PIPE"], ("none", "")),
@@ -72,6 +74,12 @@ fn a_command_has_its_words_and_no_others(rt: HostRuntime) -> Result<(), Fail> {
         (&[b"zqueue", b"site"], ("none", "")),
         (&[b"zqueue", b"site", b"a", b"b"], ("none", "")),
         (&[b"zqueue", b"sites", b"three.toml"], ("none", "")),
+        (&[b"zqueue", b"stop", b"three.toml"], ("stop", "three.toml")),
+        (
+            &[b"zqueue", b"status", b"three.toml"],
+            ("status", "three.toml"),
+        ),
+        (&[b"zqueue", b"stop"], ("none", "")),
     ];
     for (words, named) in rows {
         let command = asked(&(Line { words }, rt.alloc()))?;

@@ -297,7 +297,7 @@ const REFUSALS: [(&str, &str); 71] = [
 ];
 
 /// Why the text is refused, in words.
-fn refusal(alloc: Global, text: &str) -> Result<String, Fail> {
+pub fn refusal(alloc: Global, text: &str) -> Result<String, Fail> {
     match settings(alloc, text) {
         Ok(_) => Err("not refused".into()),
         Err(SettingsFault::NoMemory) => Err("no memory".into()),

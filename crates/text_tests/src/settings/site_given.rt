@@ -28,6 +28,8 @@ struct Row {
     link_backlog: u64,
     alone: u64,
     accept: Accept,
+    admin: Option<Place>,
+    drain: u64,
     seed: u64,
     secret: Option<&'static str>,
 }
@@ -50,12 +52,14 @@ const ROWS: [Row; 7] = [
         link_backlog: BACKLOG,
         alone: 10,
         accept: Accept::Any,
+        admin: None,
+        drain: 10,
         seed: 1,
         secret: None,
     },
     // At their greatest, with a secret of 16 bytes, and so at other addresses.
     Row {
-        text: "secret = \"0123456789abcdef\"\nlisten = \"0.0.0.0:65535\"\nport = 65535\nsite = 63\nlink_backlog = 1099511627776\nalone = 1000000\naccept = \"listed\"\nheaps = 16\nbind = \"10.1.2.3\"\npeers = [{ site = 0, address = \"10.1.2.4:7101\" }]",
+        text: "secret = \"0123456789abcdef\"\nlisten = \"0.0.0.0:65535\"\nport = 65535\nsite = 63\nlink_backlog = 1099511627776\nalone = 1000000\naccept = \"listed\"\ndrain = 1000000\nadmin = \"127.255.255.254:65535\"\nheaps = 16\nbind = \"10.1.2.3\"\npeers = [{ site = 0, address = \"10.1.2.4:7101\" }]",
         site: 63,
         port: 65535,
         bind: [10, 1, 2, 3],
@@ -65,12 +69,14 @@ const ROWS: [Row; 7] = [
         link_backlog: 1_099_511_627_776,
         alone: 1_000_000,
         accept: Accept::Listed,
+        admin: Some(([127, 255, 255, 254], 65535)),
+        drain: 1_000_000,
         seed: 64,
         secret: Some("0123456789abcdef"),
     },
     // Tables of an array, in the other way to write them; a secret of 16 bytes in fewer letters.
     Row {
-        text: "site = 1\nport = 7002\nlisten = '127.0.0.1:7102'\nsecret = 'éééééééé'\nalone = 0\naccept = 'any'\n[[peers]]\naddress = '127.0.0.1:7101'\nsite = 0\n[[peers]]\nsite = 2\naddress = '127.9.9.9:7103'\n",
+        text: "site = 1\nport = 7002\nlisten = '127.0.0.1:7102'\nsecret = 'éééééééé'\nalone = 0\naccept = 'any'\nadmin = '127.0.0.1:7180'\n[[peers]]\naddress = '127.0.0.1:7101'\nsite = 0\n[[peers]]\nsite = 2\naddress = '127.9.9.9:7103'\n",
         site: 1,
         port: 7002,
         bind: LOOPBACK,
@@ -83,13 +89,15 @@ const ROWS: [Row; 7] = [
         link_backlog: BACKLOG,
         alone: 0,
         accept: Accept::Any,
+        admin: Some((LOOPBACK, 7180)),
+        drain: 10,
         seed: 2,
         secret: Some("éééééééé"),
     },
     // No peers, and no secret: the port of clients may be at any address. The least of
-    // `link_backlog`.
+    // `link_backlog`, of the port of `admin`, and of `drain`.
     Row {
-        text: "site = 5\nport = 7001\nlisten = \"127.255.0.1:7101\"\npeers = []\nlink_backlog = 1048576\nbind = \"0.0.0.0\"",
+        text: "site = 5\nport = 7001\nlisten = \"127.255.0.1:7101\"\npeers = []\nadmin = \"127.0.0.1:1\"\ndrain = 0\nlink_backlog = 1048576\nbind = \"0.0.0.0\"",
         site: 5,
         port: 7001,
         bind: [0, 0, 0, 0],
@@ -99,6 +107,8 @@ const ROWS: [Row; 7] = [
         link_backlog: 1_048_576,
         alone: 10,
         accept: Accept::Any,
+        admin: Some((LOOPBACK, 1)),
+        drain: 0,
         seed: 6,
         secret: None,
     },
@@ -117,6 +127,8 @@ const ROWS: [Row; 7] = [
         link_backlog: BACKLOG,
         alone: 10,
         accept: Accept::Listed,
+        admin: None,
+        drain: 10,
         seed: 9_223_372_036_854_775_807,
         secret: None,
     },
@@ -145,6 +157,8 @@ const ROWS: [Row; 7] = [
         link_backlog: BACKLOG,
         alone: 10,
         accept: Accept::Any,
+        admin: None,
+        drain: 10,
         seed: 10,
         secret: Some("0123456789abcdef"),
     },
@@ -163,6 +177,8 @@ const ROWS: [Row; 7] = [
         link_backlog: BACKLOG,
         alone: 10,
         accept: Accept::Any,
+        admin: None,
+        drain: 10,
         seed: 10,
         secret: None,
     },
@@ -210,6 +226,8 @@ fn is_row(settings: &SiteSettings, row: &Row) -> bool {
         && settings.link_backlog.value() == row.link_backlog
         && settings.alone.value() == row.alone
         && settings.accept == row.accept
+        && settings.admin == row.admin.map(address_of)
+        && settings.drain.value() == row.drain
         && settings.seed.value() == row.seed
         && has_secret(settings, row.secret)
 }
@@ -236,5 +254,14 @@ fn a_site_may_have_the_keys_of_several(rt: HostRuntime) -> Result<(), Fail> {
     assert!(rt; has_limits(&given.limits, (7, 8, 9, 2_000_000)));
     assert_eq!(rt; given.seed.value(), 0);
     assert_eq!(rt; given.rule, Rule::Low);
+    Ok(())
+}
+
+#[test]
+fn an_admin_port_may_be_at_the_other_loopback_address(rt: HostRuntime) -> Result<(), Fail> {
+    let text = "site = 7\nport = 7001\nlisten = \"127.0.0.1:7101\"\nadmin = \"[::1]:7180\"";
+    let given = site_settings(rt.alloc(), text)?;
+    let place = SocketAddr::new(IpAddr::V6(Ipv6Addr::LOCALHOST), 7180);
+    assert!(rt; given.admin == Some(place));
     Ok(())
 }

@@ -1,0 +1,67 @@
+//! One connection of an admin port.
+
+use crate::clerk::Clerk;
+use http_server::Connection;
+use mio::net::TcpStream;
+use std::io;
+use std::io::ErrorKind;
+
+/// A connection of an admin port.
+#[derive(Drop)]
+pub struct Visit {
+    stream: TcpStream,
+    connection: Connection,
+    /// The second of the clock at which it ends.
+    ends_at: u64,
+}
+
+impl Visit {
+    /// A connection over this stream, which ends at this second of the clock at the latest.
+    pub fn new(stream: TcpStream, connection: Connection, ends_at: u64) -> Visit {
+        Visit {
+            stream,
+            connection,
+            ends_at,
+        }
+    }
+
+    /// Reads, answers and writes as far as the socket goes, and says whether the connection goes on.
+    pub fn go_on(&mut self, clerk: &mut Clerk) -> bool {
+        for _ in 0..u32::MAX {
+            self.connection.advance(clerk);
+            if self.connection.is_done() {
+                return false;
+            }
+            match self.step() {
+                Ok(true) => {}
+                Ok(false) => return true,
+                Err(_) => return false,
+            }
+        }
+        false
+    }
+
+    /// Whether it may last longer at this second of the clock.
+    pub fn may_last(&self, now: u64) -> bool {
+        now < self.ends_at
+    }
+
+    /// Writes what is owed, or else reads, and says whether the socket may have more of that now.
+    fn step(&mut self) -> io::Result<bool> {
+        let mut stream = &self.stream;
+        let moved = if self.connection.wants_write() {
+            self.connection.write_to(&mut stream)
+        } else {
+            self.connection.read_from(&mut stream)
+        };
+        match moved {
+            Ok(0) if self.connection.wants_write() => Err(ErrorKind::WriteZero.into()),
+            Ok(_) => Ok(true),
+            Err(error) => match error.kind() {
+                ErrorKind::WouldBlock => Ok(false),
+                ErrorKind::Interrupted => Ok(true),
+                _ => Err(error),
+            },
+        }
+    }
+}
