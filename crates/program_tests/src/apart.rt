@@ -16,6 +16,7 @@ use recorded::{version_1, version_2};
 use std::alloc::Global;
 use std::net::{Net, TcpListener, TcpStream};
 use std::random::RandomSource;
+use std::rt::Files;
 use std::sync::Wait;
 use std::test::Fail;
 use std::thread::Threads;
@@ -26,6 +27,15 @@ use zq_site::{Ending, serve_site};
 const ADD_A: &[u8] = b"*4\r\n$4\r\nZADD\r\n$1\r\nq\r\n$1\r\n3\r\n$1\r\na\r\n";
 
 const ADD_B: &[u8] = b"*4\r\n$4\r\nZADD\r\n$1\r\nq\r\n$1\r\n4\r\n$1\r\nb\r\n";
+
+const RAISE_B: &[u8] = b"*4\r\n$7\r\nZINCRBY\r\n$1\r\nq\r\n$1\r\n4\r\n$1\r\nb\r\n";
+
+const REMOVE_B: &[u8] = b"*3\r\n$4\r\nZREM\r\n$1\r\nq\r\n$1\r\nb\r\n";
+
+const DELETE: &[u8] = b"*2\r\n$3\r\nDEL\r\n$1\r\nq\r\n";
+
+/// What a command that adds is answered where the process has more memory than it may.
+const FULL: &[u8] = b"-OOM command not allowed when used memory > 'maxmemory'.\r\n";
 
 const CARD: &[u8] = b"*2\r\n$5\r\nZCARD\r\n$1\r\nq\r\n";
 
@@ -54,7 +64,8 @@ fn steps_to(last: usize) -> [Step<'static>; 6] {
 /// find what both were told.
 fn meet<R>(rt: &R, alloc: Global, places: &[Place], secret: Option<&str>) -> Result<bool, Fail>
 where
-    R: Net<Listener = TcpListener, Stream = TcpStream>
+    R: Files
+        + Net<Listener = TcpListener, Stream = TcpStream>
         + RandomSource
         + Clock
         + Threads
@@ -90,7 +101,8 @@ fn lets_go<R>(
     words: &[&str],
 ) -> Result<bool, Fail>
 where
-    R: Net<Listener = TcpListener, Stream = TcpStream>
+    R: Files
+        + Net<Listener = TcpListener, Stream = TcpStream>
         + RandomSource
         + Clock
         + Threads
@@ -301,6 +313,36 @@ fn no_write_is_taken_before_peers_are_heard(rt: HostRuntime) -> Result<(), Fail>
         Step::Ask(0, CARD, b":0\r\n"),
     ];
     assert!(rt; serve_all(&rt, &log, alloc, &places, &settings, &steps)?);
+    Ok(())
+}
+
+// Any process has more than a byte, which is seen as soon as it is looked.
+#[test]
+fn a_site_past_its_bound_of_memory_takes_nothing_that_adds(rt: HostRuntime) -> Result<(), Fail> {
+    let alloc = rt.alloc();
+    let places = free_places(&rt, alloc, rt.process(), 1)?;
+    let [own] = places.as_slice() else {
+        return Err("a place".into());
+    };
+    let mut settings = Vec::new(alloc);
+    let bound = "alone = 0\nmax_memory = 1\n";
+    settings.push(settings_with(alloc, *own, &places, None, bound)?)?;
+    let log = Logged::new(&rt, LevelFilter::Warn, Locked::new(&rt, Vec::new(alloc)));
+    let steps = [
+        Step::Await(0, ADD_A, FULL),
+        Step::Ask(0, ADD_B, FULL),
+        Step::Ask(0, RAISE_B, FULL),
+        Step::Ask(0, REMOVE_B, b":0\r\n"),
+        Step::Await(0, DELETE, b":0\r\n"),
+        Step::Ask(0, CARD, b":0\r\n"),
+    ];
+    assert!(rt; serve_all(&rt, &log, alloc, &places, &settings, &steps)?);
+    let (_, sink) = log.into_parts();
+    let words = [
+        "site 0 holds back commands that add: the process has ",
+        " bytes of memory, and max_memory is 1",
+    ];
+    assert!(rt; is_logged(&sink.into_inner(), &words)?);
     Ok(())
 }
 

@@ -1,6 +1,7 @@
 //! Texts with settings, and texts that are refused.
 
 mod admin_refused;
+mod bound_refused;
 mod given;
 mod name_refused;
 mod refused;

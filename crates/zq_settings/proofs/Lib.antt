@@ -7,6 +7,7 @@ pub mod Meant
 pub mod MeantAccept
 pub mod MeantAddresses
 pub mod MeantAdmin
+pub mod MeantLogLevel
 pub mod MeantNumbers
 pub mod MeantPeers
 pub mod NamedTexts

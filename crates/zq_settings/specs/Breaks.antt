@@ -11,6 +11,7 @@ use Rattle.zq_settings.specs.PeerAddresses.{IsPeerText}
 use Rattle.zq_settings.specs.Rules.{entry_of}
 use Rattle.zq_settings.specs.Settings.{rule_named, settings_of}
 use Rattle.zq_settings.specs.Accepting.{accept_named}
+use Rattle.zq_settings.specs.LogLevels.{log_level_named}
 use Rattle.zq_settings.specs.Tables.{names_in, value_at}
 use Rattle.zq_settings.specs.declared.form.Form.{Form}
 use Rattle.zq_settings.specs.declared.form.Form.TheVariants as form
@@ -63,6 +64,8 @@ IsOfOtherKind key.Alone value = as_integer value ≡ None
 IsOfOtherKind key.Accept value = as_str value ≡ None
 IsOfOtherKind key.Admin value = as_str value ≡ None
 IsOfOtherKind key.Drain value = as_integer value ≡ None
+IsOfOtherKind key.LogLevel value = as_str value ≡ None
+IsOfOtherKind key.MaxMemory value = as_integer value ≡ None
 IsOfOtherKind key.Seed value = as_integer value ≡ None
 IsOfOtherKind key.Site value = as_integer value ≡ None
 IsOfOtherKind key.Port value = as_integer value ≡ None
@@ -89,6 +92,8 @@ IsOutOfRange key.Alone value = IsOutside 0 1000000 value
 IsOutOfRange key.Accept value = IsText (λ word. accept_named word ≡ None) value
 IsOutOfRange key.Admin value = IsText IsNoAddress value
 IsOutOfRange key.Drain value = IsOutside 0 1000000 value
+IsOutOfRange key.LogLevel value = IsText (λ word. log_level_named word ≡ None) value
+IsOutOfRange key.MaxMemory value = IsOutside 0 1099511627776 value
 IsOutOfRange key.Seed value = IsOutside 0 9223372036854775807 value
 IsOutOfRange key.Site value = IsOutside 0 63 value
 IsOutOfRange key.Port value = IsOutside 1 65535 value

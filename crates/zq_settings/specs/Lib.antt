@@ -1,4 +1,5 @@
 pub mod Accepting
+pub mod LogLevels
 pub mod Numbers
 pub mod Keys
 pub mod Ports

@@ -9,7 +9,7 @@ use Rattle.zq_settings.specs.Accepting.{accept_named}
 use Rattle.zq_settings.specs.PeerAddresses.{is_local_peer, peer_address_of}
 use Rattle.zq_settings.specs.Peers.{sites_of}
 use Rattle.zq_settings.specs.Ports.{first_twice}
-use Rattle.zq_settings.specs.Settings.{◌>>=◌, common_of, count_of, each, known_keys, number_of, required_of, rule_of, site_of}
+use Rattle.zq_settings.specs.Settings.{◌>>=◌, common_of, count_of, each, known_keys, log_level_of, number_of, required_of, rule_of, site_of}
 use Rattle.zq_settings.specs.Tables.{value_at}
 use Rattle.zq_settings.specs.declared.accept.Accept.{Accept}
 use Rattle.zq_settings.specs.declared.accept.Accept.TheVariants.{Any}
@@ -124,6 +124,10 @@ admin_of (Some value) = address_at false key.Admin (Some value) >>= (λ address.
 abbrev pub drain_of : Option Data → Result ℕ Why
 drain_of value = number_of key.Drain 0 1000000 10 value
 
+-- how many bytes of memory a process may take, and 0, which is no bound, where there is no value
+abbrev pub max_memory_of : Option Data → Result ℕ Why
+max_memory_of value = number_of key.MaxMemory 0 1099511627776 0 value
+
 -- what the draws of a site are made with, and its number and 1 where there is no value
 abbrev pub site_seed_of : ℕ → Option Data → Result ℕ Why
 site_seed_of site value = number_of key.Seed 0 9223372036854775807 (site + 1) value
@@ -143,6 +147,8 @@ site_values_of table =
     accept_of (value_at key.Accept table) >>= (λ accept.
     admin_of (value_at key.Admin table) >>= (λ admin.
     drain_of (value_at key.Drain table) >>= (λ drain.
+    log_level_of (value_at key.LogLevel table) >>= (λ log_level.
+    max_memory_of (value_at key.MaxMemory table) >>= (λ max_memory.
     site_seed_of site (value_at key.Seed table) >>= (λ seed.
     rule_of (value_at key.Rule table) >>= (λ rule.
     Ok (record {
@@ -161,9 +167,11 @@ site_values_of table =
       accept = accept;
       admin = admin;
       drain = drain;
+      log_level = log_level;
+      max_memory = max_memory;
       seed = seed;
       secret = secret;
-    })))))))))))))))
+    })))))))))))))))))
 
 -- the settings that a table has, or the first rule that it breaks
 abbrev pub site_settings_of : Members → Result SiteSettings Why

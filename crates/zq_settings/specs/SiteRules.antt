@@ -11,7 +11,7 @@ use Rattle.zq_settings.specs.Addresses.{IsLoopback, localhost}
 use Rattle.zq_settings.specs.Keys.{is_known}
 use Rattle.zq_settings.specs.PeerAddresses.{IsLocalPeer, IsPeerText}
 use Rattle.zq_settings.specs.Peers.{ArePeers}
-use Rattle.zq_settings.specs.Rules.{AreClientLimits, IsLimit, IsNumber, IsRule}
+use Rattle.zq_settings.specs.Rules.{AreClientLimits, IsLimit, IsLogLevel, IsNumber, IsRule}
 use Rattle.zq_settings.specs.Site.{if_given, site_settings_of}
 use Rattle.zq_settings.specs.Tables.{names_in, value_at}
 use Rattle.zq_settings.specs.declared.accept.Accept.{Accept}
@@ -108,6 +108,8 @@ pub record IsSiteSettings (table : Members) (settings : SiteSettings) : Type 0 w
   pub accept : IsAccept (value_at key.Accept table) settings.accept
   pub admin : IsAdmin (value_at key.Admin table) settings.admin
   pub drain : IsNumber 0 1000000 10 (value_at key.Drain table) settings.drain
+  pub log_level : IsLogLevel (value_at key.LogLevel table) settings.log_level
+  pub max_memory : IsNumber 0 1099511627776 0 (value_at key.MaxMemory table) settings.max_memory
   pub seed : IsNumber 0 9223372036854775807 (settings.site + 1) (value_at key.Seed table)
       settings.seed
   pub rule : IsRule (value_at key.Rule table) settings.rule

@@ -33,6 +33,10 @@ pub enum Key {
     Admin,
     /// How long the one site waits, as it is told to end, until its peers have what it made.
     Drain,
+    /// How much the program's log says.
+    LogLevel,
+    /// How many bytes of memory the one site may take before it refuses what adds.
+    MaxMemory,
     /// What draws are made with.
     Seed,
     /// Which of a member's values is its score.
@@ -74,6 +78,8 @@ impl Key {
             Key::Accept => "accept",
             Key::Admin => "admin",
             Key::Drain => "drain",
+            Key::LogLevel => "log_level",
+            Key::MaxMemory => "max_memory",
             Key::Seed => "seed",
             Key::Rule => "rule",
             Key::Site | Key::PeerSite => "site",
@@ -109,6 +115,8 @@ impl Key {
             }
             Key::Clients => "a whole number from 1 to 1000000",
             Key::Output | Key::LinkBacklog => "a whole number from 1048576 to 1099511627776",
+            Key::LogLevel => "\"warn\", \"info\" or \"debug\"",
+            Key::MaxMemory => "a whole number from 0 to 1099511627776",
             Key::Seed => "a whole number from 0 to 9223372036854775807",
             Key::Rule => "\"HIGH\" or \"LOW\"",
             Key::Accept => "\"any\" or \"listed\"",

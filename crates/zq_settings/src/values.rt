@@ -1,6 +1,7 @@
 //! The values of settings.
 
 use crate::accept::Accept;
+use crate::log_level::LogLevel;
 use crate::peers::Peers;
 use crate::ports::{Port, Ports};
 use crate::secret::Secret;
@@ -28,6 +29,9 @@ pub type OutputSize = Within<1_048_576, 1_099_511_627_776>;
 
 /// A number of bytes of operations that are kept for peers, 1,048,576 to 1,099,511,627,776.
 pub type BacklogSize = Within<1_048_576, 1_099_511_627_776>;
+
+/// A number of bytes of memory, 0 to 1,099,511,627,776.
+pub type MemorySize = Within<0, 1_099_511_627_776>;
 
 /// What draws are made with: a number that an `i64` holds, not below 0.
 pub type Seed = Within<0, 9_223_372_036_854_775_807>;
@@ -58,6 +62,8 @@ pub struct Settings {
     pub connections: Option<ConnectionCount>,
     /// What limits the clients of each port.
     pub limits: ClientLimits,
+    /// How much the program's log says.
+    pub log_level: LogLevel,
     /// What each worker's draws are made with.
     pub seed: Seed,
     /// Which of a member's values is its score.
@@ -102,6 +108,11 @@ pub struct SiteSettings {
     /// How many seconds it waits at most, as it is told to end, until its peers have what it made.
     /// With 0 it does not wait.
     pub drain: Seconds,
+    /// How much the program's log says.
+    pub log_level: LogLevel,
+    /// How many bytes of memory the process may take before commands that add are refused. With 0
+    /// there is no bound.
+    pub max_memory: MemorySize,
     /// What each worker's draws are made with.
     pub seed: Seed,
     /// What it shares with its peers, to know them by. With `None` whoever comes is believed.

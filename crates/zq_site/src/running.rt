@@ -16,6 +16,7 @@ use crate::times::{beat, fencing};
 use log::Log;
 use std::net::{Net, TcpListener, TcpStream};
 use std::random::RandomSource;
+use std::rt::Files;
 use std::sync::Wait;
 use std::thread;
 use std::thread::Threads;
@@ -23,7 +24,9 @@ use std::time::Clock;
 use zq_admin::AdminPort;
 use zq_loop::Port;
 use zq_posheap::Seeded;
-use zq_serve::{Cause, ClientThreads, Inboxes, Linker, ServeFault, SiteThreads, run_clients};
+use zq_serve::{
+    Cause, ClientThreads, Inboxes, Linker, MemoryGuard, ServeFault, SiteThreads, run_clients,
+};
 
 /// How many threads accept peers at first.
 const FIRST_ACCEPTORS: usize = 1;
@@ -39,11 +42,11 @@ pub struct Seeds {
 }
 
 /// Runs the threads of a site: its link thread, what takes what calls make into the logs, what
-/// tells of each second, what dials each peer of a smaller number, what accepts peers, what starts
-/// more threads as links come, what answers at the admin port, if there is one, and what serves
-/// clients. When all clients are served the site ends: where it was told to end it waits until its
-/// peers have what it made; the threads of its links are told to halt, and then the link thread to
-/// stop, and all are waited for.
+/// tells of each second and looks at the memory of the process, what dials each peer of a smaller
+/// number, what accepts peers, what starts more threads as links come, what answers at the admin
+/// port, if there is one, and what serves clients. When all clients are served the site ends: where
+/// it was told to end it waits until its peers have what it made; the threads of its links are told
+/// to halt, and then the link thread to stop, and all are waited for.
 ///
 /// `Device` where a thread did not start. Then no client is served.
 pub fn run_site<N, L>(
@@ -58,7 +61,7 @@ pub fn run_site<N, L>(
 ) -> Result<(), ServeFault>
 where
     N: Net<Listener = TcpListener, Stream = TcpStream> + Sync,
-    L: Log + RandomSource + Clock + Threads + Wait + Sync,
+    L: Log + Files + RandomSource + Clock + Threads + Wait + Sync,
 {
     let SiteThreads { clients, linkers } = threads;
     thread::scope(thread::scope_env(), log, move |scope| {
@@ -170,13 +173,16 @@ fn drain_site<L: Clock + Wait>(log: &L, shared: Shared<'_>, drainer: Linker<'_, 
     drainer.lend(shared.alloc, 0, Draining { log, shared });
 }
 
-/// Tells the link thread of each second, until the site ends.
-fn beat_time<L: Wait + Clock>(rt: &L, shared: Shared<'_>) {
-    for _ in rt.forever() {
-        if shared.halt.wait(rt, beat()) {
+/// Looks each second how much memory the process has, and tells the link thread of it, until the
+/// site ends.
+fn beat_time<L: Log + Files + Wait + Clock>(log: &L, shared: Shared<'_>) {
+    let mut guard = MemoryGuard::new(shared.admission, shared.settings.max_memory);
+    for _ in log.forever() {
+        guard.look(log);
+        if shared.halt.wait(log, beat()) {
             break;
         }
-        shared.post.beat(rt);
+        shared.post.beat(log);
     }
 }
 

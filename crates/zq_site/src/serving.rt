@@ -27,6 +27,7 @@ use std::alloc::{AllocError, Global};
 use std::io::Write;
 use std::net::{Net, SocketAddr, TcpListener, TcpStream};
 use std::random::RandomSource;
+use std::rt::Files;
 use std::sync::Wait;
 use std::thread::{Threads, available_parallelism};
 use std::time::Clock;
@@ -71,6 +72,10 @@ const ADMIN_CONNECTIONS: u64 = 36;
 /// connection the peers are told what the site has, and those that lack something are sent it. A
 /// link over which nothing came for 20 seconds is given up.
 ///
+/// Where the settings bound the memory of the process, it is looked each second how much is
+/// resident. While that is more than `max_memory` commands that add are refused, and all else is
+/// served.
+///
 /// Where the settings have an admin port the site says there how ready it is. Told so there it takes
 /// no connection any more, answers what was read, waits until its peers have what it made, for as
 /// many seconds as `drain` says, and ends.
@@ -92,7 +97,7 @@ pub fn serve_site<N, L, W>(
 ) -> Result<(), ServeFault>
 where
     N: Net<Listener = TcpListener, Stream = TcpStream> + Sync,
-    L: Log + RandomSource + Clock + Threads + Wait + Sync,
+    L: Log + Files + RandomSource + Clock + Threads + Wait + Sync,
     W: Write,
 {
     let hasher = draw_hasher(log)?;
@@ -133,7 +138,7 @@ fn serve_lent<'a, N, L, W>(
 ) -> Result<(), ServeFault>
 where
     N: Net<Listener = TcpListener, Stream = TcpStream> + Sync,
-    L: Log + RandomSource + Clock + Threads + Wait + Sync,
+    L: Log + Files + RandomSource + Clock + Threads + Wait + Sync,
     W: Write,
     requires { (plans : List Plans) × IsPlanOf settings.now workers plans
         × AllZip IsLentBy plans sites.old }
@@ -160,7 +165,7 @@ fn serve_one<'a, N, L, W>(
 ) -> Result<(), ServeFault>
 where
     N: Net<Listener = TcpListener, Stream = TcpStream> + Sync,
-    L: Log + RandomSource + Clock + Threads + Wait + Sync,
+    L: Log + Files + RandomSource + Clock + Threads + Wait + Sync,
     W: Write,
     requires { IsManned workers site.old }
 {

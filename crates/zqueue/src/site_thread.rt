@@ -4,6 +4,7 @@ use crate::serving::{log_of, start_lines};
 use std::alloc::{AllocError, Global};
 use std::net::{Net, TcpListener, TcpStream};
 use std::random::RandomSource;
+use std::rt::Files;
 use std::sync::{Arc, Wait};
 use std::thread;
 use std::thread::Threads;
@@ -25,7 +26,8 @@ pub fn serve_in_thread<R>(
     queue: &Arc<LogQueue>,
 ) -> Result<(), ServeFault>
 where
-    R: Net<Listener = TcpListener, Stream = TcpStream>
+    R: Files
+        + Net<Listener = TcpListener, Stream = TcpStream>
         + RandomSource
         + Clock
         + Threads
@@ -57,7 +59,8 @@ fn serve_here<R>(
     ending: &Ending,
 ) -> Result<(), ServeFault>
 where
-    R: Net<Listener = TcpListener, Stream = TcpStream>
+    R: Files
+        + Net<Listener = TcpListener, Stream = TcpStream>
         + RandomSource
         + Clock
         + Threads
@@ -66,6 +69,6 @@ where
         + Sync,
 {
     let mut out = start_lines(rt, alloc)?;
-    let log = log_of(rt, alloc, queue);
+    let log = log_of(rt, alloc, queue, settings.log_level);
     serve_site(rt, &log, alloc, settings, &mut out, ending)
 }

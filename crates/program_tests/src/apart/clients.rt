@@ -7,6 +7,7 @@ use std::alloc::Global;
 use std::io::{Read, Write};
 use std::net::{Net, TcpListener, TcpStream};
 use std::random::RandomSource;
+use std::rt::Files;
 use std::sync::{Mutex, Wait};
 use std::test::Fail;
 use std::thread;
@@ -109,7 +110,7 @@ pub fn serve_one<N, L>(
 )
 where
     N: Net<Listener = TcpListener, Stream = TcpStream> + Sync,
-    L: Log + RandomSource + Clock + Threads + Wait + Sync,
+    L: Log + Files + RandomSource + Clock + Threads + Wait + Sync,
 {
     let mut written = Vec::new(alloc);
     if serve_site(net, log, alloc, settings, &mut written, &Ending::new()).is_err() {
@@ -128,7 +129,7 @@ pub fn serve_all<N, L>(
 ) -> Result<bool, Fail>
 where
     N: Net<Listener = TcpListener, Stream = TcpStream> + Sync,
-    L: Log + RandomSource + Clock + Threads + Wait + Sync,
+    L: Log + Files + RandomSource + Clock + Threads + Wait + Sync,
 {
     let wrong = Mutex::new(false);
     let shown = &wrong;

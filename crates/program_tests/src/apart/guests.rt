@@ -9,6 +9,7 @@ use std::alloc::Global;
 use std::io::{Read, Write};
 use std::net::{Net, Shutdown, SocketAddr, TcpListener, TcpStream};
 use std::random::RandomSource;
+use std::rt::Files;
 use std::sync::Wait;
 use std::test::Fail;
 use std::thread::Threads;
@@ -332,7 +333,8 @@ pub fn logged_with<R>(
     clients: u16,
 ) -> Result<Vec<u8>, Fail>
 where
-    R: Net<Listener = TcpListener, Stream = TcpStream>
+    R: Files
+        + Net<Listener = TcpListener, Stream = TcpStream>
         + RandomSource
         + Clock
         + Threads

@@ -9,6 +9,7 @@ use std::hash::{BuildHasher, Hasher};
 use std::io::ErrorKind;
 use std::net::{Net, TcpListener, TcpStream};
 use std::random::RandomSource;
+use std::rt::Files;
 use std::sync::Wait;
 use std::test::Fail;
 use std::thread::Threads;
@@ -95,7 +96,8 @@ fn answered_apart<R>(
     seed: u64,
 ) -> Result<(Result<(), ServeFault>, Vec<u8>), Fail>
 where
-    R: Net<Listener = TcpListener, Stream = TcpStream>
+    R: Files
+        + Net<Listener = TcpListener, Stream = TcpStream>
         + RandomSource
         + Clock
         + Threads

@@ -175,7 +175,7 @@ const OF_SEVERAL: [(&str, &str); 2] = [
 ];
 
 const NO_KEY: &str =
-    "is not a key of settings, which are ports, heaps, workers, connections, clients, timeout, write_timeout, output, seed and rule";
+    "is not a key of settings, which are ports, heaps, workers, connections, clients, timeout, write_timeout, output, log_level, seed and rule";
 
 #[test]
 fn each_admin_port_and_each_wait_is_refused_in_words(rt: HostRuntime) -> Result<(), Fail> {
