@@ -1,4 +1,5 @@
 pub mod Newer
+pub mod Portions
 pub mod Replaced
 pub mod RowsOf
 pub mod Stages

@@ -3,3 +3,4 @@ pub mod Staged
 pub mod Piece
 pub mod StageView
 pub mod Stream
+pub mod Portion

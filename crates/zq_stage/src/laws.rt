@@ -6,9 +6,12 @@ ghost use Rattle.zq_model.specs.Operation.{Operation, has};
 ghost use Rattle.zq_model.specs.Rows.{Row, rows_of};
 ghost use Rattle.zq_model.specs.Sets.{IsIn, IsWorld, New, taken_of};
 ghost use Rattle.zq_shard.specs.Shard.{HeapImage, HoldsImage, IsSameHeap};
+ghost use Rattle.zq_shard.specs.declared.spot.Spot.{Spot};
+ghost use Rattle.zq_stage.specs.Portion.{IsPortion};
 ghost use Rattle.zq_stage.specs.Rows.{with_image, with_rows};
 ghost use Rattle.zq_stage.specs.Staged.{AreAllBrought, IsPieceOf, IsStaged};
 ghost use Rattle.zq_stage.specs.Stream.{AllFit, Heard, after_all, rows_after, set_after};
+ghost use Rattle.zq_stage.specs.declared.portion.PortionLimits.{PortionLimits};
 
 /// The first piece begins a stage. A new operation, and one that is known, leave one, and so do
 /// rows of a piece whose vector is the stage's. Once each member that had an addition when the
@@ -40,4 +43,11 @@ pub fn streaming()
         AllFit W first heard →
         IsStaged first.image.vector (rows_after heard (rows_of first.image)) (set_after heard T)
         (after_all heard first) }
+{}
+
+/// A portion of a heap is a piece of the set of which the heap is the image.
+pub fn portioning()
+    ensures { (T : List Operation) (s part : HeapImage) (spot next : Spot)
+        (limits : PortionLimits) → IsPortion s spot limits part next → HoldsImage s T →
+        IsPieceOf T part }
 {}

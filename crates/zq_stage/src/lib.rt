@@ -14,9 +14,11 @@
 
 mod faults;
 mod laws;
+mod portion;
 mod replacing;
 mod stage;
 
 pub use faults::{PieceFault, TakeFault};
-pub use laws::{staging, streaming};
+pub use laws::{portioning, staging, streaming};
+pub use portion::{Portion, PortionLimits};
 pub use stage::Stage;

@@ -32,7 +32,7 @@ pub(crate) fn bring(shard: &mut Shard, alloc: Global, piece: &Shard) -> Result<(
 
 /// Gives the member of each of these rows of a piece the row's entry in place of what it had. Where
 /// memory is refused the first so many rows were taken.
-fn replace(
+pub(crate) fn replace(
     shard: &mut Shard,
     alloc: Global,
     piece: &Shard,
