@@ -19,16 +19,17 @@ use Rattle.zq_model.specs.Heaps.{heap_of}
 use Rattle.zq_model.specs.Image.{Image, image_after}
 use Rattle.zq_model.specs.Operation.{has}
 use Rattle.zq_model.specs.Sets as sets
-use Rattle.zq_node.specs.Calls.{AreCalled, Asked, Call, Copied, Drained, HadNoRoom, IsCalled, IsEarlyTo, IsKnownTo, MadeNoStep, Merged, Saw, Took, TookAll, WasAtLast, WasTaken}
+use Rattle.zq_node.specs.Calls.{AreCalled, Asked, Call, Copied, Drained, HadNoRoom, IsCalled, IsEarlyTo, IsKnownTo, MadeNoStep, Merged, Portioned, Saw, Took, TookAll, TookOver, WasAtLast, WasTaken}
 use Rattle.zq_node.specs.Faults.{untaken}
 use Rattle.zq_node.specs.Hearing.{IsStopOf}
 use Rattle.zq_node.specs.declared.faults.NodeFault.{NodeFault}
 use Rattle.zq_node.specs.declared.faults.NodeFault.TheVariants as node
 use Rattle.zq_shard.specs.Taken.{answer_of}
+use Rattle.zq_shard.specs.declared.spot.Spot.{Spot}
 use Rattle.zq_shard.specs.declared.taken.Taken.{Taken}
 use Rattle.zq_shard.specs.declared.taken.Taken.TheVariants.{Early, Known, New}
 use Rattle.zq_shard.specs.Shard.{HeapImage}
-use Rattle.zq_spread.specs.Answers.{IsAsked, IsCopied, IsShown, IsSince, IsTaken}
+use Rattle.zq_spread.specs.Answers.{IsAsked, IsCopied, IsPortioned, IsShown, IsSince, IsTaken, IsTakenOver}
 use Rattle.zq_spread.specs.Calls.{AreWorkedIn, HasSeenBook, IsCall, IsOfSite, IsWorkedIn, greatest_stamp, heaps_of}
 use Rattle.zq_spread.specs.LockedHeaps.{Follows}
 use Rattle.zq_spread.specs.Passes.{seen_at, steps_at}
@@ -38,6 +39,8 @@ use Rattle.zq_spread.specs.declared.faults.ReadFault.TheVariants as unread
 use Rattle.zq_spread.specs.declared.locked_heap.LockedHeap.{LockedHeap}
 use Rattle.zq_spread.specs.declared.pass.Pass.{Pass}
 use Rattle.zq_spread.specs.declared.site.Site.{Site}
+use Rattle.zq_stage.specs.declared.portion.Portion.{Portion}
+use Rattle.zq_stage.specs.declared.portion.PortionLimits.{PortionLimits}
 
 -- ---- a call in one heap
 
@@ -107,9 +110,11 @@ seen_on : (P : Book → Type 0) → Stays P → (site : Site) (before after : Pa
 seen_on P stays site before after k (Took op answer) is had = seen_by _ P stays before after op.operation.heap k is.1 had
 seen_on P stays site before after k (TookAll heap ops answer) is had = seen_by _ P stays before after heap k is had
 seen_on P stays site before after k (Merged shard) is had = seen_by _ P stays before after shard.heap k is.1 had
+seen_on P stays site before after k (TookOver shard) is had = seen_by _ P stays before after shard.heap k is.1 had
 seen_on P stays site before after k (Saw heap vector) is had = seen_by _ P stays before after heap k is had
 seen_on P stays site before after k (Asked heap vector answer) is had = seen_by _ P stays before after heap k is.0 had
 seen_on P stays site before after k (Copied heap shard) is had = seen_by _ P stays before after heap k is had
+seen_on P stays site before after k (Portioned heap spot limits portion) is had = seen_by _ P stays before after heap k is had
 seen_on P stays site before after k (Drained heap vector most answer) is had = seen_by _ P stays before after heap k is had
 
 pub seen_after : (P : Book → Type 0) → Stays P → (site : Site) (before after : Pass) (k : ℕ) (calls : List Call) → AreCalled site before after calls → HasSeenBook before k P → HasSeenBook after k P
@@ -309,6 +314,17 @@ since_no_step r before after h (inr stopped) = stopped.1.0.steps
 pub state_no_step : (r : Result HeapImage ReadFault) (before after : Pass) (h : ℕ) → IsCall (IsCopied r) before after (h ∷ []) ⊎ (IsErrOf r unread.Worn × IsWornIn (h ∷ []) before after) → MadeNoStep before after
 state_no_step r before after h (inl call) = no_step_by (IsCopied r) before after h call (λ b steps done. done.1)
 state_no_step r before after h (inr stopped) = stopped.1.0.steps
+
+-- a portion was copied, or refused to be
+pub portion_no_step : (spot : Spot) (limits : PortionLimits) (r : Result Portion ReadFault) (before after : Pass) (h : ℕ) →
+    IsCall (IsPortioned spot limits r) before after (h ∷ []) ⊎ (IsErrOf r unread.Worn × IsWornIn (h ∷ []) before after) → MadeNoStep before after
+portion_no_step spot limits r before after h (inl call) = no_step_by (IsPortioned spot limits r) before after h call (λ b steps done. done.1)
+portion_no_step spot limits r before after h (inr stopped) = stopped.1.0.steps
+
+pub portion_called : (site : Site) (before after : Pass) (h : ℕ) (spot : Spot) (limits : PortionLimits) (r : Result Portion ReadFault) (portion : Portion) → r ≡ Ok portion →
+    IsCall (IsPortioned spot limits r) before after (h ∷ []) ⊎ (IsErrOf r unread.Worn × IsWornIn (h ∷ []) before after) → IsCalled site before after (Portioned h spot limits portion)
+portion_called site before after h spot limits r portion is (inl call) = subst (λ s. IsCall (IsPortioned spot limits s) before after (h ∷ [])) is call
+portion_called site before after h spot limits r portion is (inr stopped) = absurd (let e : r ≡ Err unread.Worn = stopped.0 in let f : Ok portion ≡ Err unread.Worn = sym is ∙ e in cc)
 
 pub no_step_on : (a b c : Pass) → MadeNoStep a b → MadeNoStep b c → MadeNoStep a c
 no_step_on a b c first then = λ h. then h ∙ first h

@@ -13,7 +13,7 @@ use Rattle.zq_node.proofs.Called.{alone, no_step_by}
 use Rattle.zq_node.specs.Calls.{Drained, IsCalled, MadeNoStep}
 use Rattle.zq_node.specs.Gained.{TookNothing, gained_by}
 use Rattle.zq_shard.specs.Shard.{HeapImage}
-use Rattle.zq_spread.specs.Answers.{IsAsked, IsCopied, IsDrained, IsShown}
+use Rattle.zq_spread.specs.Answers.{IsAsked, IsCopied, IsDrained, IsPortioned, IsShown}
 use Rattle.zq_spread.specs.Calls.{IsCall}
 use Rattle.zq_spread.specs.Turns.{AreUnchanged, IsLeftAsGiven, IsTurnAfter, turns_at}
 use Rattle.zq_spread.specs.Worn.{IsWornIn}
@@ -24,6 +24,9 @@ use Rattle.zq_spread.specs.declared.pass.Pass.{Pass}
 use Rattle.zq_spread.specs.declared.site.Site.{Site}
 use Rattle.zq_ticketlock.specs.Seats.{entry}
 use Rattle.zq_ticketlock.specs.declared.turns.Entry.{Entry}
+use Rattle.zq_shard.specs.declared.spot.Spot.{Spot}
+use Rattle.zq_stage.specs.declared.portion.Portion.{Portion}
+use Rattle.zq_stage.specs.declared.portion.PortionLimits.{PortionLimits}
 
 -- what site.drain says of a call
 abbrev IsDrainOf : Pass → Pass → ℕ → List ℕ → ℕ → Result Since ReadFault → Type 0
@@ -102,6 +105,11 @@ since_took_nothing r before after h (inr stopped) = worn_took_nothing before aft
 pub state_took_nothing : (r : Result HeapImage ReadFault) (before after : Pass) (h : ℕ) → IsCall (IsCopied r) before after (h ∷ []) ⊎ (IsErrOf r unread.Worn × IsWornIn (h ∷ []) before after) → TookNothing before after
 state_took_nothing r before after h (inl call) = took_nothing_by (IsCopied r) before after h call (λ b steps a done. ap (λ ss. steps_image ss a) done.1)
 state_took_nothing r before after h (inr stopped) = worn_took_nothing before after h stopped.1
+
+pub portion_took_nothing : (spot : Spot) (limits : PortionLimits) (r : Result Portion ReadFault) (before after : Pass) (h : ℕ) →
+    IsCall (IsPortioned spot limits r) before after (h ∷ []) ⊎ (IsErrOf r unread.Worn × IsWornIn (h ∷ []) before after) → TookNothing before after
+portion_took_nothing spot limits r before after h (inl call) = took_nothing_by (IsPortioned spot limits r) before after h call (λ b steps a done. ap (λ ss. steps_image ss a) done.1)
+portion_took_nothing spot limits r before after h (inr stopped) = worn_took_nothing before after h stopped.1
 
 drain_still : (stamp : ℕ) (vector : List ℕ) (most : ℕ) (r : Result Since ReadFault) (b : Book) (steps : List Step) (a : Image) → IsDrained stamp vector most r (b ∷ []) (steps ∷ []) → steps_image steps a ≡ a
 drain_still stamp vector most (Ok (Ops ops)) b steps a is = elim is.1 [

@@ -9,5 +9,6 @@ pub mod Batched
 pub mod Told
 pub mod Haves
 pub mod Opened
+pub mod Overs
 pub mod Workers
 pub mod Crossing

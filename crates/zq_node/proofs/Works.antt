@@ -7,7 +7,7 @@ use Rattle.zq_model.proofs.Membership.{in_left, in_right, in_union}
 use Rattle.zq_model.specs.Sets.{IsIn}
 use Rattle.zq_node.proofs.Called.{HasOperation, called_on, in_stays, known_by, seen_after}
 use Rattle.zq_node.proofs.Changed.{parked_before, parked_still}
-use Rattle.zq_node.specs.Calls.{Asked, Call, Copied, Drained, IsCalled, IsKnownTo, Merged, Saw, Took, TookAll}
+use Rattle.zq_node.specs.Calls.{Asked, Call, Copied, Drained, IsCalled, IsKnownTo, Merged, Portioned, Saw, Took, TookAll, TookOver}
 use Rattle.zq_node.specs.Parked.{Entries, IsParked, IsUpdated, place_of}
 use Rattle.zq_node.specs.Work.{IsOwed, IsWork}
 use Rattle.zq_shard.specs.declared.taken.Taken.{Taken}
@@ -66,9 +66,11 @@ module _ (site : Site) (ops : List Placed) where
   ]
   owed_before x y found (TookAll heap batch answer) owed = owed
   owed_before x y found (Merged shard) owed = absurd owed
+  owed_before x y found (TookOver shard) owed = absurd owed
   owed_before x y found (Saw heap vector) owed = tt
   owed_before x y found (Asked heap vector answer) owed = absurd owed
   owed_before x y found (Copied heap shard) owed = absurd owed
+  owed_before x y found (Portioned heap spot limits portion) owed = absurd owed
   owed_before x y found (Drained heap vector most answer) owed = absurd owed
 
   -- and what was done after it
@@ -104,9 +106,11 @@ module _ (site : Site) (ops : List Placed) where
       owed_more all x within (Took o answer) owed = elim owed [ inl here ↦ inl (within o here) | inr there ↦ inr there ]
       owed_more all x within (TookAll heap batch answer) owed = λ o here. within o (owed o here)
       owed_more all x within (Merged shard) owed = absurd owed
+      owed_more all x within (TookOver shard) owed = absurd owed
       owed_more all x within (Saw heap vector) owed = tt
       owed_more all x within (Asked heap vector answer) owed = absurd owed
       owed_more all x within (Copied heap shard) owed = absurd owed
+      owed_more all x within (Portioned heap spot limits portion) owed = absurd owed
       owed_more all x within (Drained heap vector most answer) owed = absurd owed
 
   -- what is known or parked stays so

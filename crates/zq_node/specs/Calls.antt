@@ -7,9 +7,10 @@ use Rattle.zq_journal.specs.declared.since.Since.{Since}
 use Rattle.zq_model.specs.Operation.{has}
 use Rattle.zq_model.specs.Sets as sets
 use Rattle.zq_shard.specs.Shard.{HeapImage}
+use Rattle.zq_shard.specs.declared.spot.Spot.{Spot}
 use Rattle.zq_shard.specs.declared.taken.Taken.{Taken}
 use Rattle.zq_shard.specs.declared.taken.Taken.TheVariants as taken
-use Rattle.zq_spread.specs.Answers.{IsAsked, IsCopied, IsDrained, IsMerged, IsShown, IsSince, IsTaken}
+use Rattle.zq_spread.specs.Answers.{IsAsked, IsCopied, IsDrained, IsMerged, IsPortioned, IsShown, IsSince, IsTaken, IsTakenOver}
 use Rattle.zq_spread.specs.Batches.{IsTakenAll}
 use Rattle.zq_spread.specs.Calls.{HasSeenBook, IsCall, IsLikeSite, IsOfSite}
 use Rattle.zq_spread.specs.Passes.{steps_at}
@@ -17,17 +18,21 @@ use Rattle.zq_spread.specs.Worn.{IsWornIn}
 use Rattle.zq_spread.specs.declared.pass.Pass.{Pass}
 use Rattle.zq_spread.specs.declared.site.Site.{Site}
 use Rattle.zq_spread.specs.declared.taken_all.TakenAll.{TakenAll}
+use Rattle.zq_stage.specs.declared.portion.Portion.{Portion}
+use Rattle.zq_stage.specs.declared.portion.PortionLimits.{PortionLimits}
 
--- a call that the site answered: it took an operation, or several in a heap, merged a heap, showed the vector of a heap,
--- said what a peer of a vector lacks, copied a heap, or gave a log of a vector what it lacks, at most
--- so many operations
+-- a call that the site answered: it took an operation, or several in a heap, merged a heap, took one
+-- in the place of its own, showed the vector of a heap, said what a peer of a vector lacks, copied a
+-- heap or a portion of it, or gave a log of a vector what it lacks, at most so many operations
 pub data Call : Type 0 where
   Took : (op : Placed) (answer : Taken) → Call
   TookAll : (heap : ℕ) (ops : List Placed) (answer : TakenAll) → Call
   Merged : (shard : HeapImage) → Call
+  TookOver : (shard : HeapImage) → Call
   Saw : (heap : ℕ) (vector : List ℕ) → Call
   Asked : (heap : ℕ) (vector : List ℕ) (answer : Since) → Call
   Copied : (heap : ℕ) (shard : HeapImage) → Call
+  Portioned : (heap : ℕ) (spot : Spot) (limits : PortionLimits) (portion : Portion) → Call
   Drained : (heap : ℕ) (vector : List ℕ) (most : ℕ) (answer : Since) → Call
 
 -- the pass made this call of the site, and it was answered so
@@ -38,12 +43,16 @@ IsCalled site before after (TookAll heap ops answer) =
     IsCall (IsTakenAll after.stamp ops answer) before after (heap ∷ [])
 IsCalled site before after (Merged shard) = IsLikeSite site shard
     × IsCall (IsMerged after.stamp shard (Ok tt)) before after (shard.heap ∷ [])
+IsCalled site before after (TookOver shard) = IsLikeSite site shard
+    × IsCall (IsTakenOver after.stamp shard (Ok tt)) before after (shard.heap ∷ [])
 IsCalled site before after (Saw heap vector) = IsCall (IsShown vector) before after (heap ∷ [])
 IsCalled site before after (Asked heap vector answer) =
     IsCall (IsAsked (Ok answer)) before after (heap ∷ [])
     × HasSeenBook after heap (IsSince vector answer)
 IsCalled site before after (Copied heap shard) =
     IsCall (IsCopied (Ok shard)) before after (heap ∷ [])
+IsCalled site before after (Portioned heap spot limits portion) =
+    IsCall (IsPortioned spot limits (Ok portion)) before after (heap ∷ [])
 IsCalled site before after (Drained heap vector most answer) =
     IsCall (IsDrained after.stamp vector most (Ok answer)) before after (heap ∷ [])
 

@@ -3,7 +3,7 @@
 use Rattle.std.specs.Prelude.{List, [], length, ℕ, ◌++◌, ◌<◌, ◌≡◌, ◌≤◌, ◌∷◌, ◌⊎◌}
 use Rattle.zq_dots.specs.Placed.{Placed}
 use Rattle.zq_model.specs.Sets.{IsIn}
-use Rattle.zq_node.specs.Calls.{AreCalled, Asked, Call, Copied, Drained, HadNoRoom, IsCalled, IsEarlyTo, IsKnownTo, MadeNoStep, Merged, Saw, Took, TookAll, WasAtLast, WasTaken}
+use Rattle.zq_node.specs.Calls.{AreCalled, Asked, Call, Copied, Drained, HadNoRoom, IsCalled, IsEarlyTo, IsKnownTo, MadeNoStep, Merged, Portioned, Saw, Took, TookAll, TookOver, WasAtLast, WasTaken}
 use Rattle.zq_node.specs.Node.{IsSameHome, most_of, parked_of, pass_of, site_of}
 use Rattle.zq_node.specs.Parked.{Entries, HasPlaceOf, IsParked, IsPutAway}
 use Rattle.zq_node.specs.declared.node.Node.{Node}
@@ -18,8 +18,10 @@ IsOwed ops parked (Took op answer) = IsIn op ops ⊎ IsParked parked op
 IsOwed ops parked (TookAll heap batch answer) = (o : Placed) → IsIn o batch → IsIn o ops
 IsOwed ops parked (Saw heap vector) = Unit {0}
 IsOwed ops parked (Merged shard) = ⊥
+IsOwed ops parked (TookOver shard) = ⊥
 IsOwed ops parked (Asked heap vector answer) = ⊥
 IsOwed ops parked (Copied heap shard) = ⊥
+IsOwed ops parked (Portioned heap spot limits portion) = ⊥
 IsOwed ops parked (Drained heap vector most answer) = ⊥
 
 -- these calls alone were made: by them these operations and those that were parked were handed to

@@ -11,6 +11,7 @@ mod home;
 mod job;
 mod node;
 mod parked;
+mod replacing;
 mod settling;
 mod showing;
 mod taking;

@@ -71,8 +71,12 @@ impl Node<'_> {
         Ok(())
     }
 
-    /// The same in each heap.
-    pub(crate) fn settle_all<R: Wait>(&mut self, rt: &R, alloc: Global) -> Result<(), NodeFault>
+    /// Hands the site the operations that are parked and no longer Early, and lets them go, until all
+    /// that are parked are Early.
+    ///
+    /// `Worn` where a lock, a stamp or a count is at its last value, and `NoMemory` where a growth
+    /// was refused: those that were taken before stay so.
+    pub fn settle_all<R: Wait>(&mut self, rt: &R, alloc: Global) -> Result<(), NodeFault>
         requires node { IsNode self.old }
         ensures node { IsNode self.new }
         ensures home { IsSameHome self.old self.new }

@@ -1,6 +1,6 @@
 //! What a node's site has of a heap.
 ghost use Rattle.std.specs.Prelude.{◌≡◌, ◌<◌, ◌≤◌, ◌↔◌, ◌⊎◌, IfErr, IfOk, IsErrOf, OnErr, OnOk};
-ghost use Rattle.zq_node.specs.Calls.{Asked, Copied, Drained, IsCalled, MadeNoStep, Saw};
+ghost use Rattle.zq_node.specs.Calls.{Asked, Copied, Drained, IsCalled, MadeNoStep, Portioned, Saw};
 ghost use Rattle.zq_node.specs.Faults.{IsOwnFault};
 ghost use Rattle.zq_node.specs.Gained.{TookNothing};
 ghost use Rattle.zq_node.specs.Node.{IsNode, IsSameHome, parked_of, pass_of, site_of};
@@ -12,7 +12,9 @@ use std::alloc::Global;
 use std::sync::Wait;
 use zq_dots::Vector;
 use zq_journal::Since;
-use zq_shard::Shard;
+use zq_posheap::Seeded;
+use zq_shard::{Shard, Spot};
+use zq_stage::{Portion, PortionLimits};
 
 impl Node<'_> {
     /// Which operations of a heap the site has taken. It makes no step.
@@ -138,5 +140,43 @@ impl Node<'_> {
         }
         let shard = self.home.site.state(rt, alloc, &mut self.pass, heap)?;
         Ok(shard)
+    }
+
+    /// A copy of a portion of a heap of the site, as [`zq_spread::Site::portion`] says. It makes no
+    /// step.
+    ///
+    /// `WrongHeap` where the site has no such heap; else `Worn` where a lock or the stamp is at its
+    /// last value, else `NoMemory` where the copy was refused.
+    pub fn portion<R: Wait>(
+        &mut self,
+        rt: &R,
+        alloc: Global,
+        heap: u8,
+        spot: Spot,
+        limits: PortionLimits,
+        hasher: Seeded,
+    ) -> Result<Portion, NodeFault>
+        requires node { IsNode self.old }
+        ensures node { IsNode self.new }
+        ensures home { IsSameHome self.old self.new }
+        ensures parked { parked_of self.new ≡ parked_of self.old }
+        ensures copied { IfOk result
+            (λ portion. IsCalled (site_of self.old) (pass_of self.old) (pass_of self.new)
+            (Portioned heap spot limits portion)) }
+        ensures no_step { MadeNoStep (pass_of self.old) (pass_of self.new) }
+        ensures took_nothing { TookNothing (pass_of self.old) (pass_of self.new) }
+        ensures there { OnOk result (heap < heaps_of (site_of self.old)) }
+        ensures wrong { IsErrOf result NodeFault.WrongHeap
+            ↔ (heaps_of (site_of self.old) ≤ heap) }
+        ensures fault { IfErr result (λ fault. (fault ≡ NodeFault.WrongHeap) ⊎ IsOwnFault fault) }
+    {
+        if heap >= self.home.heaps {
+            return Err(NodeFault::WrongHeap);
+        }
+        let found = self
+            .home
+            .site
+            .portion(rt, alloc, &mut self.pass, heap, spot, limits, hasher)?;
+        Ok(found)
     }
 }

@@ -10,7 +10,7 @@ use Rattle.zq_model.specs.Rule.{Rule}
 use Rattle.zq_model.specs.Sets.{IsIn}
 use Rattle.zq_notes.proofs.GatheredSets.{AreOnce}
 use Rattle.zq_notes.specs.Does.{AreHeapsFor, Does}
-use Rattle.zq_notes.specs.Notes.{Answer, Asked, Copied, Handed, HandedAll, Joined, Replied, Shown, TakenOver, ToCopy, ToDrain, ToMerge, ToRun, ToShow, ToTake, ToTakeAll, ToTakeOver, ToTell, Told}
+use Rattle.zq_notes.specs.Notes.{Answer, Asked, Copied, Handed, HandedAll, Joined, Portioned, Replied, Shown, TakenOver, ToCopy, ToDrain, ToMerge, ToPortion, ToRun, ToShow, ToTake, ToTakeAll, ToTakeOver, ToTell, Told}
 use Rattle.zq_semantics.specs.Doing.{drawn, first_drawn, second_drawn}
 use Rattle.zq_words.specs.Command.{Command}
 use Rattle.zq_words.specs.Heaps.{heaps_of}
@@ -70,5 +70,6 @@ once_of rule K site stamp (ToTakeOver other) heaps (TakenOver result) found step
 once_of rule K site stamp (ToTell heap vector) heaps (Told result) found steps two is = subst AreOnce (sym is.0) (one_once heap)
 once_of rule K site stamp (ToCopy heap) heaps (Copied result) found steps two is = subst AreOnce (sym is.0) (one_once heap)
 once_of rule K site stamp (ToDrain heap vector most) heaps (Told result) found steps two is = subst AreOnce (sym is.0) (one_once heap)
+once_of rule K site stamp (ToPortion heap spot limits) heaps (Portioned result) found steps two is = subst AreOnce (sym is.0) (one_once heap)
 once_of rule K site stamp (ToShow heap) heaps (Shown vector) found steps two is = subst AreOnce (sym is.0) (one_once heap)
 once_of rule K site stamp asked heaps answer found steps two is = absurd is

@@ -6,7 +6,7 @@ use Rattle.std.specs.Prelude.{List, [], map, refl, slice_index, take, true, ℕ,
 use Rattle.zq_dots.specs.Placed.{Placed}
 use Rattle.zq_model.specs.Books.{Book, Merged, Step, TookOver}
 use Rattle.zq_journal.specs.Books.{steps_when}
-use Rattle.zq_model.proofs.Dots.{counter_positive, dots_below, has_parts, last_above}
+use Rattle.zq_model.proofs.Dots.{last_above}
 use Rattle.zq_model.proofs.Membership.{in_left}
 use Rattle.zq_model.proofs.Same.{image_of-same}
 use Rattle.zq_model.proofs.Taken.{taken_known}
@@ -16,7 +16,7 @@ use Rattle.zq_model.specs.Limits.{TailLimits}
 use Rattle.zq_model.specs.Operation.{Operation, has}
 use Rattle.zq_model.specs.Queue.{queue_of}
 use Rattle.zq_model.specs.Rule.{Rule}
-use Rattle.zq_model.specs.Sets.{AreSame, Early, HasDot, IsClosed, IsIn, IsWorld, Known, New, Taken, last, taken_of, vector_of}
+use Rattle.zq_model.specs.Sets.{AreSame, Early, IsIn, IsWorld, Known, New, Taken, taken_of, vector_of}
 use Rattle.zq_model.proofs.Lists.{in_filter}
 use Rattle.zq_notes.proofs.OfSites.{all_answers, all_world, does_as, gathered-append, gathered_on, images_by, in_later, notes_at-append, notes_here, of_world_at, off_as, stands_at, thread_at}
 use Rattle.zq_notes.proofs.Alike.{take_front}
@@ -24,13 +24,18 @@ use Rattle.zq_notes.proofs.ReadOff.{AreScoresMeant}
 use Rattle.zq_notes.proofs.TakenInTurn.{known_at, known_in, taken_in}
 use Rattle.zq_notes.specs.Gathered.{AreImagesOf, AreOf, AreOfIn, covered_by, gathered, gathered_by, gathered_in}
 use Rattle.zq_notes.specs.Linked.{HoldSame, IsLinked}
-use Rattle.zq_notes.specs.Notes.{Books, Handed, HandedAll, Joined, TakenOver, ToMerge, ToTake, ToTakeAll, ToTakeOver}
+use Rattle.zq_notes.specs.Notes.{Books, Handed, HandedAll, Joined, Portioned, TakenOver, ToMerge, ToPortion, ToTake, ToTakeAll, ToTakeOver}
 use Rattle.zq_notes.specs.Readings.{heap_as}
 use Rattle.zq_notes.specs.Sites.{AreEventsOf, Event, books_at, has_at, made_of, notes_at}
 use Rattle.zq_semantics.specs.Reading.{heaps_in}
 use Rattle.zq_shard.specs.Shard.{HeapImage}
 use Rattle.zq_shard.specs.Taken.{answer_of}
+use Rattle.zq_shard.specs.declared.spot.Spot.{Spot}
 use Rattle.zq_shard.specs.declared.taken.Taken as code
+use Rattle.zq_stage.proofs.Portions.{portion_of_set}
+use Rattle.zq_stage.specs.Staged.{IsPieceOf}
+use Rattle.zq_stage.specs.declared.portion.Portion.{Portion}
+use Rattle.zq_stage.specs.declared.portion.PortionLimits.{PortionLimits}
 use Rattle.zq_spread.specs.Batches.{steps_of_all}
 use Rattle.zq_spread.specs.declared.site.Site.{Site}
 use Rattle.zq_spread.specs.declared.taken_all.TakenAll.{TakenAll}
@@ -148,6 +153,13 @@ module _ (limits : ℕ → TailLimits) (rule : Rule) (K : ℕ) (two : 2 ≤ K) (
         (in_left o (covered_by W other.heap other.image) S
         (in_filter (λ p. (p.heap == other.heap) && has other.image.vector p.site p.n) W o i (rw (eq-eqb o.heap other.heap here, known) refl)))
 
+    -- a portion of a heap is a piece of what the site had
+    portioned : (heap : ℕ) (spot : Spot) (limits' : PortionLimits) (portion : Portion) → e.call.note.asked ≡ ToPortion heap spot limits' → e.call.note.answer ≡ Portioned (Ok portion) → IsPieceOf S portion.part
+    portioned heap spot limits' portion asked answered =
+        let off = off_as limits rule K two meant sites events are before e after is (ToPortion heap spot limits') (Portioned (Ok portion)) asked answered in
+        let its = images e.site before (e ∷ after) is in
+        portion_of_set S (heap_as rule K S heap) portion.part spot portion.next limits' off.0 (record { world = world_part K S W its.within world; closed = its.closed; image = refl })
+
   pub linked : IsLinked limits rule K events
   linked = record {
     world = world;
@@ -160,6 +172,7 @@ module _ (limits : ℕ → TailLimits) (rule : Rule) (K : ℕ) (two : 2 ≤ K) (
     taken_all = taken_all;
     merged = merged;
     taken_over = over;
+    portioned = portioned;
     stays = λ s before between after is o i. stays s before between o i;
     answers = all_answers limits rule K two meant sites events are;
   }

@@ -3,7 +3,7 @@
 use Rattle.std.proofs.Common.{Err, Ok, ap, inl, inr, refl, subst, sym, ◌∙◌}
 use Rattle.std.specs.Prelude.{List, [], false, if◌then◌else◌, map, slice_index, slice_set, true, ℕ, ◌+◌, ◌++◌, ◌==◌, ◌∷◌, ◌≡◌, ◌⊎◌}
 use Rattle.zq_dots.specs.Placed.{Placed}
-use Rattle.zq_model.specs.Books.{HandedOn, Made, Step}
+use Rattle.zq_model.specs.Books.{Made, Step}
 use Rattle.zq_journal.specs.Books.{step_of, steps_when}
 use Rattle.zq_journal.specs.declared.since.Since.TheVariants.{Ops, TooOld}
 use Rattle.zq_model.specs.Heaps.{heap_of}
@@ -12,7 +12,7 @@ use Rattle.zq_model.specs.Rule.{Rule}
 use Rattle.zq_model.specs.Sets.{Early, Known, New, Taken, taken_of, vector_of}
 use Rattle.zq_model.specs.Moves.{Move}
 use Rattle.zq_notes.proofs.MadeWorlds.{AllMade, AllMadeIn}
-use Rattle.zq_notes.specs.Notes.{Answer, Asked, Copied, Handed, HandedAll, Joined, Replied, Shown, TakenOver, ToCopy, ToDrain, ToMerge, ToRun, ToShow, ToTake, ToTakeAll, ToTakeOver, ToTell, Told}
+use Rattle.zq_notes.specs.Notes.{Answer, Asked, Copied, Handed, HandedAll, Joined, Portioned, Replied, Shown, TakenOver, ToCopy, ToDrain, ToMerge, ToPortion, ToRun, ToShow, ToTake, ToTakeAll, ToTakeOver, ToTell, Told}
 use Rattle.zq_notes.specs.Readings.{IsAnswerOf, MayHandOn, heap_as, moved_in}
 use Rattle.zq_notes.specs.Sites.{made_in, made_in_all}
 use Rattle.zq_shard.specs.Shard.{HeapImage}
@@ -82,5 +82,7 @@ kinds rule K site S (ToDrain heap vector most) stamp heaps (Told (Ok TooOld)) st
 kinds rule K site S (ToDrain heap vector most) stamp heaps (Told (Err fault)) steps is = inr (none_of steps is.1)
 kinds rule K site S (ToCopy heap) stamp heaps (Copied (Ok copy)) steps is = inr (none_of steps is.1)
 kinds rule K site S (ToCopy heap) stamp heaps (Copied (Err fault)) steps is = inr (none_of steps is.1)
+kinds rule K site S (ToPortion heap spot limits) stamp heaps (Portioned (Ok portion)) steps is = inr (none_of steps is.1)
+kinds rule K site S (ToPortion heap spot limits) stamp heaps (Portioned (Err fault)) steps is = inr (none_of steps is.1)
 kinds rule K site S (ToShow heap) stamp heaps (Shown vector) steps is = inr (none_of steps is.1)
 kinds rule K site S asked stamp heaps answer steps is = absurd is

@@ -14,11 +14,12 @@ use Rattle.zq_journal.specs.declared.since.Since.{Since}
 use Rattle.zq_model.specs.Heaps.{heap_of}
 use Rattle.zq_notes.specs.Calls.{HasNote, HeldNone, HeldNoneIn}
 use Rattle.zq_notes.specs.Does.{AreHeapsFor, Does, IsOfHeaps, IsTold}
-use Rattle.zq_notes.specs.Notes.{Answer, Asked, Copied, Handed, HandedAll, Joined, Replied, Shown, TakenOver, ToCopy, ToDrain, ToMerge, ToRun, ToShow, ToTake, ToTakeAll, ToTakeOver, ToTell, Told}
+use Rattle.zq_notes.specs.Notes.{Answer, Asked, Copied, Handed, HandedAll, Joined, Portioned, Replied, Shown, TakenOver, ToCopy, ToDrain, ToMerge, ToPortion, ToRun, ToShow, ToTake, ToTakeAll, ToTakeOver, ToTell, Told}
 use Rattle.zq_semantics.specs.Doing.{drawn}
 use Rattle.zq_shard.specs.Shard.{HeapImage}
+use Rattle.zq_shard.specs.declared.spot.Spot.{Spot}
 use Rattle.zq_shard.specs.declared.taken.Taken.{Taken}
-use Rattle.zq_spread.specs.Answers.{IsAsked, IsCopied, IsDrained, IsMerged, IsShown, IsSince, IsTaken, IsTakenOver, read_of}
+use Rattle.zq_spread.specs.Answers.{IsAsked, IsCopied, IsDrained, IsMerged, IsPortioned, IsShown, IsSince, IsTaken, IsTakenOver, read_of}
 use Rattle.zq_spread.specs.Batches.{IsTakenAll}
 use Rattle.zq_spread.specs.Calls.{AreWorkedIn, HasSeenBook, IsCall, IsLikeSite, IsOfSite, heaps_of}
 use Rattle.zq_spread.specs.Dispatch.{DoesCommand, DoesNear, IsCalled, IsCalledIn, IsCommand, all_heaps}
@@ -28,6 +29,8 @@ use Rattle.zq_spread.specs.declared.locked_heap.LockedHeap.{LockedHeap}
 use Rattle.zq_spread.specs.declared.pass.Pass.{Pass}
 use Rattle.zq_spread.specs.declared.site.Site.{Site}
 use Rattle.zq_spread.specs.declared.taken_all.TakenAll.{TakenAll}
+use Rattle.zq_stage.specs.declared.portion.Portion.{Portion}
+use Rattle.zq_stage.specs.declared.portion.PortionLimits.{PortionLimits}
 use Rattle.zq_words.specs.Command.{Command}
 use Rattle.zq_words.specs.Heaps as named
 use Rattle.zq_words.specs.Words.{Word}
@@ -81,6 +84,10 @@ module _ (site : Site) (p : ℕ) (before after : Pass) where
 
   pub copies : (heap : ℕ) (result : Result HeapImage ReadFault) → IsCall (IsCopied result) before after (heap ∷ []) → HasNote site p before after (ToCopy heap) (Copied result)
   copies heap result call = noted (IsCopied result) (ToCopy heap) (heap ∷ []) (Copied result) (λ found steps is. (refl, is)) call
+
+  pub portions : (heap : ℕ) (spot : Spot) (limits : PortionLimits) (result : Result Portion ReadFault) → IsCall (IsPortioned spot limits result) before after (heap ∷ []) →
+      HasNote site p before after (ToPortion heap spot limits) (Portioned result)
+  portions heap spot limits result call = noted (IsPortioned spot limits result) (ToPortion heap spot limits) (heap ∷ []) (Portioned result) (λ found steps is. (refl, is)) call
 
   pub shows : (heap : ℕ) (vector : List ℕ) → IsCall (IsShown vector) before after (heap ∷ []) → HasNote site p before after (ToShow heap) (Shown vector)
   shows heap vector call = noted (IsShown vector) (ToShow heap) (heap ∷ []) (Shown vector) (λ found steps is. (refl, is)) call

@@ -37,7 +37,7 @@ use Rattle.zq_notes.proofs.SaidCommands.{all_made, for_drawn, for_other, for_res
 use Rattle.zq_notes.proofs.TakenInTurn.{gathers_alike}
 use Rattle.zq_notes.specs.Does.{AreHeapsFor, Does}
 use Rattle.zq_notes.specs.Gathered.{AreImagesOf, covered_by, gathered, gathered_by, gathered_in}
-use Rattle.zq_notes.specs.Notes.{Answer, Asked, Books, Copied, Handed, HandedAll, Joined, Note, Replied, Shown, TakenOver, ToCopy, ToDrain, ToMerge, ToRun, ToShow, ToTake, ToTakeAll, ToTakeOver, ToTell, Told}
+use Rattle.zq_notes.specs.Notes.{Answer, Asked, Books, Copied, Handed, HandedAll, Joined, Note, Portioned, Replied, Shown, TakenOver, ToCopy, ToDrain, ToMerge, ToPortion, ToRun, ToShow, ToTake, ToTakeAll, ToTakeOver, ToTell, Told}
 use Rattle.zq_notes.specs.Played.{ArePlayedAs, AreTakes, IsAskedAs, IsNone, IsPlayed, IsPlayedAs, itself, popped}
 use Rattle.zq_notes.specs.Readings.{IsAnswerOf, IsRunOver, MayHandOn, heap_as, moved_in}
 use Rattle.zq_notes.specs.Sites.{AreBroughtIn, AreEventsOf, Event, IsBrought, books_at, has_at, made_in, made_in_all, made_of, notes_at}
@@ -80,6 +80,7 @@ none_played rule K r s heaps (ToMerge other) answer none = absurd none
 none_played rule K r s heaps (ToTakeOver other) answer none = absurd none
 none_played rule K r s heaps (ToTell heap vector) answer none = none
 none_played rule K r s heaps (ToCopy heap) answer none = none
+none_played rule K r s heaps (ToPortion heap spot limits) answer none = none
 none_played rule K r s heaps (ToShow heap) answer none = none
 none_played rule K r s heaps (ToDrain heap vector most) answer none = none
 
@@ -91,6 +92,7 @@ one_played rule K r s heaps (ToMerge other) answer p is = is
 one_played rule K r s heaps (ToTakeOver other) answer p is = is
 one_played rule K r s heaps (ToTell heap vector) answer p is = is
 one_played rule K r s heaps (ToCopy heap) answer p is = is
+one_played rule K r s heaps (ToPortion heap spot limits) answer p is = is
 one_played rule K r s heaps (ToShow heap) answer p is = is
 one_played rule K r s heaps (ToDrain heap vector most) answer p is = is
 
@@ -814,6 +816,12 @@ module _ (limits : ℕ → TailLimits) (rule : Rule) (K count : ℕ) (two : 2 �
         by (ToCopy heap) (Copied (Err fault)) asked answered =
             reads_books heap (does_as limits rule K two meant sites events are before e after is (ToCopy heap) (Copied (Err fault)) asked answered).0
             (off_as limits rule K two meant sites events are before e after is (ToCopy heap) (Copied (Err fault)) asked answered).1 (subst IsNone (sym asked) tt)
+        by (ToPortion heap spot most) (Portioned (Ok portion)) asked answered =
+            reads_books heap (does_as limits rule K two meant sites events are before e after is (ToPortion heap spot most) (Portioned (Ok portion)) asked answered).0
+            (off_as limits rule K two meant sites events are before e after is (ToPortion heap spot most) (Portioned (Ok portion)) asked answered).1 (subst IsNone (sym asked) tt)
+        by (ToPortion heap spot most) (Portioned (Err fault)) asked answered =
+            reads_books heap (does_as limits rule K two meant sites events are before e after is (ToPortion heap spot most) (Portioned (Err fault)) asked answered).0
+            (off_as limits rule K two meant sites events are before e after is (ToPortion heap spot most) (Portioned (Err fault)) asked answered).1 (subst IsNone (sym asked) tt)
         by (ToShow heap) (Shown vector) asked answered =
             reads_books heap (does_as limits rule K two meant sites events are before e after is (ToShow heap) (Shown vector) asked answered).0
             (off_as limits rule K two meant sites events are before e after is (ToShow heap) (Shown vector) asked answered).1 (subst IsNone (sym asked) tt)

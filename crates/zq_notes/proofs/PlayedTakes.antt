@@ -1,18 +1,17 @@
 -- A list of operations that a site takes in turn is as many events of the run of a world.
 
-use Rattle.std.proofs.Common.{ap, arith, inl, inr, lt-ltb, refl, subst, suc, sym, take_all, zero, ◌∙◌}
+use Rattle.std.proofs.Common.{ap, arith, inl, inr, lt-ltb, refl, subst, sym, take_all, ◌∙◌}
 use Rattle.std.proofs.lemmas.Bool.{and_from, or_from}
 use Rattle.std.proofs.lemmas.List.{length-append, length_push}
-use Rattle.std.specs.Prelude.{List, None, Option, Some, [], false, if◌then◌else◌, length, slice_get, take, true, ℕ, ◌+◌, ◌++◌, ◌<◌, ◌∷◌, ◌≡◌, ◌≢◌, ◌≤◌}
+use Rattle.std.specs.Prelude.{List, None, Option, Some, [], false, if◌then◌else◌, length, slice_get, take, true, ℕ, ◌+◌, ◌++◌, ◌<◌, ◌∷◌, ◌≡◌, ◌≤◌}
 use Rattle.zq_dots.specs.Placed.{Placed}
-use Rattle.zq_journal.specs.Books.{step_of, steps_when}
-use Rattle.zq_model.specs.Books.{Step, Took}
+use Rattle.zq_journal.specs.Books.{steps_when}
 use Rattle.zq_model.specs.Image.{Image}
 use Rattle.zq_model.specs.Operation.{Operation}
 use Rattle.zq_model.specs.Rule.{Rule}
 use Rattle.zq_model.specs.Sets as sets
 use Rattle.zq_model.specs.Sets.{AreSame, IsIn, IsWorld, taken_of, vector_of}
-use Rattle.zq_notes.proofs.Alike.{HasMoment, IsAlike, IsNext, get_left, get_pushed, place_of, same_by, same_self, same_through, sets_next, stands}
+use Rattle.zq_notes.proofs.Alike.{HasMoment, IsAlike, get_left, get_pushed, place_of, same_self, same_through}
 use Rattle.zq_notes.proofs.RunMoves.{apart_is, counts_with, here_is, next_within, not_full, not_worn, numbers_with}
 use Rattle.zq_notes.proofs.TakenInTurn.{IsSetOf, in_turn, set_next}
 use Rattle.zq_notes.specs.Gathered.{gathered_in}
@@ -24,7 +23,7 @@ use Rattle.zq_semantics.specs.Events.{Run, Take, after_take, after_taken, answer
 use Rattle.zq_semantics.specs.Run.{LAST_COUNT}
 use Rattle.zq_semantics.specs.Runs.{AreEvents, after_event, missing_from, run_on}
 use Rattle.zq_semantics.specs.State.{Sets, State, counted, next_stamp}
-use Rattle.zq_shard.specs.Shard.{HeapImage, IsOfHeap}
+use Rattle.zq_shard.specs.Shard.{HeapImage}
 use Rattle.zq_spread.specs.Batches.{AreTaken, heap_after, judged_at, steps_of_all}
 
 -- ---- lists of events

@@ -39,7 +39,7 @@ use Rattle.zq_model.specs.Moves.{Move, Queues, score_in}
 use Rattle.zq_notes.specs.Does.{AreHeapsFor, Does, IsTold}
 use Rattle.zq_notes.proofs.Tails.{in_tail_set, tail_begun}
 use Rattle.zq_notes.specs.Gathered.{AreImagesOf, HasTailOf}
-use Rattle.zq_notes.specs.Notes.{Answer, Asked, Books, Copied, Handed, HandedAll, Joined, Replied, Shown, TakenOver, ToCopy, ToDrain, ToMerge, ToRun, ToShow, ToTake, ToTakeAll, ToTakeOver, ToTell, Told}
+use Rattle.zq_notes.specs.Notes.{Answer, Asked, Books, Copied, Handed, HandedAll, Joined, Portioned, Replied, Shown, TakenOver, ToCopy, ToDrain, ToMerge, ToPortion, ToRun, ToShow, ToTake, ToTakeAll, ToTakeOver, ToTell, Told}
 use Rattle.zq_notes.proofs.HomeMoves.{at_home}
 use Rattle.zq_notes.proofs.MovedSteps.{moves_are}
 use Rattle.zq_notes.specs.Readings.{AreFirstLacked, AreLacked, IsAnswerOf, IsCutAt, IsOrShort, IsRunOf, IsRunOff, IsRunOver, MayHandOn, cut_off, heap_as, in_full, is_list, moved_in, over_all, over_drawn}
@@ -52,8 +52,12 @@ use Rattle.zq_semantics.specs.Replies.{bytes_of}
 use Rattle.zq_semantics.specs.Run.{ForCopies, ForMoves, ForReply, IsReadShort, IsRun, IsWhy, IsWhyOf, MayLack, Memory, Number, Takes, Want, cut_error, cut_pop, part, popped_of, takes_of, whole}
 use Rattle.zq_semantics.specs.Reading.{heaps_in, is_reading, queues_over}
 use Rattle.zq_shard.specs.Shard.{HeapImage}
+use Rattle.zq_shard.specs.declared.spot.Spot.{Spot}
 use Rattle.zq_shard.specs.declared.taken.Taken.{Taken}
-use Rattle.zq_spread.specs.Answers.{AreHandings, IsCopied, IsDrained, IsFirstSince, IsMerged, IsShown, IsSince, IsTaken, IsTakenOver, unhanded_of}
+use Rattle.zq_stage.specs.Portion.{IsPortion}
+use Rattle.zq_stage.specs.declared.portion.Portion.{Portion}
+use Rattle.zq_stage.specs.declared.portion.PortionLimits.{PortionLimits}
+use Rattle.zq_spread.specs.Answers.{AreHandings, IsCopied, IsDrained, IsFirstSince, IsMerged, IsPortioned, IsShown, IsSince, IsTaken, IsTakenOver, unhanded_of}
 use Rattle.zq_spread.specs.Batches.{IsTakenAll, IsTakenSoFar}
 use Rattle.zq_spread.specs.Commanded.{IsAnswered}
 use Rattle.zq_spread.specs.Dispatch.{HasNear}
@@ -290,6 +294,19 @@ module _ (named : AreScoresMeant) (rule : Rule) (K : ℕ) (W S : List Operation)
   copy_off site stamp heap heaps (Err unread.NoMemory) (ss ∷ []) is = (refl, ap (λ (l : List Step). l ∷ []) is.1)
   copy_off site stamp heap heaps (Err fault) (ss ∷ more ∷ steps) is = absurd is
 
+  portion_off : (site stamp heap : ℕ) (spot : Spot) (limits : PortionLimits) (heaps : List ℕ) (result : Result Portion ReadFault) (steps : List (List Step)) → IsPortioned spot limits result (map books (heap ∷ [])) steps →
+      IsAnswerOf rule K site S (ToPortion heap spot limits) stamp heaps (Portioned result) steps
+  portion_off site stamp heap spot limits heaps (Ok portion) [] is = absurd is
+  portion_off site stamp heap spot limits heaps (Ok portion) (ss ∷ []) is =
+      let its = are.each heap in
+      let same : state_of (books heap) ≡ heap_as rule K S heap = (λ i. record { heap = its.heap i; heaps = its.heaps i; rule = its.ruled i; image = its.state i }) in
+      (subst (λ (s : HeapImage). IsPortion s spot limits portion.part portion.next) same is.0, ap (λ (l : List Step). l ∷ []) is.1)
+  portion_off site stamp heap spot limits heaps (Ok portion) (ss ∷ more ∷ steps) is = absurd is
+  portion_off site stamp heap spot limits heaps (Err fault) [] is = absurd is
+  portion_off site stamp heap spot limits heaps (Err unread.Worn) (ss ∷ []) is = absurd is.0
+  portion_off site stamp heap spot limits heaps (Err unread.NoMemory) (ss ∷ []) is = (refl, ap (λ (l : List Step). l ∷ []) is.1)
+  portion_off site stamp heap spot limits heaps (Err fault) (ss ∷ more ∷ steps) is = absurd is
+
   -- what the tail has that a vector lacks is what the set has, where the vector covers the base's
   lacked_alike : (stamp heap : ℕ) (vector : List ℕ) → covers vector (begun stamp (books heap)).base.vector ≡ true →
       AreSame (lacking vector (operations_of (begun stamp (books heap)).tail)) (lacking vector (in_heap heap S))
@@ -376,6 +393,8 @@ module _ (named : AreScoresMeant) (rule : Rule) (K : ℕ) (W S : List Operation)
       show_off site stamp heap heaps vector steps (subst (λ hs. IsShown vector (map books hs) steps) is.0 is.1)
   read_off site stamp (ToCopy heap) heaps (Copied result) steps some is =
       copy_off site stamp heap heaps result steps (subst (λ hs. IsCopied result (map books hs) steps) is.0 is.1)
+  read_off site stamp (ToPortion heap spot limits) heaps (Portioned result) steps some is =
+      portion_off site stamp heap spot limits heaps result steps (subst (λ hs. IsPortioned spot limits result (map books hs) steps) is.0 is.1)
   read_off site stamp (ToTell heap vector) heaps (Told result) steps some is =
       tell_off site stamp heap vector heaps result steps (subst (λ hs. IsTold stamp vector result (map books hs) steps) is.0 is.1)
   read_off site stamp (ToDrain heap vector most) heaps (Told result) steps some is =

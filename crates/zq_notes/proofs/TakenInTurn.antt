@@ -1,7 +1,7 @@
 -- The sets that a site has as it takes operations in turn.
 
 use Rattle.std.proofs.Common.{ap, arith, inl, inr, refl, subst, sym, ◌∙◌}
-use Rattle.std.specs.Prelude.{List, [], slice_index, true, ℕ, ◌++◌, ◌∷◌, ◌≡◌, ◌≢◌, ◌≤◌}
+use Rattle.std.specs.Prelude.{List, [], true, ℕ, ◌++◌, ◌∷◌, ◌≡◌, ◌≤◌}
 use Rattle.zq_dots.specs.Placed.{Placed}
 use Rattle.zq_journal.specs.Books.{steps_when}
 use Rattle.zq_model.proofs.Dots.{counter_positive, dots_below, has_parts}
@@ -10,7 +10,7 @@ use Rattle.zq_model.proofs.NewOperation.{closed_after, new_has_seen}
 use Rattle.zq_model.proofs.TailSets.{step_in_heap, taken_is_new}
 use Rattle.zq_model.proofs.Taken.{taken_known}
 use Rattle.zq_model.proofs.Worlds.{vector_is, world_part}
-use Rattle.zq_model.specs.Books.{HandedOn, Merged, Recorded, Step}
+use Rattle.zq_model.specs.Books.{Step}
 use Rattle.zq_model.specs.Image.{Image, image_after, image_of, image_when}
 use Rattle.zq_model.specs.Operation.{Operation, has}
 use Rattle.zq_model.specs.Sets.{AreSame, Early, HasDot, IsClosed, IsIn, IsNew, IsWorld, Known, New, Taken, last, taken_of, vector_of}

@@ -8,10 +8,10 @@ use Rattle.zq_model.specs.Reach.{begun}
 use Rattle.zq_journal.specs.declared.since.Since.{Since}
 use Rattle.zq_model.specs.Heaps.{heap_of}
 use Rattle.zq_model.specs.Rule.{Rule}
-use Rattle.zq_notes.specs.Notes.{Answer, Asked, Copied, Handed, HandedAll, Joined, Replied, Shown, TakenOver, ToCopy, ToDrain, ToMerge, ToRun, ToShow, ToTake, ToTakeAll, ToTakeOver, ToTell, Told}
+use Rattle.zq_notes.specs.Notes.{Answer, Asked, Copied, Handed, HandedAll, Joined, Portioned, Replied, Shown, TakenOver, ToCopy, ToDrain, ToMerge, ToPortion, ToRun, ToShow, ToTake, ToTakeAll, ToTakeOver, ToTell, Told}
 use Rattle.zq_semantics.specs.Doing.{drawn}
 use Rattle.zq_shard.specs.Shard.{HeapImage}
-use Rattle.zq_spread.specs.Answers.{IsCopied, IsDrained, IsMerged, IsShown, IsSince, IsTaken, IsTakenOver, read_of}
+use Rattle.zq_spread.specs.Answers.{IsCopied, IsDrained, IsMerged, IsPortioned, IsShown, IsSince, IsTaken, IsTakenOver, read_of}
 use Rattle.zq_spread.specs.Batches.{IsTakenAll}
 use Rattle.zq_spread.specs.Commanded.{IsAnswered}
 use Rattle.zq_spread.specs.Dispatch.{HasNear}
@@ -67,6 +67,8 @@ Does rule K site stamp (ToTell heap vector) heaps (Told result) found steps = (h
     × IsTold stamp vector result found steps
 Does rule K site stamp (ToCopy heap) heaps (Copied result) found steps = (heaps ≡ heap ∷ [])
     × IsCopied result found steps
+Does rule K site stamp (ToPortion heap spot limits) heaps (Portioned result) found steps =
+    (heaps ≡ heap ∷ []) × IsPortioned spot limits result found steps
 Does rule K site stamp (ToShow heap) heaps (Shown vector) found steps = (heaps ≡ heap ∷ [])
     × IsShown vector found steps
 Does rule K site stamp (ToDrain heap vector most) heaps (Told result) found steps =

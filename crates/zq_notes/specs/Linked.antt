@@ -8,14 +8,18 @@ use Rattle.zq_model.specs.Rule.{Rule}
 use Rattle.zq_model.specs.Sets.{AreSame, Early, IsIn, IsWorld}
 use Rattle.zq_model.specs.Lent.{queues_of}
 use Rattle.zq_notes.specs.Gathered.{AreImagesOf}
-use Rattle.zq_notes.specs.Notes.{Books, Handed, HandedAll, Joined, TakenOver, ToMerge, ToTake, ToTakeAll, ToTakeOver}
+use Rattle.zq_notes.specs.Notes.{Books, Handed, HandedAll, Joined, Portioned, TakenOver, ToMerge, ToPortion, ToTake, ToTakeAll, ToTakeOver}
 use Rattle.zq_notes.specs.Readings.{IsReadOff}
 use Rattle.zq_notes.specs.Sites.{Event, books_at, empty_books, has_at, made_of, notes_at}
 use Rattle.zq_notes.specs.Thread.{IsOneThread}
 use Rattle.zq_semantics.specs.Reading.{heaps_in}
 use Rattle.zq_shard.specs.Shard.{HeapImage}
 use Rattle.zq_shard.specs.Taken.{answer_of}
+use Rattle.zq_shard.specs.declared.spot.Spot.{Spot}
 use Rattle.zq_shard.specs.declared.taken.Taken.{Taken}
+use Rattle.zq_stage.specs.Staged.{IsPieceOf}
+use Rattle.zq_stage.specs.declared.portion.Portion.{Portion}
+use Rattle.zq_stage.specs.declared.portion.PortionLimits.{PortionLimits}
 use Rattle.zq_spread.specs.declared.taken_all.TakenAll.{TakenAll}
 
 -- the books of two sites of K heaps hold the same: each heap's image, and so the queue of each key
@@ -80,6 +84,14 @@ pub record IsLinked (limits : ℕ → TailLimits) (rule : Rule) (K : ℕ) (event
   pub stays : (s : ℕ) (before between after : List Event) → events ≡ before ++ between ++ after →
       (o : Operation) → IsIn o (has_at (made_of events) s before) →
       IsIn o (has_at (made_of events) s (before ++ between))
+  -- ---- what a site hands out
+
+  -- a portion of a heap is a piece of what the site had before the call: what a stage elsewhere takes
+  pub portioned : (before : List Event) (e : Event) (after : List Event) →
+      events ≡ before ++ e ∷ after → (heap : ℕ) (spot : Spot) (limits : PortionLimits)
+      (portion : Portion) → e.call.note.asked ≡ ToPortion heap spot limits →
+      e.call.note.answer ≡ Portioned (Ok portion) →
+      IsPieceOf (has_at (made_of events) e.site before) portion.part
   -- ---- what a call answers and does
 
   -- it is read off what its site had before it

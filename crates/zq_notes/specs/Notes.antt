@@ -8,7 +8,10 @@ use Rattle.zq_journal.specs.declared.faults.TakeFault.{TakeFault}
 use Rattle.zq_journal.specs.declared.faults.TakeOverFault.{TakeOverFault}
 use Rattle.zq_journal.specs.declared.since.Since.{Since}
 use Rattle.zq_shard.specs.Shard.{HeapImage}
+use Rattle.zq_shard.specs.declared.spot.Spot.{Spot}
 use Rattle.zq_shard.specs.declared.taken.Taken.{Taken}
+use Rattle.zq_stage.specs.declared.portion.Portion.{Portion}
+use Rattle.zq_stage.specs.declared.portion.PortionLimits.{PortionLimits}
 use Rattle.zq_spread.specs.declared.faults.ReadFault.{ReadFault}
 use Rattle.zq_spread.specs.declared.taken_all.TakenAll.{TakenAll}
 use Rattle.zq_words.specs.Command.{Command}
@@ -30,6 +33,8 @@ pub data Asked : Type 0 where
   ToTell : (heap : ℕ) → (vector : List ℕ) → Asked
   -- to copy a heap
   ToCopy : (heap : ℕ) → Asked
+  -- to copy a portion of a heap, from this spot of a walk on
+  ToPortion : (heap : ℕ) → (spot : Spot) → (limits : PortionLimits) → Asked
   -- to show which operations of a heap it has
   ToShow : (heap : ℕ) → Asked
   -- to give a log of this vector what it lacks of a heap, at most so many operations
@@ -44,6 +49,7 @@ pub data Answer : Type 0 where
   TakenOver : (result : Result (Unit {0}) TakeOverFault) → Answer
   Told : (result : Result Since ReadFault) → Answer
   Copied : (result : Result HeapImage ReadFault) → Answer
+  Portioned : (result : Result Portion ReadFault) → Answer
   Shown : (vector : List ℕ) → Answer
 
 -- a call: whose, its stamp, the heaps that it held, what was asked, its answer, and its own steps

@@ -6,7 +6,7 @@ use Rattle.zq_model.specs.Image.{image_of, join}
 use Rattle.zq_model.specs.Operation.{Operation}
 use Rattle.zq_model.specs.Rule.{Rule}
 use Rattle.zq_model.specs.Sets.{AreSame, Early, Taken}
-use Rattle.zq_notes.specs.Notes.{Answer, Asked, Handed, HandedAll, Joined, Replied, TakenOver, ToCopy, ToDrain, ToMerge, ToRun, ToShow, ToTake, ToTakeAll, ToTakeOver, ToTell}
+use Rattle.zq_notes.specs.Notes.{Answer, Asked, Handed, HandedAll, Joined, Replied, TakenOver, ToCopy, ToDrain, ToMerge, ToPortion, ToRun, ToShow, ToTake, ToTakeAll, ToTakeOver, ToTell}
 use Rattle.zq_notes.specs.Sites.{Event, has_at, made_of}
 use Rattle.zq_semantics.specs.Plan.{is_there}
 use Rattle.zq_semantics.specs.Doing.{drawn}
@@ -59,6 +59,7 @@ IsPlayedAs rule K r s heaps asked answer event = ⊥
 abbrev pub IsNone : Asked → Type 0
 IsNone (ToTell heap vector) = Unit {0}
 IsNone (ToCopy heap) = Unit {0}
+IsNone (ToPortion heap spot limits) = Unit {0}
 IsNone (ToShow heap) = Unit {0}
 IsNone (ToDrain heap vector most) = Unit {0}
 IsNone asked = ⊥

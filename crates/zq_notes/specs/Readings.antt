@@ -22,7 +22,7 @@ use Rattle.zq_model.specs.Rule.{Rule}
 use Rattle.zq_model.specs.Sets.{AreSame, IsIn, New, covers, in_heap, taken_of, vector_of}
 use Rattle.zq_model.specs.Tail.{lacking}
 use Rattle.zq_model.specs.Moves.{Move, Queues}
-use Rattle.zq_notes.specs.Notes.{Answer, Asked, Copied, Handed, HandedAll, Joined, Note, Replied, Shown, TakenOver, ToCopy, ToDrain, ToMerge, ToRun, ToShow, ToTake, ToTakeAll, ToTakeOver, ToTell, Told}
+use Rattle.zq_notes.specs.Notes.{Answer, Asked, Copied, Handed, HandedAll, Joined, Note, Portioned, Replied, Shown, TakenOver, ToCopy, ToDrain, ToMerge, ToPortion, ToRun, ToShow, ToTake, ToTakeAll, ToTakeOver, ToTell, Told}
 use Rattle.zq_semantics.specs.Doing.{drawn}
 use Rattle.zq_semantics.specs.Plan.{is_there, plan_of}
 use Rattle.zq_semantics.specs.Ranges.{ranged, turned_if}
@@ -31,7 +31,11 @@ use Rattle.zq_semantics.specs.Run.{ForReply, IsReadShort, Memory, Number, Takes,
 use Rattle.zq_semantics.specs.Reading.{heaps_in, queues_over}
 use Rattle.zq_shard.specs.Shard.{HeapImage}
 use Rattle.zq_shard.specs.Taken.{answer_of}
+use Rattle.zq_shard.specs.declared.spot.Spot.{Spot}
 use Rattle.zq_shard.specs.declared.taken.Taken.{Taken}
+use Rattle.zq_stage.specs.Portion.{IsPortion}
+use Rattle.zq_stage.specs.declared.portion.Portion.{Portion}
+use Rattle.zq_stage.specs.declared.portion.PortionLimits.{PortionLimits}
 use Rattle.zq_spread.specs.Batches.{IsTakenSoFar}
 use Rattle.zq_spread.specs.declared.faults.ReadFault.{ReadFault}
 use Rattle.zq_spread.specs.declared.faults.ReadFault.TheVariants as unread
@@ -179,6 +183,14 @@ IsCopiedOff rule K S heap (Ok copy) steps =
     × (steps ≡ [] ∷ [])
 IsCopiedOff rule K S heap (Err fault) steps = (fault ≡ unread.NoMemory) × (steps ≡ [] ∷ [])
 
+-- a portion of a heap, or there was no memory
+abbrev pub IsPortionedOff : Rule → ℕ → List Operation → ℕ → Spot → PortionLimits →
+    Result Portion ReadFault → List (List Step) → Type 0
+IsPortionedOff rule K S heap spot limits (Ok portion) steps =
+    IsPortion (heap_as rule K S heap) spot limits portion.part portion.next × (steps ≡ [] ∷ [])
+IsPortionedOff rule K S heap spot limits (Err fault) steps = (fault ≡ unread.NoMemory)
+    × (steps ≡ [] ∷ [])
+
 -- which operations of a heap it has
 abbrev pub IsShownOff : List Operation → ℕ → List ℕ → List (List Step) → Type 0
 IsShownOff S heap vector steps = (vector ≡ vector_of S heap) × (steps ≡ [] ∷ [])
@@ -202,6 +214,8 @@ IsAnswerOf rule K site S (ToDrain heap vector most) stamp heaps (Told result) st
     IsDrainedOff K S heap vector most stamp result steps
 IsAnswerOf rule K site S (ToCopy heap) stamp heaps (Copied result) steps =
     IsCopiedOff rule K S heap result steps
+IsAnswerOf rule K site S (ToPortion heap spot limits) stamp heaps (Portioned result) steps =
+    IsPortionedOff rule K S heap spot limits result steps
 IsAnswerOf rule K site S (ToShow heap) stamp heaps (Shown vector) steps =
     IsShownOff S heap vector steps
 IsAnswerOf rule K site S asked stamp heaps answer steps = ⊥

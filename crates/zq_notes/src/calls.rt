@@ -7,10 +7,11 @@ ghost use Rattle.zq_journal.specs.declared.faults.TakeFault.{TakeFault};
 ghost use Rattle.zq_journal.specs.declared.faults.TakeOverFault.{TakeOverFault};
 ghost use Rattle.zq_journal.specs.declared.since.Since.{Since};
 ghost use Rattle.zq_notes.specs.Calls.{HasNote, HeldNone};
-ghost use Rattle.zq_notes.specs.Notes.{Copied, Handed, HandedAll, Joined, Replied, Shown, TakenOver, ToCopy, ToDrain, ToMerge, ToRun, ToShow, ToTake, ToTakeAll, ToTakeOver, ToTell, Told};
+ghost use Rattle.zq_notes.specs.Notes.{Copied, Handed, HandedAll, Joined, Portioned, Replied, Shown, TakenOver, ToCopy, ToDrain, ToMerge, ToPortion, ToRun, ToShow, ToTake, ToTakeAll, ToTakeOver, ToTell, Told};
 ghost use Rattle.zq_shard.specs.Shard.{HeapImage};
+ghost use Rattle.zq_shard.specs.declared.spot.Spot.{Spot};
 ghost use Rattle.zq_shard.specs.declared.taken.Taken.{Taken};
-ghost use Rattle.zq_spread.specs.Answers.{IsAsked, IsCopied, IsDrained, IsMerged, IsShown, IsSince, IsTaken, IsTakenOver};
+ghost use Rattle.zq_spread.specs.Answers.{IsAsked, IsCopied, IsDrained, IsMerged, IsPortioned, IsShown, IsSince, IsTaken, IsTakenOver};
 ghost use Rattle.zq_spread.specs.Batches.{IsTakenAll};
 ghost use Rattle.zq_spread.specs.Calls.{HasSeenBook, IsCall, IsLikeSite, IsOfSite};
 ghost use Rattle.zq_spread.specs.Dispatch.{IsCalled};
@@ -18,12 +19,14 @@ ghost use Rattle.zq_spread.specs.declared.faults.ReadFault.{ReadFault};
 ghost use Rattle.zq_spread.specs.declared.pass.Pass.{Pass};
 ghost use Rattle.zq_spread.specs.declared.site.Site.{Site};
 ghost use Rattle.zq_spread.specs.declared.taken_all.TakenAll.{TakenAll};
+ghost use Rattle.zq_stage.specs.declared.portion.Portion.{Portion};
+ghost use Rattle.zq_stage.specs.declared.portion.PortionLimits.{PortionLimits};
 ghost use Rattle.zq_words.specs.Command.{Command};
 ghost use Rattle.zq_words.specs.Words.{Word};
 
 /// Each call of a site that held a heap leaves a note: what [`zq_spread::Site::call`], `try_call`,
-/// `take`, `take_all`, `merge`, `take_over`, `since`, `drain`, `state` and `vector` promise is that
-/// there is one. A command that held none needs none, or was refused before it held any. An
+/// `take`, `take_all`, `merge`, `take_over`, `since`, `drain`, `state`, `portion` and `vector`
+/// promise is that there is one. A command that held none needs none, or was refused before it held any. An
 /// operation or a heap that is not of the site's kind is refused with no lock taken.
 pub fn noting()
     ensures calls { (site : Site) (p : ℕ) (before after : Pass) (command : Command) (w1 w2 : ℕ)
@@ -57,6 +60,10 @@ pub fn noting()
     ensures copies { (site : Site) (p : ℕ) (before after : Pass) (heap : ℕ)
         (result : Results HeapImage ReadFault) → IsCall (IsCopied result) before after (heap ∷ []) →
         HasNote site p before after (ToCopy heap) (Copied result) }
+    ensures portions { (site : Site) (p : ℕ) (before after : Pass) (heap : ℕ) (spot : Spot)
+        (limits : PortionLimits) (result : Results Portion ReadFault) →
+        IsCall (IsPortioned spot limits result) before after (heap ∷ []) →
+        HasNote site p before after (ToPortion heap spot limits) (Portioned result) }
     ensures shows { (site : Site) (p : ℕ) (before after : Pass) (heap : ℕ) (vector : List ℕ) →
         IsCall (IsShown vector) before after (heap ∷ []) →
         HasNote site p before after (ToShow heap) (Shown vector) }

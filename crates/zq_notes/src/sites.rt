@@ -17,7 +17,8 @@ use zq_model::naming;
 /// closed set of that world: so sites that have the same operations hold the same images and
 /// queues, and a site has all that it had before. What a call answers and does is read off what its
 /// site had before it. A site has what it made, what it was handed and answered New or Known, what it
-/// took of a list, and what the images that it merged cover.
+/// took of a list, and what the images that it merged cover. A portion of a heap that it hands out
+/// is a piece of what it had.
 pub fn linking()
     ensures links { (limits : ℕ → TailLimits) (rule : Rules) (K : ℕ) (sites : ℕ → Sites)
         (events : List Event) → 2 ≤ K → AreEventsOf limits rule K sites events →

@@ -4,7 +4,7 @@ use Rattle.std.proofs.Common.{ap, arith, drop, get_or, refl, subst, sym, take, �
 use Rattle.std.proofs.lemmas.List.{append-nil, append_assoc, length-append, take-append-drop, take_more}
 use Rattle.std.specs.Prelude.{List, [], length, ℕ, ◌+◌, ◌++◌, ◌∷◌, ◌≡◌, ◌≢◌, ◌≤◌}
 use Rattle.zq_dots.specs.Placed.{Placed}
-use Rattle.zq_journal.specs.Books.{book_taken, book_when, state_of, steps_taken, steps_when}
+use Rattle.zq_journal.specs.Books.{book_when, state_of, steps_taken, steps_when}
 use Rattle.zq_model.specs.Books.{Book}
 use Rattle.zq_model.specs.Image.{image_when}
 use Rattle.zq_model.specs.Operation.{Operation}
@@ -13,7 +13,6 @@ use Rattle.zq_model.specs.Sets as sets
 use Rattle.zq_shard.specs.Shard.{HeapImage, IsOfHeap}
 use Rattle.zq_spread.specs.Answers.{HasWorked}
 use Rattle.zq_spread.specs.Batches.{AreTaken, EndsAt, IsTakenAll, IsTakenNext, IsTakenSoFar, heap_after, heap_after_all, judged_at, steps_of_all}
-use Rattle.zq_spread.specs.declared.taken_all.TakeEnd.{TakeEnd}
 use Rattle.zq_spread.specs.declared.taken_all.TakenAll.{TakenAll}
 
 -- a list, cut at a place

@@ -8,7 +8,11 @@ use Rattle.zq_journal.specs.Books.{state_of}
 use Rattle.zq_journal.specs.declared.since.Since.{Since}
 use Rattle.zq_model.specs.Image.{Image}
 use Rattle.zq_shard.specs.Shard.{HeapImage}
-use Rattle.zq_spread.specs.Answers.{HasWorked, IsAsked, IsCopied, IsCopyOf, IsShown, IsSince, read_of}
+use Rattle.zq_shard.specs.declared.spot.Spot.{Spot}
+use Rattle.zq_stage.specs.Portion.{IsPortion}
+use Rattle.zq_stage.specs.declared.portion.Portion.{Portion}
+use Rattle.zq_stage.specs.declared.portion.PortionLimits.{PortionLimits}
+use Rattle.zq_spread.specs.Answers.{HasWorked, IsAsked, IsCopied, IsCopyOf, IsPortionOf, IsPortioned, IsShown, IsSince, read_of}
 use Rattle.zq_spread.specs.Calls.{HasSeenBook}
 use Rattle.zq_spread.specs.Passes.{seen_at}
 use Rattle.zq_spread.specs.declared.faults.ReadFault.{ReadFault}
@@ -32,6 +36,16 @@ shown_by v b a stamp is begun = ([], begun, (is ∙ ap (λ (i : Image). i.vector
 -- a copy of a heap where a call began is what the call answers
 pub copied_by : (r : Result HeapImage ReadFault) (b a : Book) (stamp : ℕ) → read_of IsCopyOf r b → IsWorked b a stamp [] → HasWorked (IsCopied r) b a stamp
 copied_by r b a stamp is begun = ([], begun, (copy_found r b a stamp begun is, refl))
+
+portion_found : (spot : Spot) (limits : PortionLimits) (r : Result Portion ReadFault) (b a : Book) (stamp : ℕ) → IsWorked b a stamp [] → read_of (IsPortionOf spot limits) r b → read_of (IsPortionOf spot limits) r a
+portion_found spot limits (Ok portion) b a stamp begun is = subst (λ s. IsPortion s spot limits portion.part portion.next) (begun_state b a stamp begun) is
+portion_found spot limits (Err unread.Worn) b a stamp begun is = absurd is
+portion_found spot limits (Err unread.NoMemory) b a stamp begun is = tt
+
+-- so is a portion of it
+pub portioned_by : (spot : Spot) (limits : PortionLimits) (r : Result Portion ReadFault) (b a : Book) (stamp : ℕ) → read_of (IsPortionOf spot limits) r b → IsWorked b a stamp [] →
+    HasWorked (IsPortioned spot limits r) b a stamp
+portioned_by spot limits r b a stamp is begun = ([], begun, (portion_found spot limits r b a stamp begun is, refl))
 
 asked : (v : List ℕ) (r : Result Since ReadFault) (b : Book) → read_of (IsSince v) r b → read_of (λ (since : Since) (book : Book). Unit {0}) r b
 asked v (Ok since) b is = tt

@@ -22,7 +22,11 @@ use Rattle.zq_model.specs.Sets as sets
 use Rattle.zq_model.specs.Tail.{AreNew, image_after_all, lacking, lacking_from}
 use Rattle.zq_shard.specs.Shard.{HeapImage, IsOfHeap}
 use Rattle.zq_shard.specs.Taken.{answer_of}
+use Rattle.zq_shard.specs.declared.spot.Spot.{Spot}
 use Rattle.zq_shard.specs.declared.taken.Taken.{Taken}
+use Rattle.zq_stage.specs.Portion.{IsPortion}
+use Rattle.zq_stage.specs.declared.portion.Portion.{Portion}
+use Rattle.zq_stage.specs.declared.portion.PortionLimits.{PortionLimits}
 use Rattle.zq_spread.specs.declared.faults.ReadFault.{ReadFault}
 use Rattle.zq_spread.specs.declared.faults.ReadFault.TheVariants as unread
 
@@ -95,6 +99,17 @@ IsCopyOf shard b = shard ≡ state_of b
 abbrev pub IsCopied : Result HeapImage ReadFault → List Book → List (List Step) → Type 0
 IsCopied result (b ∷ []) (steps ∷ []) = read_of IsCopyOf result b × (steps ≡ [])
 IsCopied result books steps = ⊥
+
+abbrev pub IsPortionOf : Spot → PortionLimits → Portion → Book → Type 0
+IsPortionOf spot limits portion b =
+    IsPortion (state_of b) spot limits portion.part portion.next
+
+-- a portion of the heap was copied, from this spot of a walk on
+abbrev pub IsPortioned : Spot → PortionLimits → Result Portion ReadFault → List Book →
+    List (List Step) → Type 0
+IsPortioned spot limits result (b ∷ []) (steps ∷ []) =
+    read_of (IsPortionOf spot limits) result b × (steps ≡ [])
+IsPortioned spot limits result books steps = ⊥
 
 -- the book was asked, and no step was made
 abbrev pub IsAsked : Result Since ReadFault → List Book → List (List Step) → Type 0

@@ -5,14 +5,16 @@ ghost use Rattle.zq_model.specs.Reach.{IsWorked};
 ghost use Rattle.zq_journal.specs.Books.{LAST_STAMP, state_of};
 ghost use Rattle.zq_shard.specs.Shard.{IsOfHeap, IsSameHeap};
 ghost use Rattle.zq_spread.specs.Batches.{IsNotTaken, IsTakenAll, IsTakenNext};
-ghost use Rattle.zq_spread.specs.Answers.{HasWorked, IsCopyOf, IsDrained, IsHandedOn, IsMerged, IsSince, IsTaken, IsTakenOver, read_of};
+ghost use Rattle.zq_spread.specs.Answers.{HasWorked, IsCopyOf, IsDrained, IsHandedOn, IsMerged, IsPortionOf, IsSince, IsTaken, IsTakenOver, read_of};
 
 use crate::faults::ReadFault;
 use crate::taken_all::{TakeEnd, TakenAll};
 use std::alloc::Global;
 use zq_dots::{Op, Vector};
 use zq_journal::{Book, LAST_COUNT, MergeFault, Since, TakeFault, TakeOverFault};
-use zq_shard::{Shard, Taken};
+use zq_posheap::Seeded;
+use zq_shard::{Shard, Spot, Taken};
+use zq_stage::{Portion, PortionLimits};
 use zq_tally::Total;
 use zq_ticketlock::Keeps;
 
@@ -144,6 +146,19 @@ impl LockedHeap {
         ensures { read_of IsCopyOf result self.now.book }
     {
         Ok(self.book.shard().copy(alloc)?)
+    }
+
+    /// A copy of a portion of the heap, from this spot of a walk on.
+    pub(crate) fn portion(
+        &self,
+        alloc: Global,
+        spot: Spot,
+        limits: PortionLimits,
+        hasher: Seeded,
+    ) -> Result<Portion, ReadFault>
+        ensures { read_of (IsPortionOf spot limits) result self.now.book }
+    {
+        Ok(Portion::of(self.book.shard(), alloc, spot, limits, hasher)?)
     }
 
     /// What a peer of this vector lacks, as its book says.

@@ -1,7 +1,7 @@
 //! What a site shows of a heap.
 ghost use Rattle.std.specs.Prelude.{◌≡◌, ◌<◌, ◌⊎◌, ◌∷◌, [], IfOk, IsErrOf, OnErr};
 ghost use Rattle.zq_model.specs.Sets.{IsHeaps};
-ghost use Rattle.zq_spread.specs.Answers.{IsAsked, IsCopied, IsDrained, IsShown, IsSince};
+ghost use Rattle.zq_spread.specs.Answers.{IsAsked, IsCopied, IsDrained, IsPortioned, IsShown, IsSince};
 ghost use Rattle.zq_spread.specs.Calls.{HasSeenBook, IsCall, heaps_of};
 ghost use Rattle.zq_spread.specs.Passes.{IsPassOf};
 ghost use Rattle.zq_spread.specs.Worn.{IsWornIn};
@@ -13,7 +13,9 @@ use std::alloc::Global;
 use std::sync::Wait;
 use zq_dots::{Rule, SiteNo, Vector};
 use zq_journal::Since;
-use zq_shard::Shard;
+use zq_posheap::Seeded;
+use zq_shard::{Shard, Spot};
+use zq_stage::{Portion, PortionLimits};
 use zq_ticketlock::Worn;
 
 impl Site {
@@ -81,6 +83,40 @@ impl Site {
         let copy = held.value().copy(alloc);
         self.end_in(pass, heap, held, stamp);
         copy
+    }
+
+    /// A copy of the next members of a walk over a heap, with the heap's vector, as it is at the
+    /// call's stamp. The heap is held for as long as it takes to copy as many as the limits allow.
+    /// [`zq_shard::Shard::walk`] says what a walk promises while calls change the heap between its
+    /// portions; after [`Site::merge`] or [`Site::take_over`] in the heap it begins anew. Keys and
+    /// members of the copy are placed by the hasher.
+    ///
+    /// `Worn` where the heap's lock or the stamp is at its last value, and then no image, book or
+    /// stamp has changed. Else `NoMemory` where the copy was refused: then the call stands at its
+    /// stamp, and has made no step.
+    pub fn portion<R: Wait>(
+        &self,
+        rt: &R,
+        alloc: Global,
+        pass: &mut Pass,
+        heap: u8,
+        spot: Spot,
+        limits: PortionLimits,
+        hasher: Seeded,
+    ) -> Result<Portion, ReadFault>
+        requires pass { IsPassOf self.now pass.old }
+        requires heap { heap < heaps_of self.now }
+        ensures pass { IsPassOf self.now pass.new }
+        ensures called { IsCall (IsPortioned spot limits result) pass.old pass.new (heap ∷ [])
+            ⊎ (IsErrOf result ReadFault.Worn × IsWornIn (heap ∷ []) pass.old pass.new) }
+    {
+        let heap = usize::from(heap);
+        let Ok((held, stamp)) = self.begin_in(rt, pass, heap) else {
+            return Err(ReadFault::Worn);
+        };
+        let portion = held.value().portion(alloc, spot, limits, hasher);
+        self.end_in(pass, heap, held, stamp);
+        portion
     }
 
     /// What a peer of this vector lacks of a heap, as its book says: `TooOld` exactly where the

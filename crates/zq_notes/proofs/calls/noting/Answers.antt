@@ -1,4 +1,4 @@
-use Rattle.zq_notes.proofs.Noted.{calls, copies, drains, merges, shows, takes, takes_all, takes_over, tells}
+use Rattle.zq_notes.proofs.Noted.{calls, copies, drains, merges, portions, shows, takes, takes_all, takes_over, tells}
 use Rattle.zq_notes.proofs.calls.noting.Goals as goal
 
 pub returns-clause-calls : goal.returns-clause-calls
@@ -24,6 +24,9 @@ returns-clause-drains c = drains
 
 pub returns-clause-copies : goal.returns-clause-copies
 returns-clause-copies c = copies
+
+pub returns-clause-portions : goal.returns-clause-portions
+returns-clause-portions c = portions
 
 pub returns-clause-shows : goal.returns-clause-shows
 returns-clause-shows c = shows

@@ -1,7 +1,6 @@
-use Rattle.std.proofs.Common.{ap, arith, drop, length, refl, subst, sym, take, ◌+◌, ◌++◌, ◌∙◌, ◌∷◌, ◌≡◌}
-use Rattle.std.proofs.lemmas.List.{append_assoc, length-take, take_all, take_more}
+use Rattle.std.proofs.Common.{ap, arith, drop, subst, sym, take, ◌+◌, ◌++◌, ◌∙◌, ◌∷◌, ◌≡◌}
+use Rattle.std.proofs.lemmas.List.{length-take, take_more}
 use Rattle.std.specs.Prelude.{[]}
-use Rattle.zq_model.specs.Books.{Book}
 use Rattle.zq_journal.specs.Books.{state_of}
 use Rattle.zq_spread.proofs.InTurn.{goes_on, parts, taken_so_far}
 use Rattle.zq_spread.proofs.locked_heap.LockedHeap.take_all.Goals as goal
