@@ -20,3 +20,5 @@ mod merge;
 mod parts;
 #[cfg(test)]
 mod pieces;
+#[cfg(test)]
+mod transfer;
