@@ -38,7 +38,7 @@ fn word_at(script: &str, number: usize) -> Option<&str> {
 }
 
 /// Makes the steps up to the first that is not done, and gives the disk as it is then.
-fn play<D: Disk + Drop>(alloc: Global, mut log: Wal<D>, script: &str) -> D
+pub(crate) fn play<D: Disk + Drop>(alloc: Global, mut log: Wal<D>, script: &str) -> D
     requires { IsLog D.seen D.staged D.may_leave log }
 {
     for number in 0..script.len() {
