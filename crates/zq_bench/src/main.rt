@@ -7,6 +7,7 @@
 //! | `image shard MEMBERS MAKES`, `image book MEMBERS MAKES LONG` | what is made of a shard, or of a book whose tail is cut |
 //! | `lock rates MS`, `lock spread MS` | lockings a second of the ticket lock and of a mutex, or how evenly threads share each |
 //! | `node OPERATIONS [ROUND]` | how a node catches up with another one |
+//! | `pops ZPOPMIN MEMBERS HEAPS PASSES`, `pops ZPOPNEAR ..` | which members are popped, and how many a second |
 //! | `ranked STEPS PAIRS` | nanoseconds a step of the ranked list and of the positioned heap |
 //! | `site CALLS` | calls a second of a site by 1, 2 and 4 threads |
 //! | `world EVENTS` | events a second of a world of sites |
@@ -27,6 +28,7 @@ mod measurement;
 mod members;
 mod node;
 mod numbers;
+mod pops;
 mod ranked;
 mod requests;
 mod site;
@@ -48,6 +50,7 @@ const HELP: &str = "usage: zq_bench heap STEPS MEMBERS [wide]
        zq_bench image merge MEMBERS | frame MEMBERS | shard MEMBERS MAKES | book MEMBERS MAKES LONG
        zq_bench lock rates MS | spread MS
        zq_bench node OPERATIONS [ROUND]
+       zq_bench pops ZPOPMIN|ZPOPNEAR MEMBERS HEAPS PASSES
        zq_bench ranked STEPS PAIRS
        zq_bench site CALLS
        zq_bench world EVENTS
@@ -106,6 +109,7 @@ fn measure<R: Clock + Print + Eprint + Input + Threads + Wait + Sync>(
         Measurement::Image(part) => image::measure(rt, alloc, part),
         Measurement::Lock(contest) => lock::measure(rt, alloc, contest),
         Measurement::Node(plan) => node::measure(rt, alloc, plan),
+        Measurement::Pops(plan) => pops::measure(rt, alloc, plan),
         Measurement::Ranked(sizes) => ranked::measure(rt, alloc, sizes),
         Measurement::Site(calls) => site::measure(rt, alloc, calls),
         Measurement::World(events) => world::measure(rt, alloc, events),

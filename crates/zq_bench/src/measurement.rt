@@ -1,5 +1,5 @@
 //! What is measured.
-use crate::{heap, image, lock, node, ranked, site, world};
+use crate::{heap, image, lock, node, pops, ranked, site, world};
 
 /// What the command line asks for.
 #[derive(Clone, Copy)]
@@ -10,6 +10,7 @@ pub enum Measurement {
     Image(image::Part),
     Lock(lock::Contest),
     Node(node::Plan),
+    Pops(pops::Plan),
     Ranked(ranked::Sizes),
     Site(usize),
     World(u32),
@@ -24,6 +25,7 @@ pub fn read(words: &[String]) -> Option<Measurement> {
         "image" => Some(Measurement::Image(image::read(rest)?)),
         "lock" => Some(Measurement::Lock(lock::read(rest)?)),
         "node" => Some(Measurement::Node(node::read(rest)?)),
+        "pops" => Some(Measurement::Pops(pops::read(rest)?)),
         "ranked" => Some(Measurement::Ranked(ranked::read(rest)?)),
         "site" => Some(Measurement::Site(site::read(rest)?)),
         "world" => Some(Measurement::World(world::read(rest)?)),

@@ -2,8 +2,9 @@
 use crate::heap::Sizes as HeapSizes;
 use crate::image::Part;
 use crate::node::Plan;
+use crate::pops::Plan as PopsPlan;
 use crate::ranked::Sizes as RankedSizes;
-use crate::{heap, image, node, ranked, site, world};
+use crate::{heap, image, node, pops, ranked, site, world};
 use std::alloc::Global;
 use std::rt::Clock;
 use std::sync::Wait;
@@ -20,6 +21,13 @@ const IMAGE: Part = Part::Frame { members: 1000 };
 const NODE: Plan = Plan {
     operations: 3000,
     round: 1000,
+};
+
+const POPS: PopsPlan = PopsPlan {
+    pop: "ZPOPNEAR",
+    members: 1000,
+    heaps: 4,
+    passes: 2,
 };
 
 const RANKED: RankedSizes = RankedSizes {
@@ -39,6 +47,7 @@ pub fn measure_all<R: Clock + Print + Eprint + Input + Threads + Wait + Sync>(
     heap::measure(rt, alloc, HEAP)?;
     image::measure(rt, alloc, IMAGE)?;
     node::measure(rt, alloc, NODE)?;
+    pops::measure(rt, alloc, POPS)?;
     ranked::measure(rt, alloc, RANKED)?;
     site::measure(rt, alloc, SITE_CALLS)?;
     world::measure(rt, alloc, WORLD_EVENTS)
