@@ -12,8 +12,8 @@ use zq_dots::{Op, Rule, SiteNo, Vector};
 use zq_entry::Entry;
 use zq_journal::{Book, TakeOverFault};
 use zq_posheap::Seeded;
-use zq_shard::{Shard, Taken};
-use zq_stage::{PieceFault, Stage, TakeFault};
+use zq_shard::{Shard, Spot, Taken};
+use zq_stage::{PieceFault, Portion, PortionLimits, Stage, TakeFault};
 
 /// How many members there are, each in turn of one of two keys.
 const MEMBERS: usize = 14;
@@ -255,6 +255,70 @@ fn what_does_not_fit_is_refused(rt: HostRuntime) {
     assert!(rt; !stage.is_whole() && stage.life() == LIFE && stage.next() == 1);
     assert!(rt; stage.piece(alloc, LIFE, 1, &old, true) == Ok(()));
     assert!(rt; stage.is_whole() && stage.next() == 2);
+}
+
+/// How many members a heap has in its two keys.
+fn members_in(heap: &Shard) -> usize {
+    heap.count(key_of(0)).saturating_add(heap.count(key_of(1)))
+}
+
+/// A stage to which the heap comes in portions of these limits, and how many members each has.
+fn portioned(alloc: Global, heap: &Shard, limits: PortionLimits) -> Option<(Shard, Vec<usize>)> {
+    let mut sizes = Vec::new(alloc);
+    let first = Portion::of(heap, alloc, Spot::start(), limits, Seeded::new(5)).ok()?;
+    sizes.push(members_in(&first.part)).ok()?;
+    let mut next = first.next;
+    let mut stage = Stage::new(LIFE, first.part, next.is_end());
+    for _ in 0..MEMBERS {
+        if next.is_end() {
+            return Some((stage.finish()?, sizes));
+        }
+        let more = Portion::of(heap, alloc, next, limits, Seeded::new(6)).ok()?;
+        sizes.push(members_in(&more.part)).ok()?;
+        next = more.next;
+        let number = stage.next();
+        stage
+            .piece(alloc, LIFE, number, &more.part, next.is_end())
+            .ok()?;
+    }
+    Some((stage.finish()?, sizes))
+}
+
+/// A heap of five members, of one addition each.
+fn five(alloc: Global) -> Option<Shard> {
+    let mut heap = Shard::new(alloc, 0, 1);
+    for member in 0..5 {
+        make(&mut heap, alloc, 0, member, Deed::Put(1))?;
+    }
+    Some(heap)
+}
+
+#[test]
+fn portions_give_the_whole_heap(rt: HostRuntime) {
+    let alloc = rt.alloc();
+    let heap = five(alloc).expect(&rt, "memory");
+    // A member counts for 1 + 1 + 32 + 1106 bytes.
+    let rows: [(usize, usize, &[usize]); 6] = [
+        (100, 1_000_000, &[5]),
+        (2, 1_000_000, &[2, 2, 1]),
+        (5, 1_000_000, &[5]),
+        (100, 0, &[1, 1, 1, 1, 1]),
+        (100, 2_279, &[1, 1, 1, 1, 1]),
+        (100, 2_280, &[2, 2, 1]),
+    ];
+    for (row, (members, bytes, sizes)) in rows.iter().enumerate() {
+        let limits = PortionLimits {
+            rows: *members,
+            bytes: *bytes,
+        };
+        let (whole, found) = portioned(alloc, &heap, limits).expect(&rt, "a heap");
+        row_holds(
+            &rt,
+            "portions",
+            row,
+            whole.same(&heap) && found.as_slice() == *sizes,
+        );
+    }
 }
 
 /// Site 0 puts a member of a book, at the book's stamp: whether it could.
