@@ -74,14 +74,18 @@ impl<R: Files<File = File> + Drop> FoundLog<R> {
     }
 
     /// Why reading has failed, if it has.
-    pub fn fault(&self) -> Option<FileFault> {
+    pub fn fault(&self) -> Option<FileFault>
+        ensures { result ≡ self.now.files.fault }
+    {
         self.files.fault
     }
 }
 
 impl<R: Files<File = File> + Drop> FileDisk<R> {
     /// Why a call has failed, if one has. No other call is made then: each one is `Failed`.
-    pub fn fault(&self) -> Option<FileFault> {
+    pub fn fault(&self) -> Option<FileFault>
+        ensures { result ≡ self.now.files.fault }
+    {
         self.files.fault
     }
 }

@@ -1,5 +1,8 @@
 //! Why a folder is not opened, and why a call on its files failed.
 
+ghost use Rattle.std.specs.Prelude.{◌≡◌};
+ghost use Rattle.zq_wal_file.specs.declared.fault.OpenFault.TheVariants.{Io};
+
 use std::fmt;
 use std::io::{self, ErrorKind};
 
@@ -29,7 +32,9 @@ pub enum FileFault {
 }
 
 impl From<io::Error> for OpenFault {
-    fn from(error: io::Error) -> OpenFault {
+    fn from(error: io::Error) -> OpenFault
+        ensures { result ≡ Io error }
+    {
         OpenFault::Io(error)
     }
 }
