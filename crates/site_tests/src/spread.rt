@@ -8,6 +8,7 @@ mod draining;
 mod exchanging;
 mod holding;
 mod last_values;
+mod portions;
 mod taking;
 mod taking_all;
 
