@@ -1,7 +1,9 @@
 //! Texts with settings, and texts that are refused.
 
 mod admin_refused;
+mod bound_refused;
 mod given;
+mod guard_refused;
 mod name_refused;
 mod refused;
 mod site_given;

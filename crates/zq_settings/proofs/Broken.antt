@@ -6,12 +6,13 @@ use Rattle.std.specs.Option.{ok_or}
 use Rattle.toml.specs.Data.{Data, Members, array, Items, no_items, item, as_integer, as_array}
 use Rattle.toml.specs.View.{items_of}
 use Rattle.zq_settings.proofs.Faults.{HasFault, by_steps, common_fault, count_listed, listed, rule_fault, seed_fault, unknown_fault, whole_fault}
+use Rattle.zq_settings.proofs.MeantLogLevel.{log_level_fault}
 use Rattle.zq_settings.proofs.MeantPorts.{port_since, each_since}
 use Rattle.zq_settings.proofs.Steps.{both_err, some_since, none_since, array_since}
 use Rattle.zq_settings.specs.Breaks.{IsOutside, HasEntry, Breaks, EachRefusalIsOfABrokenRule}
 use Rattle.zq_settings.specs.Ports.{first_twice}
 use Rattle.zq_settings.specs.Rules.{entry_of}
-use Rattle.zq_settings.specs.Settings.{◌>>=◌, common_of, count_of, each, port_of, unless_twice, distinct, ports_in, ports_of, known_keys, seed_of, rule_of}
+use Rattle.zq_settings.specs.Settings.{◌>>=◌, common_of, count_of, each, port_of, unless_twice, distinct, log_level_of, ports_in, ports_of, known_keys, seed_of, rule_of}
 use Rattle.zq_settings.specs.Tables.{value_at}
 use Rattle.zq_settings.specs.declared.form.Form.TheVariants as form
 use Rattle.zq_settings.specs.declared.key.Key.{Key}
@@ -135,5 +136,6 @@ each_refusal_is_of_a_broken_rule table why =
     by_steps (common_of table) _ why P
     (common_fault table why P (fault_breaks key.Heaps table why) (fault_breaks key.Workers table why) (fault_breaks key.Connections table why) (fault_breaks key.Clients table why) (fault_breaks key.Timeout table why)
     (fault_breaks key.WriteTimeout table why) (fault_breaks key.Output table why)) (λ common _.
+    by_steps (log_level_of (value_at key.LogLevel table)) _ why P (λ h. fault_breaks key.LogLevel table why (log_level_fault table why _ refl h)) (λ log_level _.
     by_steps (seed_of (value_at key.Seed table)) _ why P (λ h. fault_breaks key.Seed table why (seed_fault table why h)) (λ seed _.
-    by_steps (rule_of (value_at key.Rule table)) _ why P (λ h. fault_breaks key.Rule table why (rule_fault table why _ refl h)) (λ rule _ wrong. cc)))))
+    by_steps (rule_of (value_at key.Rule table)) _ why P (λ h. fault_breaks key.Rule table why (rule_fault table why _ refl h)) (λ rule _ wrong. cc))))))

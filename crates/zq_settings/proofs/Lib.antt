@@ -1,4 +1,5 @@
 pub mod AddressFaults
+pub mod AdminBroken
 pub mod Apart
 pub mod Broken
 pub mod Faults
@@ -7,6 +8,8 @@ pub mod Meant
 pub mod MeantAccept
 pub mod MeantAddresses
 pub mod MeantAdmin
+pub mod MeantAdminKeys
+pub mod MeantLogLevel
 pub mod MeantNumbers
 pub mod MeantPeers
 pub mod NamedTexts
@@ -15,6 +18,7 @@ pub mod MeantPorts
 pub mod MeantSite
 pub mod Seen
 pub mod SiteBroken
+pub mod SiteFaults
 pub mod Spelled
 pub mod Steps
 pub mod Told

@@ -1,4 +1,5 @@
 -- A table's settings are those that its keys say.
+use Rattle.zq_settings.proofs.MeantLogLevel.{log_level_from, log_level_since}
 use Rattle.zq_settings.proofs.MeantNumbers.{number_since, number_from, limit_since, limit_from, rule_since, rule_from}
 use Rattle.zq_settings.proofs.MeantPorts.{ports_since, ports_from}
 use Rattle.zq_settings.proofs.Steps.{both_ok}
@@ -9,7 +10,7 @@ use Rattle.std.specs.List.{All, find}
 use Rattle.toml.specs.Data.{Members}
 use Rattle.zq_settings.specs.Keys.{is_known}
 use Rattle.zq_settings.specs.Rules.{AreClientLimits, IsLimit, IsNumber, IsSettings, SettingsAreOfTheTable}
-use Rattle.zq_settings.specs.Settings.{number_of, connections_of, rule_of, seed_of, client_limits_of, common_of, ports_of, known_keys, unless_unknown, settings_of}
+use Rattle.zq_settings.specs.Settings.{number_of, connections_of, rule_of, seed_of, client_limits_of, common_of, log_level_of, ports_of, known_keys, unless_unknown, settings_of}
 use Rattle.zq_settings.specs.Tables.{names_in, value_at, first_unknown}
 use Rattle.zq_settings.specs.declared.form.Form.{Form}
 use Rattle.zq_settings.specs.declared.form.Form.TheVariants as form
@@ -100,9 +101,10 @@ settings_since table settings h =
     let (known, is_known_read, h1) = both_ok (known_keys form.Sites table) _ settings h in
     let (ports, ports_read, h2) = both_ok (ports_of (value_at key.Ports table)) _ settings h1 in
     let (common, common_read, h3) = both_ok (common_of table) _ settings h2 in
-    let (seed, seed_read, h4) = both_ok (seed_of (value_at key.Seed table)) _ settings h3 in
-    let (rule, rule_read, h5) = both_ok (rule_of (value_at key.Rule table)) _ settings h4 in
-    let whole : record { ports = ports; heaps = common.heaps; workers = common.workers; connections = common.connections; limits = common.limits; seed = seed; rule = rule } ≡ settings = cc in
+    let (log_level, log_level_read, h4) = both_ok (log_level_of (value_at key.LogLevel table)) _ settings h3 in
+    let (seed, seed_read, h5) = both_ok (seed_of (value_at key.Seed table)) _ settings h4 in
+    let (rule, rule_read, h6) = both_ok (rule_of (value_at key.Rule table)) _ settings h5 in
+    let whole : record { ports = ports; heaps = common.heaps; workers = common.workers; connections = common.connections; limits = common.limits; log_level = log_level; seed = seed; rule = rule } ≡ settings = cc in
     let is = common_since table common common_read in
     rw (← whole) (record {
       known = known_since form.Sites table known is_known_read;
@@ -111,6 +113,7 @@ settings_since table settings h =
       workers = is.workers;
       connections = is.connections;
       limits = is.limits;
+      log_level = log_level_since log_level _ log_level_read;
       seed = number_since _ 0 9223372036854775807 1 seed _ seed_read;
       rule = rule_since rule _ rule_read;
     })
@@ -123,6 +126,7 @@ settings_from table settings is =
       known_from form.Sites table is.known,
       ports_from settings.ports _ is.ports,
       common_from table common is_common,
+      log_level_from settings.log_level _ is.log_level,
       number_from key.Seed 0 9223372036854775807 1 settings.seed _ is.seed,
       rule_from settings.rule _ is.rule,
     )

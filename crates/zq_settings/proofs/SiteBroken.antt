@@ -2,15 +2,17 @@
 use Rattle.zq_settings.proofs.AddressFaults.{AddressFault, address_fault}
 use Rattle.zq_settings.proofs.Broken.{repeated}
 use Rattle.zq_settings.proofs.MeantAccept.{accept_fault}
-use Rattle.zq_settings.proofs.MeantAdmin.{admin_fault}
+use Rattle.zq_settings.proofs.AdminBroken.{admin_keys_break}
+use Rattle.zq_settings.proofs.MeantLogLevel.{log_level_fault}
 use Rattle.zq_settings.proofs.Faults.{HasFault, by_steps, common_fault, count_listed, listed, number_fault, required_fault, rule_fault, unknown_fault}
 use Rattle.zq_settings.proofs.MeantAddresses.{secret_since}
 use Rattle.zq_settings.proofs.MeantNumbers.{required_since}
 use Rattle.zq_settings.proofs.MeantPeers.{each_since, peer_since}
+use Rattle.zq_settings.proofs.SiteFaults.{address_breaks, fault_breaks, missing_breaks}
 use Rattle.zq_settings.proofs.NamedTexts.{local_peer_from, peer_text_from, peer_text_since}
 use Rattle.zq_settings.proofs.Spelled.{no_ip}
 use Rattle.zq_settings.proofs.Steps.{both_err, some_since, none_since, text_since, array_since, table_since}
-use Rattle.std.proofs.Common.{◌+◌, ◌≡◌, ◌⊎◌, ℕ, pos, Bool, true, false, eqb, ltb, List, [], ◌∷◌, ◌++◌, length, Option, Some, None, Result, Ok, Err, refl, sym, ap, ◌∙◌, inl, inr}
+use Rattle.std.proofs.Common.{◌+◌, ◌≡◌, ℕ, pos, Bool, true, false, eqb, ltb, List, [], ◌∷◌, ◌++◌, length, Option, Some, None, Result, Ok, Err, refl, sym, ap, ◌∙◌, inl, inr}
 use Rattle.std.proofs.lemmas.Bool.{cases_Bool, ltb-true, eqb-true}
 use Rattle.std.specs.Option.{is_some, ok_or}
 use Rattle.toml.specs.Data.{Data, Items, no_items, item, Members, integer, string, array, as_array, as_str, as_table, table as subtable}
@@ -20,27 +22,17 @@ use Rattle.zq_settings.specs.Breaks.{HasUnknown, IsNoPeerAddress}
 use Rattle.zq_settings.specs.PeerAddresses.{IsLocalPeer, is_local_peer, peer_address_of}
 use Rattle.zq_settings.specs.Peers.{sites_of}
 use Rattle.zq_settings.specs.Ports.{first_twice}
-use Rattle.zq_settings.specs.Settings.{common_of, count_of, each, known_keys, required_of, rule_of, site_of}
-use Rattle.zq_settings.specs.Site.{accept_of, address_at, admin_of, alone_of, apart, bind_of, drain_of, link_backlog_of, peer_address_at, peer_at, peer_of, peers_in, peers_of, secret_of, site_seed_of, unless_far, unless_met, unless_own, unless_short}
-use Rattle.zq_settings.specs.SiteBreaks.{EachRefusalOfASiteIsOfABrokenRule, HasKey, HasPeer, HasTwice, HasValue, IsExposed, SiteBreaks}
+use Rattle.zq_settings.specs.Settings.{common_of, count_of, each, known_keys, log_level_of, required_of, rule_of, site_of}
+use Rattle.zq_settings.specs.Site.{accept_of, address_at, admin_keys_of, alone_of, apart, bind_of, drain_of, link_backlog_of, max_memory_of, peer_address_at, peer_at, peer_of, peers_in, peers_of, secret_of, site_seed_of, unless_far, unless_met, unless_own, unless_short}
+use Rattle.zq_settings.specs.SiteBreaks.{EachRefusalOfASiteIsOfABrokenRule, HasPeer, HasTwice, SiteBreaks}
 use Rattle.zq_settings.specs.SiteRules.{AreEach, IsPeer}
 use Rattle.zq_settings.specs.Tables.{value_at}
 use Rattle.zq_settings.specs.declared.form.Form.TheVariants as form
-use Rattle.zq_settings.specs.declared.key.Key.{Key}
 use Rattle.zq_settings.specs.declared.key.Key.TheVariants as key
 use Rattle.zq_settings.specs.declared.peer.Peer.{Peer}
 use Rattle.zq_settings.specs.declared.peer_address.PeerAddress.{PeerAddress}
 use Rattle.zq_settings.specs.declared.why.Why.{Why}
 use Rattle.zq_settings.specs.declared.why.Why.TheVariants.{Missing, Count, Kind, Range, PeerTwice, OwnPeer, Exposed}
-
--- a value that is not as its key wants it, in the table that the key is of
-fault_breaks : (table t : Members) (key : Key) (lift : (P : Members → Type 0) → P t → HasKey key P table) (why : Why) → HasFault key t why → SiteBreaks table why
-fault_breaks table t key lift why (inl (same, has)) = rw same (lift _ has)
-fault_breaks table t key lift why (inr (same, has)) = rw same (lift _ has)
-
-missing_breaks : (table t : Members) (key : Key) (lift : (P : Members → Type 0) → P t → HasKey key P table) (why : Why) → ((why ≡ Missing key) × (value_at key t ≡ None)) ⊎ HasFault key t why → SiteBreaks table why
-missing_breaks table t key lift why (inl (same, none)) = rw same (lift _ none)
-missing_breaks table t key lift why (inr fault) = fault_breaks table t key lift why fault
 
 -- the address of a peer that is not taken
 far_since : (secured : Bool) (a : PeerAddress) (why : Why) → unless_far secured a ≡ Err why → (why ≡ Exposed key.PeerAddress) × (secured ≡ false) × (is_local_peer a ≡ false)
@@ -70,11 +62,6 @@ peer_address_fault secured t why (Some d) seen last =
     let spells = peer_text_since text a (some_since _ _ a written) in
     let far : ¬ IsLocalPeer a = λ local. let never : true ≡ false = sym (local_peer_from a local) ∙ other in cc in
     inr (same, bare, (d, seen, (text, a, writes, spells, far))))) last
-
-address_breaks : (table t : Members) (at : Key) (lift : (P : Members → Type 0) → P t → HasKey at P table) (secured : Bool) → (secured ≡ false → HasValue at (IsExposed at) table → SiteBreaks table (Exposed at))
-    → (why : Why) → AddressFault secured at t why → SiteBreaks table why
-address_breaks table t at lift secured breaks why (inl fault) = missing_breaks table t at lift why fault
-address_breaks table t at lift secured breaks why (inr (same, none, has)) = rw same (breaks none (lift _ has))
 
 -- the address of clients, and the secret
 bind_fault : (table : Members) (why : Why) (value : Option Data) → value_at key.Bind table ≡ value → bind_of value ≡ Err why → HasFault key.Bind table why
@@ -258,9 +245,12 @@ each_refusal_of_a_site_is_of_a_broken_rule table why =
     by_steps (alone_of (value_at key.Alone table)) _ why P
     (λ h. fault_breaks table table key.Alone (λ Q q. q) why (number_fault table key.Alone 0 1000000 10 (λ d none. none) (λ d out. out) why _ refl h)) (λ alone _.
     by_steps (accept_of (value_at key.Accept table)) _ why P (λ h. fault_breaks table table key.Accept (λ Q q. q) why (accept_fault table why _ refl h)) (λ accept _.
-    by_steps (admin_of (value_at key.Admin table)) _ why P (λ h. address_breaks table table key.Admin (λ Q q. q) false (λ none has. has) why (admin_fault table why _ refl h)) (λ admin _.
+    by_steps (admin_keys_of table) _ why P (admin_keys_break table why) (λ admin _.
     by_steps (drain_of (value_at key.Drain table)) _ why P
     (λ h. fault_breaks table table key.Drain (λ Q q. q) why (number_fault table key.Drain 0 1000000 10 (λ d none. none) (λ d out. out) why _ refl h)) (λ drain _.
+    by_steps (log_level_of (value_at key.LogLevel table)) _ why P (λ h. fault_breaks table table key.LogLevel (λ Q q. q) why (log_level_fault table why _ refl h)) (λ log_level _.
+    by_steps (max_memory_of (value_at key.MaxMemory table)) _ why P
+    (λ h. fault_breaks table table key.MaxMemory (λ Q q. q) why (number_fault table key.MaxMemory 0 1099511627776 0 (λ d none. none) (λ d out. out) why _ refl h)) (λ max_memory _.
     by_steps (site_seed_of site (value_at key.Seed table)) _ why P
     (λ h. fault_breaks table table key.Seed (λ Q q. q) why (number_fault table key.Seed 0 9223372036854775807 (site + 1) (λ d none. none) (λ d out. out) why _ refl h)) (λ seed _.
-    by_steps (rule_of (value_at key.Rule table)) _ why P (λ h. fault_breaks table table key.Rule (λ Q q. q) why (rule_fault table why _ refl h)) (λ rule _ wrong. cc)))))))))))))))
+    by_steps (rule_of (value_at key.Rule table)) _ why P (λ h. fault_breaks table table key.Rule (λ Q q. q) why (rule_fault table why _ refl h)) (λ rule _ wrong. cc)))))))))))))))))

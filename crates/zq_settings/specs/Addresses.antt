@@ -64,6 +64,9 @@ is_local address = is_loopback (socket_ip address)
 abbrev pub IsLoopback : SocketAddr → Type 0
 IsLoopback address = MatchIp (socket_ip address) IsLoopbackV4 IsLoopbackV6
 
+abbrev pub IsLoopbackIp : IpAddr → Type 0
+IsLoopbackIp ip = MatchIp ip IsLoopbackV4 IsLoopbackV6
+
 -- a text writes no address with a port that is not 0
 abbrev pub IsNoAddress : List ℕ → Type 0
 IsNoAddress text = (address : SocketAddr) → IsSocketText text address → socket_port address ≡ 0

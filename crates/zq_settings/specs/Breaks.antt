@@ -5,12 +5,14 @@ use Rattle.std.specs.declared.net.ip_addr.IpAddr.{IpAddr}
 use Rattle.toml.specs.Data.{Data, Members, integer, string, array, as_integer, as_array, as_str, as_table}
 use Rattle.toml.specs.View.{items_of}
 use Rattle.zq_settings.specs.Addresses.{IsNoAddress}
+use Rattle.zq_settings.specs.AdminKeys.{is_token}
 use Rattle.zq_settings.specs.Keys.{is_known}
 use Rattle.zq_settings.specs.Numbers.{within}
 use Rattle.zq_settings.specs.PeerAddresses.{IsPeerText}
 use Rattle.zq_settings.specs.Rules.{entry_of}
 use Rattle.zq_settings.specs.Settings.{rule_named, settings_of}
 use Rattle.zq_settings.specs.Accepting.{accept_named}
+use Rattle.zq_settings.specs.LogLevels.{log_level_named}
 use Rattle.zq_settings.specs.Tables.{names_in, value_at}
 use Rattle.zq_settings.specs.declared.form.Form.{Form}
 use Rattle.zq_settings.specs.declared.form.Form.TheVariants as form
@@ -62,7 +64,11 @@ IsOfOtherKind key.LinkBacklog value = as_integer value ≡ None
 IsOfOtherKind key.Alone value = as_integer value ≡ None
 IsOfOtherKind key.Accept value = as_str value ≡ None
 IsOfOtherKind key.Admin value = as_str value ≡ None
+IsOfOtherKind key.AdminToken value = as_str value ≡ None
+IsOfOtherKind key.AdminBind value = as_str value ≡ None
 IsOfOtherKind key.Drain value = as_integer value ≡ None
+IsOfOtherKind key.LogLevel value = as_str value ≡ None
+IsOfOtherKind key.MaxMemory value = as_integer value ≡ None
 IsOfOtherKind key.Seed value = as_integer value ≡ None
 IsOfOtherKind key.Site value = as_integer value ≡ None
 IsOfOtherKind key.Port value = as_integer value ≡ None
@@ -88,7 +94,11 @@ IsOutOfRange key.LinkBacklog value = IsOutside 1048576 1099511627776 value
 IsOutOfRange key.Alone value = IsOutside 0 1000000 value
 IsOutOfRange key.Accept value = IsText (λ word. accept_named word ≡ None) value
 IsOutOfRange key.Admin value = IsText IsNoAddress value
+IsOutOfRange key.AdminToken value = IsText (λ text. is_token text ≡ false) value
+IsOutOfRange key.AdminBind value = IsText IsNoIp value
 IsOutOfRange key.Drain value = IsOutside 0 1000000 value
+IsOutOfRange key.LogLevel value = IsText (λ word. log_level_named word ≡ None) value
+IsOutOfRange key.MaxMemory value = IsOutside 0 1099511627776 value
 IsOutOfRange key.Seed value = IsOutside 0 9223372036854775807 value
 IsOutOfRange key.Site value = IsOutside 0 63 value
 IsOutOfRange key.Port value = IsOutside 1 65535 value

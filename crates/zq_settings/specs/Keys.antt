@@ -21,7 +21,11 @@ name_of key.LinkBacklog = codes "link_backlog"
 name_of key.Alone = codes "alone"
 name_of key.Accept = codes "accept"
 name_of key.Admin = codes "admin"
+name_of key.AdminToken = codes "admin_token"
+name_of key.AdminBind = codes "admin_bind"
 name_of key.Drain = codes "drain"
+name_of key.LogLevel = codes "log_level"
+name_of key.MaxMemory = codes "max_memory"
 name_of key.Seed = codes "seed"
 name_of key.Rule = codes "rule"
 name_of key.Site = codes "site"
@@ -37,11 +41,12 @@ name_of key.PeerAddress = codes "address"
 abbrev pub keys_of : Form → List Key
 keys_of form.Sites =
     key.Ports ∷ key.Heaps ∷ key.Workers ∷ key.Connections ∷ key.Clients ∷ key.Timeout
-    ∷ key.WriteTimeout ∷ key.Output ∷ key.Seed ∷ key.Rule ∷ []
+    ∷ key.WriteTimeout ∷ key.Output ∷ key.LogLevel ∷ key.Seed ∷ key.Rule ∷ []
 keys_of form.Site =
     key.Site ∷ key.Port ∷ key.Bind ∷ key.Secret ∷ key.Listen ∷ key.Peers ∷ key.Heaps ∷ key.Workers
     ∷ key.Connections ∷ key.Clients ∷ key.Timeout ∷ key.WriteTimeout ∷ key.Output ∷ key.LinkBacklog
-    ∷ key.Alone ∷ key.Accept ∷ key.Admin ∷ key.Drain ∷ key.Seed ∷ key.Rule ∷ []
+    ∷ key.Alone ∷ key.Accept ∷ key.Admin ∷ key.AdminToken ∷ key.AdminBind ∷ key.Drain
+    ∷ key.LogLevel ∷ key.MaxMemory ∷ key.Seed ∷ key.Rule ∷ []
 keys_of form.Peer = key.PeerSite ∷ key.PeerAddress ∷ []
 
 -- one of the keys of such a table has this name

@@ -1,4 +1,6 @@
 pub mod Accepting
+pub mod AdminKeys
+pub mod LogLevels
 pub mod Numbers
 pub mod Keys
 pub mod Ports

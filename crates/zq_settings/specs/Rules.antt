@@ -5,11 +5,14 @@ use Rattle.toml.specs.View.{items_of}
 use Rattle.zq_dots.specs.declared.rule.Rule.{Rule}
 use Rattle.zq_dots.specs.declared.rule.Rule.TheVariants.{High, Low}
 use Rattle.zq_settings.specs.Keys.{is_known}
+use Rattle.zq_settings.specs.LogLevels.{log_level_word}
 use Rattle.zq_settings.specs.Ports.{ArePorts}
 use Rattle.zq_settings.specs.Settings.{limit_of, settings_of}
 use Rattle.zq_settings.specs.Tables.{names_in, value_at}
 use Rattle.zq_settings.specs.declared.form.Form.TheVariants as form
 use Rattle.zq_settings.specs.declared.key.Key.TheVariants as key
+use Rattle.zq_settings.specs.declared.log_level.LogLevel.{LogLevel}
+use Rattle.zq_settings.specs.declared.log_level.LogLevel.TheVariants.{Info}
 use Rattle.zq_settings.specs.declared.values.ClientLimits.{ClientLimits}
 use Rattle.zq_settings.specs.declared.values.Settings.{Settings}
 
@@ -38,6 +41,11 @@ word_of Low = codes "LOW"
 abbrev pub IsRule : Option Data → Rule → Type 0
 IsRule value rule = ((value ≡ None) × (rule ≡ High)) ⊎ (value ≡ Some (string (word_of rule)))
 
+-- there is no value, and the log says what info says, or the value is the word of what it says
+abbrev pub IsLogLevel : Option Data → LogLevel → Type 0
+IsLogLevel value level = ((value ≡ None) × (level ≡ Info))
+    ⊎ (value ≡ Some (string (log_level_word level)))
+
 -- how a port is written
 abbrev pub entry_of : ℕ → Data
 entry_of port = integer (pos port)
@@ -55,6 +63,7 @@ pub record IsSettings (table : Members) (settings : Settings) : Type 0 where
   pub workers : IsNumber 1 64 4 (value_at key.Workers table) settings.workers
   pub connections : IsLimit (value_at key.Connections table) settings.connections
   pub limits : AreClientLimits table settings.limits
+  pub log_level : IsLogLevel (value_at key.LogLevel table) settings.log_level
   pub seed : IsNumber 0 9223372036854775807 1 (value_at key.Seed table) settings.seed
   pub rule : IsRule (value_at key.Rule table) settings.rule
 

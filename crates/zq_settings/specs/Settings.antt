@@ -5,6 +5,7 @@ use Rattle.std.specs.Str.{bytes_eq}
 use Rattle.toml.specs.Data.{Data, Items, no_items, item, Members, as_integer, as_array, as_str}
 use Rattle.zq_dots.specs.declared.rule.Rule.{Rule}
 use Rattle.zq_dots.specs.declared.rule.Rule.TheVariants.{High, Low}
+use Rattle.zq_settings.specs.LogLevels.{log_level_named}
 use Rattle.zq_settings.specs.Numbers.{within}
 use Rattle.zq_settings.specs.Ports.{first_twice}
 use Rattle.zq_settings.specs.Tables.{value_at, first_unknown}
@@ -12,6 +13,8 @@ use Rattle.zq_settings.specs.declared.form.Form.{Form}
 use Rattle.zq_settings.specs.declared.form.Form.TheVariants as form
 use Rattle.zq_settings.specs.declared.key.Key.{Key}
 use Rattle.zq_settings.specs.declared.key.Key.TheVariants as key
+use Rattle.zq_settings.specs.declared.log_level.LogLevel.{LogLevel}
+use Rattle.zq_settings.specs.declared.log_level.LogLevel.TheVariants.{Info}
 use Rattle.zq_settings.specs.declared.values.ClientLimits.{ClientLimits}
 use Rattle.zq_settings.specs.declared.values.Common.{Common}
 use Rattle.zq_settings.specs.declared.values.Settings.{Settings}
@@ -66,6 +69,12 @@ abbrev pub rule_of : Option Data → Result Rule Why
 rule_of None = Ok High
 rule_of (Some value) = ok_or (as_str value) (Kind key.Rule) >>=
     (λ word. ok_or (rule_named word) (Range key.Rule))
+
+-- how much the log says by its word, and info where there is no value
+abbrev pub log_level_of : Option Data → Result LogLevel Why
+log_level_of None = Ok Info
+log_level_of (Some value) = ok_or (as_str value) (Kind key.LogLevel) >>=
+    (λ word. ok_or (log_level_named word) (Range key.LogLevel))
 
 -- what limits the clients of a port
 abbrev pub client_limits_of : Members → Result ClientLimits Why
@@ -135,6 +144,7 @@ settings_of table =
     known_keys form.Sites table >>= (λ known.
     ports_of (value_at key.Ports table) >>= (λ ports.
     common_of table >>= (λ common.
+    log_level_of (value_at key.LogLevel table) >>= (λ log_level.
     seed_of (value_at key.Seed table) >>= (λ seed.
     rule_of (value_at key.Rule table) >>= (λ rule.
     Ok (record {
@@ -143,6 +153,7 @@ settings_of table =
       workers = common.workers;
       connections = common.connections;
       limits = common.limits;
+      log_level = log_level;
       seed = seed;
       rule = rule;
-    }))))))
+    })))))))

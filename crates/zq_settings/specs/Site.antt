@@ -5,11 +5,12 @@ use Rattle.std.specs.declared.net.ip_addr.IpAddr.{IpAddr}
 use Rattle.std.specs.declared.net.socket_addr.SocketAddr.{SocketAddr}
 use Rattle.toml.specs.Data.{Data, Items, Members, as_array, as_str, as_table}
 use Rattle.zq_settings.specs.Addresses.{address_of, ip_of, is_local, localhost}
+use Rattle.zq_settings.specs.AdminKeys.{admin_bind_of, admin_token_of}
 use Rattle.zq_settings.specs.Accepting.{accept_named}
 use Rattle.zq_settings.specs.PeerAddresses.{is_local_peer, peer_address_of}
 use Rattle.zq_settings.specs.Peers.{sites_of}
 use Rattle.zq_settings.specs.Ports.{first_twice}
-use Rattle.zq_settings.specs.Settings.{◌>>=◌, common_of, count_of, each, known_keys, number_of, required_of, rule_of, site_of}
+use Rattle.zq_settings.specs.Settings.{◌>>=◌, common_of, count_of, each, known_keys, log_level_of, number_of, required_of, rule_of, site_of}
 use Rattle.zq_settings.specs.Tables.{value_at}
 use Rattle.zq_settings.specs.declared.accept.Accept.{Accept}
 use Rattle.zq_settings.specs.declared.accept.Accept.TheVariants.{Any}
@@ -18,6 +19,7 @@ use Rattle.zq_settings.specs.declared.key.Key.{Key}
 use Rattle.zq_settings.specs.declared.key.Key.TheVariants as key
 use Rattle.zq_settings.specs.declared.peer.Peer.{Peer}
 use Rattle.zq_settings.specs.declared.peer_address.PeerAddress.{PeerAddress}
+use Rattle.zq_settings.specs.declared.values.AdminSettings.{AdminSettings}
 use Rattle.zq_settings.specs.declared.values.SiteSettings.{SiteSettings}
 use Rattle.zq_settings.specs.declared.why.Why.{Why}
 use Rattle.zq_settings.specs.declared.why.Why.TheVariants.{Missing, Count, Kind, Range, PeerTwice, OwnPeer, Exposed}
@@ -120,9 +122,21 @@ abbrev pub admin_of : Option Data → Result (Option SocketAddr) Why
 admin_of None = Ok None
 admin_of (Some value) = address_at false key.Admin (Some value) >>= (λ address. Ok (Some address))
 
+-- the keys of the admin port
+abbrev pub admin_keys_of : Members → Result AdminSettings Why
+admin_keys_of table =
+    admin_of (value_at key.Admin table) >>= (λ address.
+    admin_token_of (value_at key.AdminToken table) >>= (λ token.
+    admin_bind_of (is_some token) (value_at key.AdminBind table) >>= (λ bind.
+    Ok (record { address = address; token = token; bind = bind }))))
+
 -- how many seconds a site that ends waits for its peers, and 10 where there is no value
 abbrev pub drain_of : Option Data → Result ℕ Why
 drain_of value = number_of key.Drain 0 1000000 10 value
+
+-- how many bytes of memory a process may take, and 0, which is no bound, where there is no value
+abbrev pub max_memory_of : Option Data → Result ℕ Why
+max_memory_of value = number_of key.MaxMemory 0 1099511627776 0 value
 
 -- what the draws of a site are made with, and its number and 1 where there is no value
 abbrev pub site_seed_of : ℕ → Option Data → Result ℕ Why
@@ -141,8 +155,10 @@ site_values_of table =
     link_backlog_of (value_at key.LinkBacklog table) >>= (λ link_backlog.
     alone_of (value_at key.Alone table) >>= (λ alone.
     accept_of (value_at key.Accept table) >>= (λ accept.
-    admin_of (value_at key.Admin table) >>= (λ admin.
+    admin_keys_of table >>= (λ admin.
     drain_of (value_at key.Drain table) >>= (λ drain.
+    log_level_of (value_at key.LogLevel table) >>= (λ log_level.
+    max_memory_of (value_at key.MaxMemory table) >>= (λ max_memory.
     site_seed_of site (value_at key.Seed table) >>= (λ seed.
     rule_of (value_at key.Rule table) >>= (λ rule.
     Ok (record {
@@ -161,9 +177,11 @@ site_values_of table =
       accept = accept;
       admin = admin;
       drain = drain;
+      log_level = log_level;
+      max_memory = max_memory;
       seed = seed;
       secret = secret;
-    })))))))))))))))
+    })))))))))))))))))
 
 -- the settings that a table has, or the first rule that it breaks
 abbrev pub site_settings_of : Members → Result SiteSettings Why

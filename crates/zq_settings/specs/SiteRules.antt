@@ -1,5 +1,5 @@
 -- What a table of settings of one site has to say, key by key.
-use Rattle.std.specs.Prelude.{◌+◌, ◌≡◌, ◌≤◌, ◌⊎◌, ◌↔◌, ℕ, pos, List, [], ◌∷◌, length, All, IsTrue, Option, Some, None, Ok}
+use Rattle.std.specs.Prelude.{◌+◌, ◌≡◌, ◌≤◌, ◌⊎◌, ◌↔◌, ℕ, pos, List, [], ◌∷◌, length, All, IsTrue, Option, Some, None, Ok, true}
 use Rattle.std.specs.Net.Grammar.{IsIpText, IsSocketText}
 use Rattle.std.specs.Net.Socket.{socket_port}
 use Rattle.std.specs.declared.net.ip_addr.IpAddr.{IpAddr}
@@ -7,11 +7,12 @@ use Rattle.std.specs.declared.net.socket_addr.SocketAddr.{SocketAddr}
 use Rattle.toml.specs.Data.{Data, Members, integer, string, array, table as subtable}
 use Rattle.toml.specs.View.{items_of}
 use Rattle.zq_settings.specs.Accepting.{accept_word}
-use Rattle.zq_settings.specs.Addresses.{IsLoopback, localhost}
+use Rattle.zq_settings.specs.Addresses.{IsLoopback, IsLoopbackIp, localhost}
+use Rattle.zq_settings.specs.AdminKeys.{is_token}
 use Rattle.zq_settings.specs.Keys.{is_known}
 use Rattle.zq_settings.specs.PeerAddresses.{IsLocalPeer, IsPeerText}
 use Rattle.zq_settings.specs.Peers.{ArePeers}
-use Rattle.zq_settings.specs.Rules.{AreClientLimits, IsLimit, IsNumber, IsRule}
+use Rattle.zq_settings.specs.Rules.{AreClientLimits, IsLimit, IsLogLevel, IsNumber, IsRule}
 use Rattle.zq_settings.specs.Site.{if_given, site_settings_of}
 use Rattle.zq_settings.specs.Tables.{names_in, value_at}
 use Rattle.zq_settings.specs.declared.accept.Accept.{Accept}
@@ -20,6 +21,7 @@ use Rattle.zq_settings.specs.declared.form.Form.TheVariants as form
 use Rattle.zq_settings.specs.declared.key.Key.TheVariants as key
 use Rattle.zq_settings.specs.declared.peer.Peer.{Peer}
 use Rattle.zq_settings.specs.declared.peer_address.PeerAddress.{PeerAddress}
+use Rattle.zq_settings.specs.declared.values.AdminSettings.{AdminSettings}
 use Rattle.zq_settings.specs.declared.values.SiteSettings.{SiteSettings}
 
 -- the value is the number, which lies between the bounds
@@ -89,6 +91,25 @@ IsAdmin value admin = ((value ≡ None) × (admin ≡ None))
     × IsSocketText text address × (1 ≤ socket_port address) × IsLoopback address
     × (admin ≡ Some address))
 
+-- there is neither a value nor a token, or the value is the token
+abbrev pub IsAdminToken : Option Data → Option (List ℕ) → Type 0
+IsAdminToken value token = ((value ≡ None) × (token ≡ None))
+    ⊎ ((text : List ℕ) × (value ≡ Some (string text)) × (is_token text ≡ true)
+    × (token ≡ Some text))
+
+-- there is neither a value nor an address, or the value is a text that writes the address; where
+-- there is no token, a loopback address
+abbrev pub IsAdminBind : Option (List ℕ) → Option Data → Option IpAddr → Type 0
+IsAdminBind token value bind = ((value ≡ None) × (bind ≡ None))
+    ⊎ ((text : List ℕ) × (ip : IpAddr) × (value ≡ Some (string text)) × IsIpText text ip
+    × (token ≡ None → IsLoopbackIp ip) × (bind ≡ Some ip))
+
+-- the admin port, key by key
+pub record AreAdminKeys (table : Members) (admin : AdminSettings) : Type 0 where
+  pub address : IsAdmin (value_at key.Admin table) admin.address
+  pub token : IsAdminToken (value_at key.AdminToken table) admin.token
+  pub bind : IsAdminBind admin.token (value_at key.AdminBind table) admin.bind
+
 -- each key of the table is known, and each value is as its key wants it
 pub record IsSiteSettings (table : Members) (settings : SiteSettings) : Type 0 where
   pub known : All (λ name. IsTrue (is_known form.Site name)) (names_in table)
@@ -106,8 +127,10 @@ pub record IsSiteSettings (table : Members) (settings : SiteSettings) : Type 0 w
       settings.link_backlog
   pub alone : IsNumber 0 1000000 10 (value_at key.Alone table) settings.alone
   pub accept : IsAccept (value_at key.Accept table) settings.accept
-  pub admin : IsAdmin (value_at key.Admin table) settings.admin
+  pub admin : AreAdminKeys table settings.admin
   pub drain : IsNumber 0 1000000 10 (value_at key.Drain table) settings.drain
+  pub log_level : IsLogLevel (value_at key.LogLevel table) settings.log_level
+  pub max_memory : IsNumber 0 1099511627776 0 (value_at key.MaxMemory table) settings.max_memory
   pub seed : IsNumber 0 9223372036854775807 (settings.site + 1) (value_at key.Seed table)
       settings.seed
   pub rule : IsRule (value_at key.Rule table) settings.rule

@@ -32,7 +32,12 @@ takes_of key.LinkBacklog = codes "a whole number from 1048576 to 1099511627776"
 takes_of key.Alone = codes "a whole number from 0 to 1000000"
 takes_of key.Accept = codes "\"any\" or \"listed\""
 takes_of key.Admin = codes "a loopback address with a port from 1 to 65535, as \"127.0.0.1:7180\""
+takes_of key.AdminToken =
+    codes "a text of 16 to 256 letters, digits and marks of ASCII, with no blank"
+takes_of key.AdminBind = codes "an IP address, as \"127.0.0.1\""
 takes_of key.Drain = codes "a whole number from 0 to 1000000"
+takes_of key.LogLevel = codes "\"warn\", \"info\" or \"debug\""
+takes_of key.MaxMemory = codes "a whole number from 0 to 1099511627776"
 takes_of key.Seed = codes "a whole number from 0 to 9223372036854775807"
 takes_of key.Rule = codes "\"HIGH\" or \"LOW\""
 takes_of key.Site = codes "a whole number from 0 to 63"
@@ -49,16 +54,17 @@ takes_of key.PeerAddress =
 abbrev pub exposed_of : Key → List ℕ
 exposed_of key.PeerAddress =
     codes "neither a loopback address nor localhost: without a secret of at least 16 bytes it takes one of these"
-exposed_of key.Admin = codes "no loopback address: it takes one"
+exposed_of key.Admin = codes "no loopback address: it takes one, and admin_bind another"
+exposed_of key.AdminBind = codes "no loopback address: without an admin_token it takes one"
 exposed_of other =
     codes "no loopback address: without a secret of at least 16 bytes it takes one"
 
 -- what has the keys of a table, and which they are
 abbrev pub keys_text : Form → List ℕ
 keys_text form.Sites =
-    codes "settings, which are ports, heaps, workers, connections, clients, timeout, write_timeout, output, seed and rule"
+    codes "settings, which are ports, heaps, workers, connections, clients, timeout, write_timeout, output, log_level, seed and rule"
 keys_text form.Site =
-    codes "a site's settings, which are site, port, bind, secret, listen, peers, heaps, workers, connections, clients, timeout, write_timeout, output, link_backlog, alone, accept, admin, drain, seed and rule"
+    codes "a site's settings, which are site, port, bind, secret, listen, peers, heaps, workers, connections, clients, timeout, write_timeout, output, link_backlog, alone, accept, admin, admin_token, admin_bind, drain, log_level, max_memory, seed and rule"
 keys_text form.Peer = codes "a peer, which are site and address"
 
 -- what is wrong with a key's value, and what the key takes

@@ -2,7 +2,7 @@
 
 ghost use Rattle.std.specs.Prelude.{◌≡◌, IfOk};
 ghost use Rattle.toml.specs.View.{table_view};
-ghost use Rattle.zq_settings.specs.Addresses.{address_of as address_in, ip_of as ip_in, is_local as is_local_in, socket_of as socket_in};
+ghost use Rattle.zq_settings.specs.Addresses.{address_of as address_in, ip_of as ip_in, is_local as is_local_in, is_loopback, socket_of as socket_in};
 ghost use Rattle.zq_settings.specs.PeerAddresses.{is_local_peer as is_local_peer_in, peer_address_of as peer_address_in};
 ghost use Rattle.zq_settings.specs.Site.{bind_of as bind_at, address_at, peer_address_at};
 ghost use Rattle.zq_settings.specs.Tables.{value_at as value_in};
@@ -111,7 +111,7 @@ fn socket_of(text: &str) -> Option<SocketAddr>
 
 /// The IP address that the text writes.
 #[tactic(auto, using(crate::proofs::Spelled::ip_parsed))]
-fn ip_of(text: &str) -> Option<IpAddr>
+pub fn ip_of(text: &str) -> Option<IpAddr>
     ensures { result ≡ ip_in text.now }
 {
     text.parse::<IpAddr>().ok()
@@ -132,4 +132,11 @@ fn is_local(address: &SocketAddr) -> bool
     ensures { result ≡ is_local_in address.now }
 {
     address.ip().is_loopback()
+}
+
+/// The same of an address with no port.
+pub fn is_local_ip(ip: &IpAddr) -> bool
+    ensures { result ≡ is_loopback ip.now }
+{
+    ip.is_loopback()
 }

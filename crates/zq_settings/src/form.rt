@@ -33,10 +33,10 @@ impl Form {
     {
         match self {
             Form::Sites => {
-                "settings, which are ports, heaps, workers, connections, clients, timeout, write_timeout, output, seed and rule"
+                "settings, which are ports, heaps, workers, connections, clients, timeout, write_timeout, output, log_level, seed and rule"
             }
             Form::Site => {
-                "a site's settings, which are site, port, bind, secret, listen, peers, heaps, workers, connections, clients, timeout, write_timeout, output, link_backlog, alone, accept, admin, drain, seed and rule"
+                "a site's settings, which are site, port, bind, secret, listen, peers, heaps, workers, connections, clients, timeout, write_timeout, output, link_backlog, alone, accept, admin, admin_token, admin_bind, drain, log_level, max_memory, seed and rule"
             }
             Form::Peer => "a peer, which are site and address",
         }
@@ -57,6 +57,7 @@ fn is_key_of_sites(name: &str) -> bool
             | "timeout"
             | "write_timeout"
             | "output"
+            | "log_level"
             | "seed"
             | "rule"
     )
@@ -85,7 +86,11 @@ fn is_key_of_site(name: &str) -> bool
             | "alone"
             | "accept"
             | "admin"
+            | "admin_token"
+            | "admin_bind"
             | "drain"
+            | "log_level"
+            | "max_memory"
             | "seed"
             | "rule"
     )

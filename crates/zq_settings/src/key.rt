@@ -31,8 +31,16 @@ pub enum Key {
     Accept,
     /// Where the admin port of the one site is.
     Admin,
+    /// What a request at that port has to say.
+    AdminToken,
+    /// The address at which that port is in the place of a loopback address.
+    AdminBind,
     /// How long the one site waits, as it is told to end, until its peers have what it made.
     Drain,
+    /// How much the program's log says.
+    LogLevel,
+    /// How many bytes of memory the one site may take before it refuses what adds.
+    MaxMemory,
     /// What draws are made with.
     Seed,
     /// Which of a member's values is its score.
@@ -73,7 +81,11 @@ impl Key {
             Key::Alone => "alone",
             Key::Accept => "accept",
             Key::Admin => "admin",
+            Key::AdminToken => "admin_token",
+            Key::AdminBind => "admin_bind",
             Key::Drain => "drain",
+            Key::LogLevel => "log_level",
+            Key::MaxMemory => "max_memory",
             Key::Seed => "seed",
             Key::Rule => "rule",
             Key::Site | Key::PeerSite => "site",
@@ -109,13 +121,18 @@ impl Key {
             }
             Key::Clients => "a whole number from 1 to 1000000",
             Key::Output | Key::LinkBacklog => "a whole number from 1048576 to 1099511627776",
+            Key::LogLevel => "\"warn\", \"info\" or \"debug\"",
+            Key::MaxMemory => "a whole number from 0 to 1099511627776",
             Key::Seed => "a whole number from 0 to 9223372036854775807",
             Key::Rule => "\"HIGH\" or \"LOW\"",
             Key::Accept => "\"any\" or \"listed\"",
             Key::Admin => "a loopback address with a port from 1 to 65535, as \"127.0.0.1:7180\"",
+            Key::AdminToken => {
+                "a text of 16 to 256 letters, digits and marks of ASCII, with no blank"
+            }
             Key::Site | Key::PeerSite => "a whole number from 0 to 63",
             Key::Port => "a whole number from 1 to 65535",
-            Key::Bind => "an IP address, as \"127.0.0.1\"",
+            Key::Bind | Key::AdminBind => "an IP address, as \"127.0.0.1\"",
             Key::Secret => "a text of at least 16 bytes",
             Key::Listen => "an IP address with a port from 1 to 65535, as \"127.0.0.1:7101\"",
             Key::Peers => "an array of at most 63 tables of other sites",
@@ -126,7 +143,7 @@ impl Key {
     }
 
     /// That the key's address is open to others, and what it takes, in words: `admin` a loopback
-    /// address, the others one where there is no secret.
+    /// address, `admin_bind` one where there is no token, the others one where there is no secret.
     pub(crate) fn exposed(self) -> &'static str
         ensures { result.now ≡ exposed_of self }
     {
@@ -134,7 +151,8 @@ impl Key {
             Key::PeerAddress => {
                 "neither a loopback address nor localhost: without a secret of at least 16 bytes it takes one of these"
             }
-            Key::Admin => "no loopback address: it takes one",
+            Key::Admin => "no loopback address: it takes one, and admin_bind another",
+            Key::AdminBind => "no loopback address: without an admin_token it takes one",
             _ => "no loopback address: without a secret of at least 16 bytes it takes one",
         }
     }

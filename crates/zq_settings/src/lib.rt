@@ -6,6 +6,8 @@ mod accept;
 mod accepting;
 mod address;
 mod admin;
+mod admin_port;
+mod admin_token;
 mod common;
 mod entries;
 mod fault;
@@ -13,6 +15,8 @@ mod form;
 mod host_name;
 mod key;
 pub mod laws;
+mod log_level;
+mod log_leveling;
 mod lookup;
 mod name;
 mod naming;
@@ -31,10 +35,12 @@ mod why;
 mod within;
 
 pub use accept::Accept;
+pub use admin_token::AdminToken;
 pub use fault::SettingsFault;
 pub use form::Form;
 pub use host_name::HostName;
 pub use key::Key;
+pub use log_level::LogLevel;
 pub use name::Name;
 pub use peer::Peer;
 pub use peer_address::PeerAddress;
@@ -43,8 +49,8 @@ pub use ports::{MOST_PORTS, Port, Ports};
 pub use read::{settings, site_settings};
 pub use secret::{LEAST_SECRET, Secret};
 pub use values::{
-    BacklogSize, ClientCount, ClientLimits, ConnectionCount, HeapCount, OutputSize, Seconds, Seed,
-    Settings, SiteSettings, WorkerCount,
+    AdminSettings, BacklogSize, ClientCount, ClientLimits, ConnectionCount, HeapCount, MemorySize,
+    OutputSize, Seconds, Seed, Settings, SiteSettings, WorkerCount,
 };
 pub use why::Why;
 pub use within::Within;

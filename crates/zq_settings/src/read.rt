@@ -24,6 +24,7 @@ use toml::de;
 /// | `timeout` | 0 to 1000000, where 0 is never | 0 |
 /// | `write_timeout` | 0 to 1000000, where 0 is never | 60 |
 /// | `output` | 1048576 to 1099511627776 | 268435456 |
+/// | `log_level` | `"warn"`, `"info"` or `"debug"` | `"info"` |
 /// | `seed` | 0 to 9223372036854775807 | 1 |
 /// | `rule` | `"HIGH"` or `"LOW"` | `"HIGH"` |
 ///
@@ -59,13 +60,16 @@ pub fn settings(alloc: Global, text: &str) -> Result<Settings, SettingsFault>
 /// | `alone` | 0 to 1000000 | 10 |
 /// | `accept` | `"any"` or `"listed"` | `"any"` |
 /// | `admin` | where its admin port is: a loopback address with a port that is not 0, as `"127.0.0.1:7180"` | there is none |
+/// | `admin_token` | what requests there have to say: a text of 16 to 256 bytes of ASCII, each of which can be seen | nothing |
+/// | `admin_bind` | the IP address at which that port is in the place of the loopback address | there is none |
 /// | `drain` | 0 to 1000000 | 10 |
+/// | `max_memory` | 0 to 1099511627776, where 0 is no bound | 0 |
 /// | `seed` | 0 to 9223372036854775807 | the site's number and 1 |
-/// | `heaps`, `connections`, `clients`, `timeout`, `write_timeout`, `output`, `rule` | as of [`settings`] | as of [`settings`] |
+/// | `heaps`, `connections`, `clients`, `timeout`, `write_timeout`, `output`, `log_level`, `rule` | as of [`settings`] | as of [`settings`] |
 ///
 /// No two peers have the same number. Where there is no `secret`, `listen` is a loopback address,
 /// and so is each peer's `address`, or it has the name `localhost`. `admin` is a loopback address
-/// with a secret too.
+/// with a secret too. Where there is no `admin_token`, `admin_bind` is a loopback address.
 ///
 /// # Errors
 ///

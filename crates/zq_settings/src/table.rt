@@ -10,12 +10,13 @@ ghost use Rattle.zq_settings.specs.Texts.{Reads};
 
 use crate::accepting::read_accept;
 use crate::address::{read_address, read_bind};
-use crate::admin::read_admin;
+use crate::admin::read_admin_keys;
 use crate::common::{read_common, read_rule, read_seed};
 use crate::entries::read_ports;
 use crate::fault::SettingsFault;
 use crate::form::Form;
 use crate::key::Key;
+use crate::log_leveling::read_log_level;
 use crate::lookup::value_at;
 use crate::number::{read_number, read_required, read_site};
 use crate::peering::read_peers;
@@ -35,6 +36,7 @@ pub fn read_table(alloc: Global, table: &Table) -> Result<Settings, SettingsFaul
     refuse_unknown(alloc, table, Form::Sites)?;
     let ports = read_ports(alloc, table)?;
     let common = read_common(table)?;
+    let log_level = read_log_level(table)?;
     let seed = read_seed(table)?;
     let rule = read_rule(table)?;
     Ok(Settings {
@@ -43,6 +45,7 @@ pub fn read_table(alloc: Global, table: &Table) -> Result<Settings, SettingsFaul
         workers: common.workers,
         connections: common.connections,
         limits: common.limits,
+        log_level,
         seed,
         rule,
     })
@@ -73,8 +76,10 @@ fn read_site_values(alloc: Global, table: &Table) -> Result<SiteSettings, Settin
     let link_backlog = read_number(table, Key::LinkBacklog, Within::of(67_108_864))?;
     let alone = read_number(table, Key::Alone, Within::of(10))?;
     let accept = read_accept(table)?;
-    let admin = read_admin(table)?;
+    let admin = read_admin_keys(alloc, table)?;
     let drain = read_number(table, Key::Drain, Within::of(10))?;
+    let log_level = read_log_level(table)?;
+    let max_memory = read_number(table, Key::MaxMemory, Within::of(0))?;
     let seed = read_number(table, Key::Seed, seed_of_site(site))?;
     let rule = read_rule(table)?;
     Ok(SiteSettings {
@@ -93,6 +98,8 @@ fn read_site_values(alloc: Global, table: &Table) -> Result<SiteSettings, Settin
         accept,
         admin,
         drain,
+        log_level,
+        max_memory,
         seed,
         secret,
     })

@@ -1,6 +1,8 @@
 //! The values of settings.
 
 use crate::accept::Accept;
+use crate::admin_token::AdminToken;
+use crate::log_level::LogLevel;
 use crate::peers::Peers;
 use crate::ports::{Port, Ports};
 use crate::secret::Secret;
@@ -28,6 +30,9 @@ pub type OutputSize = Within<1_048_576, 1_099_511_627_776>;
 
 /// A number of bytes of operations that are kept for peers, 1,048,576 to 1,099,511,627,776.
 pub type BacklogSize = Within<1_048_576, 1_099_511_627_776>;
+
+/// A number of bytes of memory, 0 to 1,099,511,627,776.
+pub type MemorySize = Within<0, 1_099_511_627_776>;
 
 /// What draws are made with: a number that an `i64` holds, not below 0.
 pub type Seed = Within<0, 9_223_372_036_854_775_807>;
@@ -58,10 +63,25 @@ pub struct Settings {
     pub connections: Option<ConnectionCount>,
     /// What limits the clients of each port.
     pub limits: ClientLimits,
+    /// How much the program's log says.
+    pub log_level: LogLevel,
     /// What each worker's draws are made with.
     pub seed: Seed,
     /// Which of a member's values is its score.
     pub rule: Rule,
+}
+
+/// The admin port of a site.
+#[derive(Debug, Drop)]
+pub struct AdminSettings {
+    /// Where it is: a loopback address with a port that is not 0, whether or not there is a secret.
+    /// With `None` there is none.
+    pub address: Option<SocketAddr>,
+    /// What each request there has to say, but one for `/healthz`. With `None` nothing.
+    pub token: Option<AdminToken>,
+    /// The address at which the port is in the place of the loopback address. Where there is no
+    /// token it is a loopback address too.
+    pub bind: Option<IpAddr>,
 }
 
 /// The settings of one site in a process of its own.
@@ -96,12 +116,16 @@ pub struct SiteSettings {
     pub alone: Seconds,
     /// Which sites of greater numbers it accepts.
     pub accept: Accept,
-    /// Where its admin port is: a loopback address with a port that is not 0, whether or not there
-    /// is a secret. With `None` it has none.
-    pub admin: Option<SocketAddr>,
+    /// Its admin port.
+    pub admin: AdminSettings,
     /// How many seconds it waits at most, as it is told to end, until its peers have what it made.
     /// With 0 it does not wait.
     pub drain: Seconds,
+    /// How much the program's log says.
+    pub log_level: LogLevel,
+    /// How many bytes of memory the process may take before commands that add are refused. With 0
+    /// there is no bound.
+    pub max_memory: MemorySize,
     /// What each worker's draws are made with.
     pub seed: Seed,
     /// What it shares with its peers, to know them by. With `None` whoever comes is believed.

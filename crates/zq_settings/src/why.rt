@@ -15,11 +15,12 @@ use zq_dots::SiteNo;
 
 /// The first rule that a text of settings breaks. First comes that it is TOML, then that it has no
 /// other keys, and then the rules of its keys. Of several sites these are `ports`, `heaps`,
-/// `workers`, `connections`, `clients`, `timeout`, `write_timeout`, `output`, `seed` and `rule`, in
-/// this order. Of one site they are `site`, `port`, `bind`, `secret`, `listen`, `peers`, and then
-/// `heaps` and the others, with `link_backlog`, `alone`, `accept`, `admin` and `drain` after
-/// `output`. The entries of `peers` come one by one: that it is a table, that it has no other keys,
-/// then the rules of its `site` and of its `address`.
+/// `workers`, `connections`, `clients`, `timeout`, `write_timeout`, `output`, `log_level`, `seed`
+/// and `rule`, in this order. Of one site they are `site`, `port`, `bind`, `secret`, `listen`,
+/// `peers`, and then `heaps` and the others, with `link_backlog`, `alone`, `accept`, `admin`,
+/// `admin_token`, `admin_bind` and `drain` after `output`, and `max_memory` after `log_level`. The entries of `peers` come one by
+/// one: that it is a table, that it has no other keys, then the rules of its `site` and of its
+/// `address`.
 #[derive(Debug, Drop)]
 pub enum Why {
     /// The text is not TOML.
@@ -50,7 +51,7 @@ pub enum Why {
     /// A peer has this number, which is the site's own.
     OwnPeer(SiteNo),
     /// The address at the key is no loopback address, nor of a peer `localhost`, and there is no
-    /// secret. At `admin` there may be one.
+    /// secret. At `admin` there may be one; at `admin_bind` there is no token.
     Exposed(Key),
 }
 

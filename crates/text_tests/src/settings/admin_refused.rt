@@ -8,7 +8,7 @@ use std::test::Fail;
 const ADMIN: &str =
     "it takes a loopback address with a port from 1 to 65535, as \"127.0.0.1:7180\"";
 
-const EXPOSED: &str = "is no loopback address: it takes one";
+const EXPOSED: &str = "is no loopback address: it takes one, and admin_bind another";
 
 const SECONDS: &str = "it takes a whole number from 0 to 1000000";
 
@@ -175,7 +175,7 @@ const OF_SEVERAL: [(&str, &str); 2] = [
 ];
 
 const NO_KEY: &str =
-    "is not a key of settings, which are ports, heaps, workers, connections, clients, timeout, write_timeout, output, seed and rule";
+    "is not a key of settings, which are ports, heaps, workers, connections, clients, timeout, write_timeout, output, log_level, seed and rule";
 
 #[test]
 fn each_admin_port_and_each_wait_is_refused_in_words(rt: HostRuntime) -> Result<(), Fail> {

@@ -3,7 +3,7 @@
 use super::{Limits, has_limits};
 use std::test::Fail;
 use zq_dots::Rule;
-use zq_settings::{Port, Settings, settings};
+use zq_settings::{LogLevel, Port, Settings, settings};
 
 struct Row {
     text: &'static str,
@@ -12,6 +12,7 @@ struct Row {
     workers: u64,
     connections: Option<u64>,
     limits: Limits,
+    log_level: LogLevel,
     seed: u64,
     rule: Rule,
 }
@@ -28,39 +29,43 @@ const ROWS: [Row; 6] = [
         workers: 4,
         connections: None,
         limits: LIMITS,
+        log_level: LogLevel::Info,
         seed: 1,
         rule: Rule::High,
     },
     // The least of each key.
     Row {
-        text: "ports = [7001]\nheaps = 2\nworkers = 1\nconnections = 0\nclients = 1\ntimeout = 0\nwrite_timeout = 0\noutput = 1048576\nseed = 0\nrule = \"HIGH\"\n",
+        text: "ports = [7001]\nheaps = 2\nworkers = 1\nconnections = 0\nclients = 1\ntimeout = 0\nwrite_timeout = 0\noutput = 1048576\nlog_level = \"warn\"\nseed = 0\nrule = \"HIGH\"\n",
         ports: &[7001],
         heaps: 2,
         workers: 1,
         connections: None,
         limits: (1, 0, 0, 1_048_576),
+        log_level: LogLevel::Warn,
         seed: 0,
         rule: Rule::High,
     },
     // The greatest of each key, in another order.
     Row {
-        text: "rule = \"LOW\"\nseed = 9223372036854775807\noutput = 1099511627776\nwrite_timeout = 1000000\ntimeout = 1000000\nclients = 1000000\nconnections = 1000000\nworkers = 64\nheaps = 16\nports = [7001]\n",
+        text: "rule = \"LOW\"\nlog_level = \"debug\"\nseed = 9223372036854775807\noutput = 1099511627776\nwrite_timeout = 1000000\ntimeout = 1000000\nclients = 1000000\nconnections = 1000000\nworkers = 64\nheaps = 16\nports = [7001]\n",
         ports: &[7001],
         heaps: 16,
         workers: 64,
         connections: Some(1_000_000),
         limits: (1_000_000, 1_000_000, 1_000_000, 1_099_511_627_776),
+        log_level: LogLevel::Debug,
         seed: 9_223_372_036_854_775_807,
         rule: Rule::Low,
     },
     // One connection, and the other ways in which TOML writes numbers, names and texts.
     Row {
-        text: "# two sites\n\"ports\" = [\n  7_002, # site 0\n  0x1b59,\n]\noutput = 0x20_0000\nwrite_timeout = 5\ntimeout = 300\nclients = 2\nconnections = 1\nrule = 'LOW'\n",
+        text: "# two sites\n\"ports\" = [\n  7_002, # site 0\n  0x1b59,\n]\noutput = 0x20_0000\nwrite_timeout = 5\ntimeout = 300\nclients = 2\nconnections = 1\nlog_level = 'info'\nrule = 'LOW'\n",
         ports: &[7002, 7001],
         heaps: 4,
         workers: 4,
         connections: Some(1),
         limits: (2, 300, 5, 2_097_152),
+        log_level: LogLevel::Info,
         seed: 1,
         rule: Rule::Low,
     },
@@ -78,6 +83,7 @@ const ROWS: [Row; 6] = [
         workers: 4,
         connections: None,
         limits: LIMITS,
+        log_level: LogLevel::Info,
         seed: 1,
         rule: Rule::High,
     },
@@ -89,6 +95,7 @@ const ROWS: [Row; 6] = [
         workers: 4,
         connections: None,
         limits: LIMITS,
+        log_level: LogLevel::Info,
         seed: 1,
         rule: Rule::High,
     },
@@ -108,6 +115,7 @@ fn is_row(settings: &Settings, row: &Row) -> bool {
         && settings.workers.value() == row.workers
         && settings.connections.map(|count| count.value()) == row.connections
         && has_limits(&settings.limits, row.limits)
+        && settings.log_level == row.log_level
         && settings.seed.value() == row.seed
         && settings.rule == row.rule
 }

@@ -25,27 +25,27 @@ const REFUSALS: [(&str, &str); 71] = [
     // Other keys.
     (
         "ports = [7001]\nport = 1",
-        "\"port\" is not a key of settings, which are ports, heaps, workers, connections, clients, timeout, write_timeout, output, seed and rule",
+        "\"port\" is not a key of settings, which are ports, heaps, workers, connections, clients, timeout, write_timeout, output, log_level, seed and rule",
     ),
     (
         "ports = [7001]\nlink_backlog = 67108864",
-        "\"link_backlog\" is not a key of settings, which are ports, heaps, workers, connections, clients, timeout, write_timeout, output, seed and rule",
+        "\"link_backlog\" is not a key of settings, which are ports, heaps, workers, connections, clients, timeout, write_timeout, output, log_level, seed and rule",
     ),
     (
         "Ports = [7001]",
-        "\"Ports\" is not a key of settings, which are ports, heaps, workers, connections, clients, timeout, write_timeout, output, seed and rule",
+        "\"Ports\" is not a key of settings, which are ports, heaps, workers, connections, clients, timeout, write_timeout, output, log_level, seed and rule",
     ),
     (
         "zeal = 1\nports = [7001]\nalpha = 1",
-        "\"alpha\" is not a key of settings, which are ports, heaps, workers, connections, clients, timeout, write_timeout, output, seed and rule",
+        "\"alpha\" is not a key of settings, which are ports, heaps, workers, connections, clients, timeout, write_timeout, output, log_level, seed and rule",
     ),
     (
         "\"two\\nlines\" = 1",
-        "\"two\\nlines\" is not a key of settings, which are ports, heaps, workers, connections, clients, timeout, write_timeout, output, seed and rule",
+        "\"two\\nlines\" is not a key of settings, which are ports, heaps, workers, connections, clients, timeout, write_timeout, output, log_level, seed and rule",
     ),
     (
         "[serve]\nports = [7001]",
-        "\"serve\" is not a key of settings, which are ports, heaps, workers, connections, clients, timeout, write_timeout, output, seed and rule",
+        "\"serve\" is not a key of settings, which are ports, heaps, workers, connections, clients, timeout, write_timeout, output, log_level, seed and rule",
     ),
     // Ports.
     (
@@ -240,7 +240,7 @@ const REFUSALS: [(&str, &str); 71] = [
     // Where a text breaks more than one rule, the first of them.
     (
         "heaps = 1\nport = 1",
-        "\"port\" is not a key of settings, which are ports, heaps, workers, connections, clients, timeout, write_timeout, output, seed and rule",
+        "\"port\" is not a key of settings, which are ports, heaps, workers, connections, clients, timeout, write_timeout, output, log_level, seed and rule",
     ),
     (
         "heaps = 1",

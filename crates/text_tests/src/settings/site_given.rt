@@ -4,7 +4,9 @@ use super::has_limits;
 use std::net::{IpAddr, Ipv6Addr, SocketAddr};
 use std::test::Fail;
 use zq_dots::Rule;
-use zq_settings::{Accept, Peer, PeerAddress, SiteSettings, site_settings};
+use zq_settings::{
+    Accept, AdminSettings, LogLevel, Peer, PeerAddress, SiteSettings, site_settings,
+};
 
 /// An address of four numbers, and its port.
 type Place = ([u8; 4], u16);
@@ -29,7 +31,11 @@ struct Row {
     alone: u64,
     accept: Accept,
     admin: Option<Place>,
+    admin_token: Option<&'static str>,
+    admin_bind: Option<[u8; 4]>,
     drain: u64,
+    log_level: LogLevel,
+    max_memory: u64,
     seed: u64,
     secret: Option<&'static str>,
 }
@@ -53,13 +59,17 @@ const ROWS: [Row; 7] = [
         alone: 10,
         accept: Accept::Any,
         admin: None,
+        admin_token: None,
+        admin_bind: None,
         drain: 10,
+        log_level: LogLevel::Info,
+        max_memory: 0,
         seed: 1,
         secret: None,
     },
     // At their greatest, with a secret of 16 bytes, and so at other addresses.
     Row {
-        text: "secret = \"0123456789abcdef\"\nlisten = \"0.0.0.0:65535\"\nport = 65535\nsite = 63\nlink_backlog = 1099511627776\nalone = 1000000\naccept = \"listed\"\ndrain = 1000000\nadmin = \"127.255.255.254:65535\"\nheaps = 16\nbind = \"10.1.2.3\"\npeers = [{ site = 0, address = \"10.1.2.4:7101\" }]",
+        text: "secret = \"0123456789abcdef\"\nlisten = \"0.0.0.0:65535\"\nport = 65535\nsite = 63\nlink_backlog = 1099511627776\nalone = 1000000\naccept = \"listed\"\ndrain = 1000000\nmax_memory = 1099511627776\nlog_level = \"debug\"\nadmin = \"127.255.255.254:65535\"\nadmin_bind = \"0.0.0.0\"\nadmin_token = \"!~0123456789abcd\"\nheaps = 16\nbind = \"10.1.2.3\"\npeers = [{ site = 0, address = \"10.1.2.4:7101\" }]",
         site: 63,
         port: 65535,
         bind: [10, 1, 2, 3],
@@ -70,13 +80,17 @@ const ROWS: [Row; 7] = [
         alone: 1_000_000,
         accept: Accept::Listed,
         admin: Some(([127, 255, 255, 254], 65535)),
+        admin_token: Some("!~0123456789abcd"),
+        admin_bind: Some([0, 0, 0, 0]),
         drain: 1_000_000,
+        log_level: LogLevel::Debug,
+        max_memory: 1_099_511_627_776,
         seed: 64,
         secret: Some("0123456789abcdef"),
     },
     // Tables of an array, in the other way to write them; a secret of 16 bytes in fewer letters.
     Row {
-        text: "site = 1\nport = 7002\nlisten = '127.0.0.1:7102'\nsecret = 'éééééééé'\nalone = 0\naccept = 'any'\nadmin = '127.0.0.1:7180'\n[[peers]]\naddress = '127.0.0.1:7101'\nsite = 0\n[[peers]]\nsite = 2\naddress = '127.9.9.9:7103'\n",
+        text: "site = 1\nport = 7002\nlisten = '127.0.0.1:7102'\nsecret = 'éééééééé'\nalone = 0\naccept = 'any'\nlog_level = 'warn'\nmax_memory = 1\nadmin = '127.0.0.1:7180'\nadmin_token = 'tttttttttttttttttttttttttttttttttttttttttttttttttttttttttttttttttttttttttttttttttttttttttttttttttttttttttttttttttttttttttttttttttttttttttttttttttttttttttttttttttttttttttttttttttttttttttttttttttttttttttttttttttttttttttttttttttttttttttttttttttttttttttttttttt'\n[[peers]]\naddress = '127.0.0.1:7101'\nsite = 0\n[[peers]]\nsite = 2\naddress = '127.9.9.9:7103'\n",
         site: 1,
         port: 7002,
         bind: LOOPBACK,
@@ -90,14 +104,20 @@ const ROWS: [Row; 7] = [
         alone: 0,
         accept: Accept::Any,
         admin: Some((LOOPBACK, 7180)),
+        admin_token: Some(
+            "tttttttttttttttttttttttttttttttttttttttttttttttttttttttttttttttttttttttttttttttttttttttttttttttttttttttttttttttttttttttttttttttttttttttttttttttttttttttttttttttttttttttttttttttttttttttttttttttttttttttttttttttttttttttttttttttttttttttttttttttttttttttttttttttt",
+        ),
+        admin_bind: None,
         drain: 10,
+        log_level: LogLevel::Warn,
+        max_memory: 1,
         seed: 2,
         secret: Some("éééééééé"),
     },
     // No peers, and no secret: the port of clients may be at any address. The least of
-    // `link_backlog`, of the port of `admin`, and of `drain`.
+    // `link_backlog`, of the port of `admin`, of `drain` and of `max_memory`.
     Row {
-        text: "site = 5\nport = 7001\nlisten = \"127.255.0.1:7101\"\npeers = []\nadmin = \"127.0.0.1:1\"\ndrain = 0\nlink_backlog = 1048576\nbind = \"0.0.0.0\"",
+        text: "site = 5\nport = 7001\nlisten = \"127.255.0.1:7101\"\npeers = []\nadmin = \"127.0.0.1:1\"\nadmin_bind = \"127.0.0.2\"\ndrain = 0\nmax_memory = 0\nlink_backlog = 1048576\nbind = \"0.0.0.0\"",
         site: 5,
         port: 7001,
         bind: [0, 0, 0, 0],
@@ -108,13 +128,17 @@ const ROWS: [Row; 7] = [
         alone: 10,
         accept: Accept::Any,
         admin: Some((LOOPBACK, 1)),
+        admin_token: None,
+        admin_bind: Some([127, 0, 0, 2]),
         drain: 0,
+        log_level: LogLevel::Info,
+        max_memory: 0,
         seed: 6,
         secret: None,
     },
     // Two peers at one address.
     Row {
-        text: "site = 2\nseed = 9223372036854775807\naccept = \"listed\"\nport = 7001\nlisten = \"127.0.0.1:7101\"\npeers = [{ site = 63, address = \"127.0.0.1:7102\" }, { address = \"127.0.0.1:7102\", site = 3 }]",
+        text: "site = 2\nseed = 9223372036854775807\nadmin_token = \"0123456789abcdef\"\nadmin_bind = \"10.1.2.3\"\naccept = \"listed\"\nlog_level = \"info\"\nmax_memory = 0x4000_0000\nport = 7001\nlisten = \"127.0.0.1:7101\"\npeers = [{ site = 63, address = \"127.0.0.1:7102\" }, { address = \"127.0.0.1:7102\", site = 3 }]",
         site: 2,
         port: 7001,
         bind: LOOPBACK,
@@ -128,7 +152,11 @@ const ROWS: [Row; 7] = [
         alone: 10,
         accept: Accept::Listed,
         admin: None,
+        admin_token: Some("0123456789abcdef"),
+        admin_bind: Some([10, 1, 2, 3]),
         drain: 10,
+        log_level: LogLevel::Info,
+        max_memory: 1_073_741_824,
         seed: 9_223_372_036_854_775_807,
         secret: None,
     },
@@ -158,7 +186,11 @@ const ROWS: [Row; 7] = [
         alone: 10,
         accept: Accept::Any,
         admin: None,
+        admin_token: None,
+        admin_bind: None,
         drain: 10,
+        log_level: LogLevel::Info,
+        max_memory: 0,
         seed: 10,
         secret: Some("0123456789abcdef"),
     },
@@ -178,11 +210,19 @@ const ROWS: [Row; 7] = [
         alone: 10,
         accept: Accept::Any,
         admin: None,
+        admin_token: None,
+        admin_bind: None,
         drain: 10,
+        log_level: LogLevel::Info,
+        max_memory: 0,
         seed: 10,
         secret: None,
     },
 ];
+
+fn ip_of(octets: [u8; 4]) -> IpAddr {
+    IpAddr::from(octets)
+}
 
 fn address_of(place: Place) -> SocketAddr {
     let (octets, port) = place;
@@ -215,6 +255,14 @@ fn has_secret(settings: &SiteSettings, secret: Option<&'static str>) -> bool {
     }
 }
 
+fn has_admin(given: &AdminSettings, row: &Row) -> bool {
+    let token = match &given.token {
+        Some(token) => row.admin_token == Some(token.as_str()),
+        None => row.admin_token.is_none(),
+    };
+    token && given.address == row.admin.map(address_of) && given.bind == row.admin_bind.map(ip_of)
+}
+
 fn is_row(settings: &SiteSettings, row: &Row) -> bool {
     let bind = row.bind;
     settings.site.value() == row.site
@@ -226,8 +274,10 @@ fn is_row(settings: &SiteSettings, row: &Row) -> bool {
         && settings.link_backlog.value() == row.link_backlog
         && settings.alone.value() == row.alone
         && settings.accept == row.accept
-        && settings.admin == row.admin.map(address_of)
+        && has_admin(&settings.admin, row)
         && settings.drain.value() == row.drain
+        && settings.log_level == row.log_level
+        && settings.max_memory.value() == row.max_memory
         && settings.seed.value() == row.seed
         && has_secret(settings, row.secret)
 }
@@ -259,9 +309,10 @@ fn a_site_may_have_the_keys_of_several(rt: HostRuntime) -> Result<(), Fail> {
 
 #[test]
 fn an_admin_port_may_be_at_the_other_loopback_address(rt: HostRuntime) -> Result<(), Fail> {
-    let text = "site = 7\nport = 7001\nlisten = \"127.0.0.1:7101\"\nadmin = \"[::1]:7180\"";
+    let text =
+        "site = 7\nport = 7001\nlisten = \"127.0.0.1:7101\"\nadmin = \"[::1]:7180\"\nadmin_bind = \"::1\"";
     let given = site_settings(rt.alloc(), text)?;
     let place = SocketAddr::new(IpAddr::V6(Ipv6Addr::LOCALHOST), 7180);
-    assert!(rt; given.admin == Some(place));
+    assert!(rt; given.admin.address == Some(place));
     Ok(())
 }
