@@ -1,0 +1,7 @@
+pub mod Commands
+pub mod Timing
+pub mod Counts
+pub mod Closings
+pub mod Metrics
+pub mod Lines
+pub mod Page
