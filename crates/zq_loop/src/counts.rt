@@ -2,10 +2,27 @@
 
 use std::sync::atomic::{AtomicBool, AtomicU64, Ordering};
 
-/// How many connections there are, how many bytes of replies wait, and whether the end has come.
+/// How many connections a port has and had.
+#[derive(Clone, Copy, Debug)]
+pub struct PortFigures {
+    /// Those that are open.
+    pub open: u64,
+    /// Those that were accepted.
+    pub accepted: u64,
+    /// Those that were refused, since there were as many as there may be.
+    pub refused: u64,
+    /// Those that were closed since they brought nothing for too long.
+    pub silent: u64,
+}
+
+/// How many connections there are and were, how many bytes of replies wait, and whether the end has
+/// come.
 #[derive(Drop)]
 pub struct Counts {
     open: AtomicU64,
+    accepted: AtomicU64,
+    refused: AtomicU64,
+    silent: AtomicU64,
     owed: AtomicU64,
     has_all: AtomicBool,
     is_stopped: AtomicBool,
@@ -17,6 +34,9 @@ impl Counts {
     pub fn new() -> Counts {
         Counts {
             open: AtomicU64::new(0),
+            accepted: AtomicU64::new(0),
+            refused: AtomicU64::new(0),
+            silent: AtomicU64::new(0),
             owed: AtomicU64::new(0),
             has_all: AtomicBool::new(false),
             is_stopped: AtomicBool::new(false),
@@ -27,15 +47,32 @@ impl Counts {
     /// Takes one of so many places, and says whether there was one.
     pub fn enter(&self, most: u64) -> bool {
         if self.open.fetch_add(1, Ordering::SeqCst) < most {
+            self.accepted.fetch_add(1, Ordering::SeqCst);
             return true;
         }
         self.leave();
+        self.refused.fetch_add(1, Ordering::SeqCst);
         false
     }
 
     /// Gives a place back.
     pub fn leave(&self) {
         self.open.fetch_sub(1, Ordering::SeqCst);
+    }
+
+    /// A connection is closed that brought nothing for too long.
+    pub fn silence(&self) {
+        self.silent.fetch_add(1, Ordering::SeqCst);
+    }
+
+    /// What was counted since the port was opened.
+    pub fn figures(&self) -> PortFigures {
+        PortFigures {
+            open: self.open.load(Ordering::SeqCst),
+            accepted: self.accepted.load(Ordering::SeqCst),
+            refused: self.refused.load(Ordering::SeqCst),
+            silent: self.silent.load(Ordering::SeqCst),
+        }
     }
 
     /// A connection is owed so many bytes, where it was owed so many.

@@ -26,6 +26,7 @@ mod worker;
 pub use accepting::Acceptor;
 pub use along::{keeping_at_sockets, keeping_through_lives};
 pub use client::Client;
+pub use counts::PortFigures;
 pub use limits::Limits;
 pub use poller::Poller;
 pub use port::Port;

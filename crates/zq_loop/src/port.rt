@@ -3,7 +3,7 @@
 ghost use Rattle.std.specs.Prelude.{IfOk, length, ◌≡◌};
 
 use crate::accepting::Acceptor;
-use crate::counts::Counts;
+use crate::counts::{Counts, PortFigures};
 use crate::inbox::Inbox;
 use crate::limits::Limits;
 use crate::poller::Poller;
@@ -61,6 +61,11 @@ impl Port {
     /// The address that is listened on.
     pub fn address(&self) -> io::Result<SocketAddr> {
         self.listener.local_addr()
+    }
+
+    /// How many connections it has and had.
+    pub fn figures(&self) -> PortFigures {
+        self.counts.figures()
     }
 
     /// Ends the port: no connection is accepted and no request is read any more. What was read is

@@ -40,6 +40,8 @@ impl Watch for Counting {
     }
 
     fn settle(&self) {}
+
+    fn end(&self, _began: Duration) {}
 }
 
 const PING: &[u8] = b"*1\r\n$4\r\nPING\r\n";

@@ -1,5 +1,7 @@
 //! What is told of a port that is served.
 
+use std::time::Duration;
+
 /// What went wrong at a port.
 #[derive(Clone, Copy, Debug, PartialEq, Eq)]
 pub enum PortFault {
@@ -21,4 +23,8 @@ pub trait Watch {
     /// Called in each turn of a worker after all requests of the turn are answered, and before any
     /// reply to them is written.
     fn settle(&self);
+
+    /// Called at the end of each turn of a worker, after its replies are written as far as their
+    /// sockets took them. The clock showed this when the turn began.
+    fn end(&self, began: Duration);
 }

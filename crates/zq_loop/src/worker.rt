@@ -105,9 +105,11 @@ impl<'a, 'p, 'w, W: Watch> Worker<'a, 'p, 'w, W> {
                 self.watch.tell(PortFault::Device);
                 break;
             }
-            let now = seconds(rt);
+            let began = time(rt);
+            let now = began.as_secs();
             self.prepare(rt, now);
             self.turn(answerer, &mut buffer, now);
+            self.watch.end(began);
             self.relieve();
             if now > swept {
                 swept = now;
@@ -376,6 +378,8 @@ impl<'a, 'p, 'w, W: Watch> Worker<'a, 'p, 'w, W> {
         let is_silent = client.is_silent(limits.timeout, now);
         if is_stuck {
             self.watch.tell(PortFault::Unread);
+        } else if is_silent {
+            self.port.counts.silence();
         }
         if is_stuck || is_silent || is_end {
             self.remove(place);
@@ -417,10 +421,10 @@ impl<'a, 'p, 'w, W: Watch> Worker<'a, 'p, 'w, W> {
     }
 }
 
-/// The seconds that the clock shows.
-fn seconds<R: Clock>(rt: &R) -> u64 {
+/// The time that the clock shows.
+fn time<R: Clock>(rt: &R) -> Duration {
     match rt.monotonic() {
-        Ok(now) => now.as_secs(),
-        Err(_) => 0,
+        Ok(now) => now,
+        Err(_) => Duration::from_millis(0),
     }
 }

@@ -18,6 +18,7 @@ mod end;
 mod fence;
 mod hearing;
 mod joining;
+mod lagging;
 mod logs;
 mod parcels;
 mod passing;
@@ -30,7 +31,7 @@ mod telling;
 mod told;
 
 pub use fence::Fenced;
-pub use logs::{Drained, Logs};
+pub use logs::{Drained, LogSize, Logs};
 pub use parcels::Parcels;
 pub use protocol::Protocol;
 pub use replica::{LEAST_WINDOW, Replica, window_for};

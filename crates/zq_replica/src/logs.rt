@@ -1,5 +1,6 @@
 //! The logs of a site's heaps.
 
+ghost use Rattle.std.specs.Prelude.{replicate, true, ◌≡◌};
 ghost use Rattle.zq_node.specs.Node.{IsNode};
 ghost use Rattle.zq_replica.specs.Nodes.{Shows};
 
@@ -45,6 +46,25 @@ impl Drained {
     }
 }
 
+/// How much a log has.
+#[derive(Clone, Copy, Debug, PartialEq, Eq)]
+pub struct LogSize {
+    /// How many operations.
+    pub operations: u64,
+    /// How many bytes, as its bound counts them.
+    pub bytes: u64,
+}
+
+impl LogSize {
+    /// That of a log.
+    fn of(log: &Backlog) -> LogSize {
+        LogSize {
+            operations: log.len() as u64,
+            bytes: log.bytes(),
+        }
+    }
+}
+
 /// A log of written operations for each heap of a site. Threads share them: one takes what the heaps
 /// make into them, another one cuts batches for the peers out of them.
 #[derive(Drop)]
@@ -72,6 +92,17 @@ impl Logs {
     /// The log of a heap.
     pub(crate) fn at(&self, heap: u8) -> Option<&Mutex<Backlog>> {
         self.logs.get(usize::from(heap))
+    }
+
+    /// How much a heap's log has.
+    pub fn size<R: Wait>(&self, rt: &R, heap: u8) -> LogSize {
+        match self.at(heap) {
+            Some(log) => LogSize::of(&log.lock(rt)),
+            None => LogSize {
+                operations: 0,
+                bytes: 0,
+            },
+        }
     }
 
     /// Takes a piece of what each heap of the node's site has made into its log. What is refused
@@ -147,7 +178,9 @@ impl Logs {
 }
 
 /// All sites.
-fn every_site() -> SiteSet {
+pub(crate) fn every_site() -> SiteSet
+    ensures { result ≡ replicate 64 true }
+{
     SiteSet::from_array([true; SITES])
 }
 
