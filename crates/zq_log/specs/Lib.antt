@@ -1,4 +1,5 @@
 pub mod Stamp
+pub mod Pairs
 pub mod Lines
 pub mod Limits
 pub mod LimitLaws

@@ -41,19 +41,34 @@ impl Intake {
         }
     }
 
-    /// A message comes. Where its kind may have one more line now its line waits to be written, or
+    /// A message comes, with pairs as they are written. Where its kind may have one more line now its line waits to be written, or
     /// is dropped and counted; else it is held back.
-    pub fn take_in(&mut self, alloc: Global, moment: Moment, level: Level, message: &[u8])
-        ensures { IsTakenIn moment level message.now self.old self.new }
+    pub fn take_in(
+        &mut self,
+        alloc: Global,
+        moment: Moment,
+        level: Level,
+        message: &[u8],
+        pairs: &[u8],
+    )
+        ensures { IsTakenIn moment level message.now pairs.now self.old self.new }
     {
         match self.kinds.admit(alloc, kind_of(message), moment.steady) {
             None => {}
-            Some(more) => put_line(&mut self.backlog, alloc, moment, level, message, more),
+            Some(more) => put_line(
+                &mut self.backlog,
+                alloc,
+                moment,
+                level,
+                message,
+                pairs,
+                more,
+            ),
         }
     }
 }
 
-/// The line of a message, before which so many of its kind were held back, waits to be written, or
+/// The line of a message and its pairs, before which so many of its kind were held back, waits to be written, or
 /// is dropped and counted.
 fn put_line(
     backlog: &mut Backlog,
@@ -61,11 +76,12 @@ fn put_line(
     moment: Moment,
     level: Level,
     message: &[u8],
+    pairs: &[u8],
     more: u64,
 )
-    ensures { Follows moment level message.now (Some more) backlog.old backlog.new }
+    ensures { Follows moment level message.now pairs.now (Some more) backlog.old backlog.new }
 {
-    match line_of(alloc, &stamp_of(moment.milli), level, message, more) {
+    match line_of(alloc, &stamp_of(moment.milli), level, message, pairs, more) {
         Ok(line) => backlog.put(line),
         Err(_) => backlog.lose(),
     }

@@ -13,18 +13,20 @@ const MOST_BYTES: usize = 1_024;
 /// What a line that was cut ends in.
 const POINTS: &[u8] = b"...";
 
-/// The line of a message: the time, the level, the message and, where there were more like it, how
-/// many; `2026-11-28T19:20:35.123Z WARN site 3 protocol fault (12 more like it)`. A byte of the
-/// message below 32, or 127, is a question mark there. A line of more than 1,024 bytes is cut and
-/// ends in `...`. A newline ends it.
+/// The line of a message: the time, the level, the message, its pairs as `push_pair` writes them
+/// and, where there were more like it, how many;
+/// `2026-11-28T19:20:35.123Z WARN site=3 link lost peer=1 reason="it was closed" more=12`. A byte of
+/// the message below 32, or 127, is a question mark there. A line of more than 1,024 bytes is cut
+/// and ends in `...`. A newline ends it.
 pub fn line_of(
     alloc: Global,
     stamp: &Stamp,
     level: Level,
     message: &[u8],
+    pairs: &[u8],
     more: u64,
 ) -> Result<Vec<u8>, AllocError>
-    ensures { IfOk result (λ bytes. bytes.items ≡ line stamp.now level message.now more) }
+    ensures { IfOk result (λ bytes. bytes.items ≡ line stamp.now level message.now pairs.now more) }
 {
     let mut bytes = Vec::new(alloc);
     bytes.extend_from_slice(stamp)?;
@@ -32,6 +34,7 @@ pub fn line_of(
     bytes.extend_from_slice(level.as_str().as_bytes())?;
     bytes.push(b' ')?;
     push_plain(&mut bytes, message)?;
+    bytes.extend_from_slice(pairs)?;
     push_told(alloc, &mut bytes, more)?;
     cut_long(&mut bytes)?;
     bytes.push(b'\n')?;
@@ -62,7 +65,7 @@ fn push_told(alloc: Global, bytes: &mut Vec<u8>, more: u64) -> Result<(), AllocE
     if more == 0 {
         return Ok(());
     }
-    let text = format!(in alloc; " ({more} more like it)")?;
+    let text = format!(in alloc; " more={more}")?;
     bytes.extend_from_slice(text.as_bytes())
 }
 

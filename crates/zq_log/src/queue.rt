@@ -43,11 +43,12 @@ impl LogQueue {
         }
     }
 
-    /// A message comes at this moment. Its line waits to be written, or is held back or dropped,
-    /// and counted.
-    pub fn log<R: Wait>(&self, rt: &R, moment: Moment, level: Level, message: &[u8]) {
+    /// A message comes at this moment, with pairs as they are written. Its line waits to be written,
+    /// or is held back or dropped, and counted.
+    pub fn log<R: Wait>(&self, rt: &R, moment: Moment, level: Level, message: &[u8], pairs: &[u8]) {
         let mut desk = self.desk.lock(rt);
-        desk.intake.take_in(self.alloc, moment, level, message);
+        desk.intake
+            .take_in(self.alloc, moment, level, message, pairs);
         drop(desk);
         self.changed.notify_all();
     }

@@ -47,5 +47,12 @@ fn write_entry<R: Clock, W: Write>(rt: &R, alloc: Global, pen: &mut Pen<W>, entr
 /// The line that says how many were dropped.
 fn loss_of(alloc: Global, milli: u64, lost: u64) -> Result<Vec<u8>, AllocError> {
     let message = format!(in alloc; "{lost} lines dropped")?;
-    line_of(alloc, &stamp_of(milli), Level::Warn, message.as_bytes(), 0)
+    line_of(
+        alloc,
+        &stamp_of(milli),
+        Level::Warn,
+        message.as_bytes(),
+        &[],
+        0,
+    )
 }

@@ -65,7 +65,7 @@ fn what_logs_does_not_wait_for_the_device(rt: HostRuntime) -> Result<(), Fail> {
             milli,
             steady: milli,
         };
-        queue.log(&rt, moment, Level::Warn, b"site 0 protocol fault");
+        queue.log(&rt, moment, Level::Warn, b"site 0 protocol fault", b"");
     }
     assert!(rt; !queue.end(&rt, Duration::from_millis(50)));
     drop(stuck);
@@ -94,14 +94,17 @@ fn what_is_logged_is_written_up_to_the_level(rt: HostRuntime) -> Result<(), Fail
         warn!(log; "site 0 refuses a peer at 10.0.0.1:{port}");
     }
     debug!(log; "site 0 says more");
-    info!(log; "site 0 reaches site 1");
+    info!(log; peer = 1u8, reason = "it is there"; "site=0 link up");
     queue.put(&rt, Vec::from_slice(rt.alloc(), b"zqueue: number\n")?);
     assert!(rt; queue.end(&rt, Duration::from_secs(50)));
     writer.join(&rt);
     let text = taken.lock(&rt);
     let rows: [(&[u8], usize); 5] = [
         (b"Z WARN site 0 refuses a peer at 10.0.0.1:", 10),
-        (b"Z INFO site 0 reaches site 1\nzqueue: number\n", 1),
+        (
+            b"Z INFO site=0 link up peer=1 reason=\"it is there\"\nzqueue: number\n",
+            1,
+        ),
         (b"DEBUG", 0),
         (b"\n", 12),
         (b"zqueue: number\n", 1),

@@ -1,6 +1,6 @@
 //! The form of a line, and lines that wait.
 
-use crate::{Backlog, line_of, stamp_of};
+use crate::{Backlog, line_of, push_pair, stamp_of};
 use log::Level;
 use std::test::Fail;
 
@@ -34,30 +34,66 @@ fn a_time_has_its_text(rt: HostRuntime) {
 
 #[test]
 fn a_line_has_its_form(rt: HostRuntime) -> Result<(), Fail> {
-    let rows: [(Level, &[u8], u64, &[u8]); 4] = [
+    let rows: [(Level, &[u8], &[u8], u64, &[u8]); 5] = [
         (
             Level::Warn,
             b"site 3 protocol fault",
+            b"",
             0,
             b"1970-01-01T00:00:00.000Z WARN site 3 protocol fault\n",
         ),
-        (Level::Info, b"", 0, b"1970-01-01T00:00:00.000Z INFO \n"),
+        (
+            Level::Warn,
+            b"site=3 link lost",
+            b" peer=1 reason=\"it broke\"",
+            12,
+            b"1970-01-01T00:00:00.000Z WARN site=3 link lost peer=1 reason=\"it broke\" more=12\n",
+        ),
+        (
+            Level::Info,
+            b"",
+            b"",
+            0,
+            b"1970-01-01T00:00:00.000Z INFO \n",
+        ),
         (
             Level::Debug,
             b"two\nlines \x1b[2J\x7f\xc3\xa9",
+            b"",
             1,
-            b"1970-01-01T00:00:00.000Z DEBUG two?lines ?[2J?\xc3\xa9 (1 more like it)\n",
+            b"1970-01-01T00:00:00.000Z DEBUG two?lines ?[2J?\xc3\xa9 more=1\n",
         ),
         (
             Level::Error,
             b"a",
+            b"",
             u64::MAX,
-            b"1970-01-01T00:00:00.000Z ERROR a (18446744073709551615 more like it)\n",
+            b"1970-01-01T00:00:00.000Z ERROR a more=18446744073709551615\n",
         ),
     ];
-    for (level, message, more, line) in rows {
-        let bytes = line_of(rt.alloc(), &stamp_of(0), level, message, more)?;
+    for (level, message, pairs, more, line) in rows {
+        let bytes = line_of(rt.alloc(), &stamp_of(0), level, message, pairs, more)?;
         assert!(rt; bytes.as_slice() == line);
+    }
+    Ok(())
+}
+
+#[test]
+fn a_value_is_quoted_where_it_has_to_be(rt: HostRuntime) -> Result<(), Fail> {
+    let rows: [(&[u8], &[u8]); 8] = [
+        (b"7101", b" key=7101"),
+        (b"[::1]:7101", b" key=[::1]:7101"),
+        (b"", b" key=\"\""),
+        (b"it broke", b" key=\"it broke\""),
+        (b"a=b", b" key=\"a=b\""),
+        (b"\\\"", b" key=\"\\\\\\\"\""),
+        (b"a\n\x1f\x7f", b" key=\"a\\u000a\\u001f\\u007f\""),
+        (b"\xc3\xa9", b" key=\xc3\xa9"),
+    ];
+    for (value, pair) in rows {
+        let mut bytes = Vec::new(rt.alloc());
+        push_pair(&mut bytes, b"key", value)?;
+        assert!(rt; bytes.as_slice() == pair);
     }
     Ok(())
 }
@@ -73,7 +109,14 @@ fn a_long_line_is_cut(rt: HostRuntime) -> Result<(), Fail> {
     ];
     let message = [b'a'; 5_000];
     for (size, length, end) in rows {
-        let bytes = line_of(rt.alloc(), &stamp_of(0), Level::Warn, &message[..size], 0)?;
+        let bytes = line_of(
+            rt.alloc(),
+            &stamp_of(0),
+            Level::Warn,
+            &message[..size],
+            b"",
+            0,
+        )?;
         assert!(rt; bytes.len() == length && bytes.as_slice().ends_with(end));
     }
     Ok(())
