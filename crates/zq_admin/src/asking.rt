@@ -1,6 +1,7 @@
 //! Asking at an admin port.
 
 use crate::asked::Asked;
+use crate::page::Page;
 use http1::{BodySize, Client, Event, Header, Limits};
 use httparse::spans::{EMPTY_HEADER_SPAN, HeaderSpan};
 use std::alloc::{AllocError, Global};
@@ -18,6 +19,9 @@ const PIECE: usize = 4_096;
 /// How many fields the head of an answer has at most.
 const FIELDS: usize = 64;
 
+/// How many headers a request has that says the token.
+const ALL_HEADERS: usize = 4;
+
 /// What an admin port answered.
 #[derive(Debug, Drop)]
 pub struct Answer {
@@ -27,7 +31,8 @@ pub struct Answer {
     pub words: Vec<u8>,
 }
 
-/// Asks this at an admin port. Each of the connection, a write and a read may take so long.
+/// Asks this at an admin port, and says the token, where there is one. Each of the connection, a
+/// write and a read may take so long.
 ///
 /// # Errors
 ///
@@ -37,6 +42,7 @@ pub fn ask<N>(
     alloc: Global,
     address: &SocketAddr,
     asked: Asked,
+    token: Option<&str>,
     patience: Duration,
 ) -> io::Result<Answer>
 where
@@ -46,7 +52,7 @@ where
     stream.set_read_timeout(Some(patience))?;
     stream.set_write_timeout(Some(patience))?;
     let mut client = Client::new(Limits::default());
-    let request = request_of(alloc, &mut client, address, asked)?;
+    let request = request_of(alloc, &mut client, address, asked, token)?;
     stream.write_all(&request)?;
     read_answer(alloc, &mut client, &mut stream)
 }
@@ -57,13 +63,36 @@ fn request_of(
     client: &mut Client,
     address: &SocketAddr,
     asked: Asked,
+    token: Option<&str>,
 ) -> io::Result<Vec<u8>> {
-    let (method, page) = page_of(asked);
+    let page = page_of(alloc, asked)?;
     let host = format!(in alloc; "{address}")?;
-    let headers = [
+    let said = format!(in alloc; "Bearer {}", token.unwrap_or(""))?;
+    let headers = headers_of(host.as_bytes(), said.as_bytes());
+    let count = match token {
+        Some(_) => ALL_HEADERS,
+        None => ALL_HEADERS - 1,
+    };
+    let method = method_of(asked);
+    let mut request = Vec::new(alloc);
+    match client.write_request(
+        &mut request,
+        method,
+        page.as_bytes(),
+        &headers[..count],
+        BodySize::Empty,
+    ) {
+        Ok(()) => Ok(request),
+        Err(_) => Err(ErrorKind::InvalidInput.into()),
+    }
+}
+
+/// The headers of a request, of which the last says the token.
+fn headers_of<'a>(host: &'a [u8], said: &'a [u8]) -> [Header<'a>; ALL_HEADERS] {
+    [
         Header {
             name: b"host",
-            value: host.as_bytes(),
+            value: host,
         },
         Header {
             name: b"x-zqueue-admin",
@@ -73,21 +102,33 @@ fn request_of(
             name: b"connection",
             value: b"close",
         },
-    ];
-    let mut request = Vec::new(alloc);
-    match client.write_request(&mut request, method, page, &headers, BodySize::Empty) {
-        Ok(()) => Ok(request),
-        Err(_) => Err(ErrorKind::InvalidInput.into()),
+        Header {
+            name: b"authorization",
+            value: said,
+        },
+    ]
+}
+
+/// The method that asks this.
+fn method_of(asked: Asked) -> &'static [u8] {
+    match asked {
+        Asked::Stop => b"POST",
+        _ => b"GET",
     }
 }
 
-/// The method and the page that ask this.
-fn page_of(asked: Asked) -> (&'static [u8], &'static [u8]) {
-    match asked {
-        Asked::Alive => (b"GET", b"/healthz"),
-        Asked::Ready => (b"GET", b"/readyz"),
-        Asked::Stop => (b"POST", b"/stop"),
-    }
+/// The page that is asked for.
+fn page_of(alloc: Global, asked: Asked) -> Result<String, AllocError> {
+    let page = match asked {
+        Asked::Alive => "/healthz",
+        Asked::Ready => "/readyz",
+        Asked::Stop => "/stop",
+        Asked::Show(Page::Front) => "/",
+        Asked::Show(Page::Metrics) => "/metrics",
+        Asked::Show(Page::Peers) => "/peers",
+        Asked::Show(Page::Keys(count)) => return format!(in alloc; "/keys?n={count}"),
+    };
+    String::from_str(alloc, page)
 }
 
 /// Reads what is answered.

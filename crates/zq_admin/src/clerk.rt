@@ -1,16 +1,20 @@
 //! Who answers requests.
 
 ghost use Rattle.http_server.specs.Response.{IsBlank};
-ghost use Rattle.std.specs.Prelude.{IsTrue, OnOk};
-ghost use Rattle.zq_admin.specs.Clerks.{HasMark, IsAskedIn, IsFilled};
+ghost use Rattle.std.specs.Prelude.{IsTrue, OnOk, option_copied, ◌≡◌};
+ghost use Rattle.zq_admin.specs.Clerks.{Answers, HasMark, IsAskedIn, Shows, is_stop as is_stop_in};
 
 use crate::asked::{Asked, Denial, asked_by};
+use crate::desk::Desk;
+use crate::filling::{fill, fill_page};
 use crate::host::is_literal;
+use crate::page::Page;
 use crate::readiness::Readiness;
-use crate::reply::{Methods, Reply, reply_to, reply_to_denied};
+use crate::reply::{reply_to, reply_to_denied};
+use crate::sender::Sender;
+use crate::token::is_known;
 use bytes::Bytes;
-use http::header::{HeaderName, HeaderValue};
-use http::{Request, StatusCode};
+use http::Request;
 use http_server::{Response, Service};
 use std::alloc::AllocError;
 
@@ -19,41 +23,91 @@ use std::alloc::AllocError;
 const MARK: &str = "x-zqueue-admin";
 
 /// Answers the requests of an admin port.
-#[derive(Clone, Copy, Debug)]
-pub struct Clerk {
+#[derive(Drop)]
+pub struct Clerk<'a, D> {
+    /// What gives the pages of the site.
+    pub desk: &'a D,
+    /// What each request has to say, where that is asked for.
+    pub token: Option<&'a str>,
     /// How ready the site is.
     pub readiness: Readiness,
     /// Whether it was asked that the site ends.
     pub stops: bool,
 }
 
-impl Service for Clerk {
+impl<D: Desk> Service for Clerk<'_, D> {
     ghost use Rattle.zq_admin.specs.Clerks.{IsAnswered};
 
-    ghost answers = { IsAnswered };
+    ghost answers = { IsAnswered D.gives };
 
     fn call(
         &mut self,
         request: &Request<Bytes>,
         response: &mut Response,
     ) -> Result<(), AllocError> {
-        let asked = asked_in(request);
-        let reply = match asked {
-            Ok(asked) => reply_to(asked, self.readiness),
-            Err(denial) => reply_to_denied(denial),
-        };
-        write_reply(reply, response)?;
-        self.stops = self.stops || asked == Ok(Asked::Stop);
+        let asked = asked_in(request, self.token);
+        answer(self.desk, asked, self.readiness, response)?;
+        self.stops = self.stops || is_stop(asked);
         Ok(())
     }
 }
 
-/// What a request asks for.
-fn asked_in(request: &Request<Bytes>) -> Result<Asked, Denial>
-    ensures { IsAskedIn request.now result }
+/// Answers what a request asks for.
+fn answer<D: Desk>(
+    desk: &D,
+    asked: Result<Asked, Denial>,
+    readiness: Readiness,
+    response: &mut Response,
+) -> Result<(), AllocError>
+    requires { IsBlank response.old }
+    ensures { OnOk result (Answers D.gives desk.now readiness asked response.new) }
 {
-    let trusted = is_trusted(request);
-    asked_by(request.method().as_str(), request.uri().path(), trusted)
+    match asked {
+        Ok(Asked::Alive) => fill(reply_to(Asked::Alive, readiness), response),
+        Ok(Asked::Ready) => fill(reply_to(Asked::Ready, readiness), response),
+        Ok(Asked::Stop) => fill(reply_to(Asked::Stop, readiness), response),
+        Ok(Asked::Show(page)) => show(desk, page, readiness, response),
+        Err(denial) => fill(reply_to_denied(denial), response),
+    }
+}
+
+/// Answers with the text that the site gives for a page, or that it cannot give it.
+fn show<D: Desk>(
+    desk: &D,
+    page: Page,
+    readiness: Readiness,
+    response: &mut Response,
+) -> Result<(), AllocError>
+    requires { IsBlank response.old }
+    ensures { OnOk result (Shows D.gives desk.now readiness page response.new) }
+{
+    match desk.show(page) {
+        Some(text) => fill_page(page, text, response),
+        None => fill(reply_to(Asked::Show(page), readiness), response),
+    }
+}
+
+/// Whether it is asked that the site ends.
+fn is_stop(asked: Result<Asked, Denial>) -> bool
+    ensures { result ≡ is_stop_in asked }
+{
+    match asked {
+        Ok(Asked::Stop) => true,
+        Ok(Asked::Alive | Asked::Ready | Asked::Show(_)) | Err(_) => false,
+    }
+}
+
+/// What a request asks for.
+fn asked_in(request: &Request<Bytes>, token: Option<&str>) -> Result<Asked, Denial>
+    ensures { IsAskedIn (option_copied token.entry) request.now result }
+{
+    let sender = Sender {
+        known: is_known(request, token),
+        trusted: is_trusted(request),
+        direct: token.is_some() || is_direct(request),
+    };
+    let uri = request.uri();
+    asked_by(request.method().as_str(), uri.path(), uri.query(), sender)
 }
 
 /// Whether no page of another origin can have sent the request: it has the mark, and the host is no
@@ -73,37 +127,4 @@ fn is_direct(request: &Request<Bytes>) -> bool {
         Ok(host) => is_literal(host),
         Err(_) => false,
     }
-}
-
-/// Fills a response.
-fn write_reply(reply: Reply, response: &mut Response) -> Result<(), AllocError>
-    requires { IsBlank response.old }
-    ensures { OnOk result (IsFilled reply.code reply.words.now response.new) }
-{
-    let Ok(status) = StatusCode::from_u16(reply.code) else {
-        return Err(AllocError);
-    };
-    response.status = status;
-    response.add_header(
-        HeaderName::from_static("content-type"),
-        HeaderValue::from_static("text/plain; charset=utf-8"),
-    )?;
-    response.add_header(
-        HeaderName::from_static("cache-control"),
-        HeaderValue::from_static("no-store"),
-    )?;
-    match reply.methods {
-        Methods::All => {}
-        Methods::Reading => response.add_header(
-            HeaderName::from_static("allow"),
-            HeaderValue::from_static("GET, HEAD"),
-        )?,
-        Methods::Post => response.add_header(
-            HeaderName::from_static("allow"),
-            HeaderValue::from_static("POST"),
-        )?,
-    }
-    response
-        .body
-        .push(Bytes::from_static(reply.words.as_bytes()))
 }

@@ -91,6 +91,8 @@ impl AdminPort {
             let now = seconds(rt);
             self.accept_all(&mut visits, now);
             let mut clerk = Clerk {
+                desk,
+                token: desk.token(),
                 readiness: desk.readiness(),
                 stops,
             };
@@ -136,7 +138,7 @@ impl AdminPort {
 
 /// Serves all connections as far as their sockets go, and lets those go that have ended, or last
 /// too long.
-fn serve_all(visits: &mut Vec<Visit>, clerk: &mut Clerk, now: u64) {
+fn serve_all<D: Desk>(visits: &mut Vec<Visit>, clerk: &mut Clerk<'_, D>, now: u64) {
     for place in (0..visits.len()).rev() {
         let goes_on = match visits.get_mut(place) {
             Some(visit) => visit.go_on(clerk) && visit.may_last(now),

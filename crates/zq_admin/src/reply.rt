@@ -6,29 +6,32 @@ ghost use Rattle.zq_admin.specs.Replies as wanted;
 use crate::asked::{Asked, Denial};
 use crate::readiness::Readiness;
 
-/// Which methods a page takes, where that has to be said.
+/// What has to be said beside the words.
 #[derive(Clone, Copy, Debug, PartialEq, Eq)]
-pub enum Methods {
-    /// That has not to be said.
-    All,
-    /// GET and HEAD.
+pub enum Hint {
+    /// Nothing.
+    Nothing,
+    /// That the page takes GET and HEAD.
     Reading,
-    /// POST.
+    /// That the page takes POST.
     Post,
+    /// That a token is asked for.
+    Bearer,
 }
 
-/// What is answered: a status, a line, and which methods the page takes.
+/// What is answered: a status, a line, and what has to be said beside it.
 #[derive(Clone, Copy, Debug, PartialEq, Eq)]
 pub struct Reply {
     /// The status.
     pub code: u16,
     /// The line.
     pub words: &'static str,
-    /// The methods that the page takes.
-    pub methods: Methods,
+    /// What has to be said beside it.
+    pub hint: Hint,
 }
 
-/// What is answered to who asks this of a site that is so ready.
+/// What is answered to who asks this of a site that is so ready. Who asks for a page is answered
+/// this where the site does not give it.
 pub fn reply_to(asked: Asked, readiness: Readiness) -> Reply
     ensures code { result.code ≡ wanted.code_for asked readiness }
     ensures words { result.words.now ≡ wanted.words_for asked readiness }
@@ -38,11 +41,12 @@ pub fn reply_to(asked: Asked, readiness: Readiness) -> Reply
         Asked::Ready if readiness.is_ready() => (200, readiness.words()),
         Asked::Ready => (503, readiness.words()),
         Asked::Stop => (202, "the site ends\n"),
+        Asked::Show(_) => (503, "the site cannot show that now\n"),
     };
     Reply {
         code,
         words,
-        methods: Methods::All,
+        hint: Hint::Nothing,
     }
 }
 
@@ -51,19 +55,26 @@ pub fn reply_to_denied(denial: Denial) -> Reply
     ensures code { result.code ≡ wanted.code_of denial }
     ensures words { result.words.now ≡ wanted.words_of_denial denial }
 {
-    let (code, words, methods) = match denial {
-        Denial::Unknown => (404, "there is no such page\n", Methods::All),
-        Denial::ReadOnly => (405, "this page is read alone\n", Methods::Reading),
-        Denial::PostOnly => (405, "this page takes POST alone\n", Methods::Post),
+    let (code, words, hint) = match denial {
+        Denial::Unknown => (404, "there is no such page\n", Hint::Nothing),
+        Denial::ReadOnly => (405, "this page is read alone\n", Hint::Reading),
+        Denial::PostOnly => (405, "this page takes POST alone\n", Hint::Post),
         Denial::Foreign => (
             403,
             "this takes the header X-Zqueue-Admin, and a Host that is an address or localhost\n",
-            Methods::All,
+            Hint::Nothing,
         ),
+        Denial::Elsewhere => (
+            403,
+            "this takes a Host that is an address or localhost\n",
+            Hint::Nothing,
+        ),
+        Denial::Stranger => (
+            401,
+            "this takes the header Authorization: Bearer TOKEN\n",
+            Hint::Bearer,
+        ),
+        Denial::Count => (400, "n is a number from 1 to 1000\n", Hint::Nothing),
     };
-    Reply {
-        code,
-        words,
-        methods,
-    }
+    Reply { code, words, hint }
 }

@@ -3,6 +3,7 @@
 ghost use Rattle.std.specs.Prelude.{nat_lt, ◌≡◌};
 
 use crate::clerk::Clerk;
+use crate::desk::Desk;
 use http_server::Connection;
 use mio::net::TcpStream;
 use std::io;
@@ -32,7 +33,7 @@ impl Visit {
 
     /// Reads, answers and writes as far as the socket goes, but no more than so many times, so that
     /// one that sends without end holds up no other. It says whether the connection goes on.
-    pub fn go_on(&mut self, clerk: &mut Clerk) -> bool {
+    pub fn go_on<D: Desk>(&mut self, clerk: &mut Clerk<'_, D>) -> bool {
         for _ in 0..STEPS {
             self.connection.advance(clerk);
             if self.connection.is_done() {

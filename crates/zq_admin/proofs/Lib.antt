@@ -1,0 +1,2 @@
+pub mod CountsRead
+pub mod Crossing
