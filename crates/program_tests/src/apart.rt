@@ -20,12 +20,22 @@ use std::sync::Wait;
 use std::test::Fail;
 use std::thread::Threads;
 use std::time::Clock;
+use zq_serve::Memory;
 use zq_settings::SiteSettings;
 use zq_site::{Ending, serve_site};
 
 const ADD_A: &[u8] = b"*4\r\n$4\r\nZADD\r\n$1\r\nq\r\n$1\r\n3\r\n$1\r\na\r\n";
 
 const ADD_B: &[u8] = b"*4\r\n$4\r\nZADD\r\n$1\r\nq\r\n$1\r\n4\r\n$1\r\nb\r\n";
+
+const RAISE_B: &[u8] = b"*4\r\n$7\r\nZINCRBY\r\n$1\r\nq\r\n$1\r\n4\r\n$1\r\nb\r\n";
+
+const REMOVE_B: &[u8] = b"*3\r\n$4\r\nZREM\r\n$1\r\nq\r\n$1\r\nb\r\n";
+
+const DELETE: &[u8] = b"*2\r\n$3\r\nDEL\r\n$1\r\nq\r\n";
+
+/// What a command that adds is answered where the process has more memory than it may.
+const FULL: &[u8] = b"-OOM command not allowed when used memory > 'maxmemory'.\r\n";
 
 const CARD: &[u8] = b"*2\r\n$5\r\nZCARD\r\n$1\r\nq\r\n";
 
@@ -54,7 +64,8 @@ fn steps_to(last: usize) -> [Step<'static>; 6] {
 /// find what both were told.
 fn meet<R>(rt: &R, alloc: Global, places: &[Place], secret: Option<&str>) -> Result<bool, Fail>
 where
-    R: Net<Listener = TcpListener, Stream = TcpStream>
+    R: Memory
+        + Net<Listener = TcpListener, Stream = TcpStream>
         + RandomSource
         + Clock
         + Threads
@@ -90,7 +101,8 @@ fn lets_go<R>(
     words: &[&str],
 ) -> Result<bool, Fail>
 where
-    R: Net<Listener = TcpListener, Stream = TcpStream>
+    R: Memory
+        + Net<Listener = TcpListener, Stream = TcpStream>
         + RandomSource
         + Clock
         + Threads
@@ -117,14 +129,14 @@ fn who_is_not_welcome_is_let_go(rt: HostRuntime) -> Result<(), Fail> {
         &greeting(0, 2, 0),
     ];
     let words = [
-        "site 1 refuses a peer at 127.0.0.1:",
-        ": it does not greet as a site does",
-        "site 1 refuses site 2 at 127.0.0.1:",
-        ": it has another rule",
-        ": it has 3 heaps",
-        "site 1 refuses site 3 at 127.0.0.1:",
-        ": site 3 is not expected",
-        ": site 0 is not expected",
+        "site=1 peer refused address=127.0.0.1:",
+        " reason=it does not greet as a site does",
+        "site=1 peer refused peer=2 address=127.0.0.1:",
+        " reason=it has another rule",
+        " reason=it has 3 heaps",
+        "site=1 peer refused peer=3 address=127.0.0.1:",
+        " reason=site 3 is not expected",
+        " reason=site 0 is not expected",
     ];
     let places = free_places(&rt, rt.alloc(), rt.process(), 3)?;
     assert!(rt; lets_go(&rt, rt.alloc(), &places, None, &strangers, &words)?);
@@ -135,9 +147,9 @@ fn who_is_not_welcome_is_let_go(rt: HostRuntime) -> Result<(), Fail> {
 fn who_does_not_know_the_secret_is_let_go(rt: HostRuntime) -> Result<(), Fail> {
     let strangers: [&[u8]; 2] = [&greeting(2, 2, 0), GUESSED];
     let words = [
-        "site 1 refuses site 2 at 127.0.0.1:",
-        ": it has no secret, and this site wants one",
-        ": it does not know the secret",
+        "site=1 peer refused peer=2 address=127.0.0.1:",
+        " reason=it has no secret, and this site wants one",
+        " reason=it does not know the secret",
     ];
     let secret = Some("a secret of sites");
     let places = free_places(&rt, rt.alloc(), rt.process(), 3)?;
@@ -157,9 +169,9 @@ fn a_peer_is_dialled_again_after_a_break(rt: HostRuntime) -> Result<(), Fail> {
     let guests = Guests::Dialled(&listener);
     let log = logged_with(&rt, alloc, &settings, &guests, own.clients)?;
     let words = [
-        "site 1 lost its link to site 0: it ",
-        "site 1 lost its link to site 0: a frame is too long",
-        "site 1 drops a frame of site 0: it is no frame",
+        "site=1 link lost peer=0 address=127.0.0.1:",
+        " reason=a frame is too long",
+        "site=1 frame dropped peer=0 reason=it is no frame",
     ];
     assert!(rt; is_logged(&log, &words)?);
     Ok(())
@@ -177,8 +189,9 @@ fn pauses_grow_until_a_frame_comes(rt: HostRuntime) -> Result<(), Fail> {
     let guests = Guests::Shy(&listener);
     let log = logged_with(&rt, alloc, &settings, &guests, own.clients)?;
     let words = [
-        "site 1 drops a frame of site 0: it is no frame",
-        "site 1 lost its link to site 0: it was closed",
+        "site=1 frame dropped peer=0 reason=it is no frame",
+        "site=1 link lost peer=0 address=127.0.0.1:",
+        " reason=it was closed",
     ];
     assert!(rt; is_logged(&log, &words)?);
     assert!(rt; !is_logged(&log, &["too long"])?);
@@ -195,7 +208,10 @@ fn a_peer_that_says_nothing_is_given_up_after_20_seconds(rt: HostRuntime) -> Res
     let settings = settings_of(alloc, *own, &places, None)?;
     let guests = Guests::Silent(own.door());
     let log = logged_with(&rt, alloc, &settings, &guests, own.clients)?;
-    let words = ["site 0 lost its link to site 1: nothing came for 20 seconds"];
+    let words = [
+        "site=0 link lost peer=1 address=127.0.0.1:",
+        " reason=nothing came for 20 seconds",
+    ];
     assert!(rt; is_logged(&log, &words)?);
     Ok(())
 }
@@ -210,7 +226,7 @@ fn each_byte_of_a_nonce_is_drawn(rt: HostRuntime) -> Result<(), Fail> {
     let settings = settings_of(alloc, *own, &places, Some("a secret of sites"))?;
     let guests = Guests::Curious(own.door());
     let log = logged_with(&rt, alloc, &settings, &guests, own.clients)?;
-    let words = [": it has no secret, and this site wants one"];
+    let words = [" reason=it has no secret, and this site wants one"];
     assert!(rt; is_logged(&log, &words)?);
     Ok(())
 }
@@ -240,12 +256,12 @@ fn a_conversation_of_version_1_is_understood(rt: HostRuntime) -> Result<(), Fail
     let settings = settings_with(alloc, *lesser, &[*lesser], None, "alone = 0\n")?;
     let guests = Guests::Dials(lesser.door(), &version_1::DIALLED);
     let log = logged_with(&rt, alloc, &settings, &guests, lesser.clients)?;
-    assert!(rt; !is_logged(&log, &["drops"])?);
+    assert!(rt; !is_logged(&log, &["dropped"])?);
     let settings = settings_with(alloc, *greater, &[*peer, *greater], None, "alone = 0\n")?;
     let listener = TcpListener::bind(&rt, peer.door())?;
     let guests = Guests::Old(&listener, &version_1::ACCEPTED, b"$4\r\n5000\r\n");
     let log = logged_with(&rt, alloc, &settings, &guests, greater.clients)?;
-    assert!(rt; !is_logged(&log, &["drops"])?);
+    assert!(rt; !is_logged(&log, &["dropped"])?);
     Ok(())
 }
 
@@ -259,12 +275,12 @@ fn a_conversation_of_version_2_is_understood(rt: HostRuntime) -> Result<(), Fail
     let settings = settings_with(alloc, *lesser, &[*lesser], None, "alone = 0\n")?;
     let guests = Guests::Dials(lesser.door(), &version_2::DIALLED);
     let log = logged_with(&rt, alloc, &settings, &guests, lesser.clients)?;
-    assert!(rt; !is_logged(&log, &["drops"])?);
+    assert!(rt; !is_logged(&log, &["dropped"])?);
     let settings = settings_with(alloc, *greater, &[*peer, *greater], None, "alone = 0\n")?;
     let listener = TcpListener::bind(&rt, peer.door())?;
     let guests = Guests::Accepts(&listener, &version_2::ACCEPTED, b"$5\r\n60000\r\n");
     let log = logged_with(&rt, alloc, &settings, &guests, greater.clients)?;
-    assert!(rt; !is_logged(&log, &["drops"])?);
+    assert!(rt; !is_logged(&log, &["dropped"])?);
     Ok(())
 }
 
@@ -279,8 +295,8 @@ fn another_run_of_a_number_is_let_go_and_told_so(rt: HostRuntime) -> Result<(), 
     let guests = Guests::Runs(own.door());
     let log = logged_with(&rt, alloc, &settings, &guests, own.clients)?;
     let words = [
-        "site 0 refuses site 1 at 127.0.0.1:",
-        ": another run of that number is linked",
+        "site=0 peer refused peer=1 address=127.0.0.1:",
+        " reason=another run of its number is linked",
     ];
     assert!(rt; is_logged(&log, &words)?);
     Ok(())
@@ -301,6 +317,33 @@ fn no_write_is_taken_before_peers_are_heard(rt: HostRuntime) -> Result<(), Fail>
         Step::Ask(0, CARD, b":0\r\n"),
     ];
     assert!(rt; serve_all(&rt, &log, alloc, &places, &settings, &steps)?);
+    Ok(())
+}
+
+// Any process has more than a byte, which is seen as soon as it is looked.
+#[test]
+fn a_site_past_its_bound_of_memory_takes_nothing_that_adds(rt: HostRuntime) -> Result<(), Fail> {
+    let alloc = rt.alloc();
+    let places = free_places(&rt, alloc, rt.process(), 1)?;
+    let [own] = places.as_slice() else {
+        return Err("a place".into());
+    };
+    let mut settings = Vec::new(alloc);
+    let bound = "alone = 0\nmax_memory = 1\n";
+    settings.push(settings_with(alloc, *own, &places, None, bound)?)?;
+    let log = Logged::new(&rt, LevelFilter::Warn, Locked::new(&rt, Vec::new(alloc)));
+    let steps = [
+        Step::Await(0, ADD_A, FULL),
+        Step::Ask(0, ADD_B, FULL),
+        Step::Ask(0, RAISE_B, FULL),
+        Step::Ask(0, REMOVE_B, b":0\r\n"),
+        Step::Await(0, DELETE, b":0\r\n"),
+        Step::Ask(0, CARD, b":0\r\n"),
+    ];
+    assert!(rt; serve_all(&rt, &log, alloc, &places, &settings, &steps)?);
+    let (_, sink) = log.into_parts();
+    let words = ["site=0 memory full bytes=", " max_memory=1"];
+    assert!(rt; is_logged(&sink.into_inner(), &words)?);
     Ok(())
 }
 

@@ -4,7 +4,7 @@ use std::alloc::Global;
 use std::io::{BufRead, BufReader};
 use std::{io, str};
 use zq_dots::Rule;
-use zq_settings::{Settings, settings};
+use zq_settings::{LogLevel, Settings, settings};
 
 /// Reads a text from each line of standard input, in hexadecimal digits, and writes a line for
 /// each: its settings, or why it has none.
@@ -36,13 +36,18 @@ fn tell_settings<R: Print>(rt: &R, given: &Settings) -> io::Result<()> {
         Some(count) => count.value(),
         None => 0,
     };
+    let level = match given.log_level {
+        LogLevel::Warn => "warn",
+        LogLevel::Info => "info",
+        LogLevel::Debug => "debug",
+    };
     let rule = match given.rule {
         Rule::High => "HIGH",
         Rule::Low => "LOW",
     };
     let limits = &given.limits;
     print!(rt;
-        "settings {} {} {connections} {} {} {} {} {} {rule}",
+        "settings {} {} {connections} {} {} {} {} {level} {} {rule}",
         given.heaps.value(),
         given.workers.value(),
         limits.clients.value(),

@@ -4,6 +4,7 @@ use denote.Param.Send.{IsSend, IsSync, sendable}
 use denote.Ref.{NamedLft}
 use Rattle.std.proofs.Crossing.{crosses}
 use Rattle.zq_loop.proofs.Crossing.{acceptor_send, port_sync, poller_send}
+use Rattle.zq_metrics.proofs.Crossing.{counters_sync}
 use Rattle.zq_peers.proofs.Crossing.{mailbox_sync}
 use Rattle.zq_peers.specs.contracts.attending.Link as Link
 use Rattle.zq_serve.specs.contracts.admission.Admission as Admission
@@ -37,4 +38,4 @@ pub admission_sync : IsSync Admission.the_row
 admission_sync = search (sendable, crosses) depth 30
 
 pub inboxes_send : (κ : NamedLft) → IsSend (Inboxes.the_row κ)
-inboxes_send κ = search (mailbox_sync, gate_sync, admission_sync, sendable, crosses) depth 30 fits 50000
+inboxes_send κ = search (mailbox_sync, gate_sync, admission_sync, counters_sync, sendable, crosses) depth 30 fits 50000

@@ -4,7 +4,7 @@ use Rattle.std.specs.Prelude.{Bool, List, [], codes, decimal, false, not, true, 
 use Rattle.zq_resp.specs.Reply.{line, reply_bytes}
 use Rattle.zq_resp.specs.declared.reply.Reply.{Reply}
 use Rattle.zq_serve.specs.declared.admission.Admits.{Admits}
-use Rattle.zq_serve.specs.declared.admission.Admits.TheVariants.{All, Pings, Readings}
+use Rattle.zq_serve.specs.declared.admission.Admits.TheVariants.{All, NoAdditions, Pings, Readings}
 use Rattle.zq_words.specs.Words.{Word, is}
 
 -- whether a command of this name writes
@@ -16,21 +16,31 @@ abbrev pub is_write : List Word → Bool
 is_write [] = false
 is_write (name ∷ words) = writes name
 
+-- whether a command of this name adds
+abbrev pub adds : Word → Bool
+adds name = is name (codes "ZADD") || is name (codes "ZINCRBY")
+
+abbrev pub is_addition : List Word → Bool
+is_addition [] = false
+is_addition (name ∷ words) = adds name
+
 abbrev pub is_ping : List Word → Bool
 is_ping [] = false
 is_ping (name ∷ words) = is name (codes "PING")
 
--- which commands are answered: PING alone once the site is fenced, whether it waits or not, else
--- readings while it waits, and else all
-abbrev pub admits_by : Bool → Bool → Admits
-admits_by true waits = Pings
-admits_by false true = Readings
-admits_by false false = All
+-- which commands are answered: PING alone once the site is fenced, whatever else holds, else
+-- readings while it waits, else those that add nothing while the process is full, and else all
+abbrev pub admits_by : Bool → Bool → Bool → Admits
+admits_by true waits full = Pings
+admits_by false true full = Readings
+admits_by false false true = NoAdditions
+admits_by false false false = All
 
 -- whether these words are answered
 abbrev pub is_admitted : Admits → List Word → Bool
 is_admitted All words = true
 is_admitted Readings words = not (is_write words)
+is_admitted NoAdditions words = not (is_addition words)
 is_admitted Pings words = is_ping words
 
 -- what a command that writes is told while this site waits for its peers
@@ -41,6 +51,7 @@ loading_of site = codes "LOADING site " ++ (decimal site ++ codes " waits for it
 abbrev pub refusal_of : ℕ → Admits → List ℕ
 refusal_of site All = []
 refusal_of site Readings = loading_of site
+refusal_of site NoAdditions = codes "OOM command not allowed when used memory > 'maxmemory'."
 refusal_of site Pings = codes "ERR this site number was used by another run"
 
 -- these words are not answered, but refused by this reply

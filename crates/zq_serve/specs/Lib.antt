@@ -6,5 +6,6 @@ pub mod SiteThreads
 pub mod Plans
 pub mod Ports
 pub mod Mailboxes
+pub mod Memory
 pub mod Announced
 pub mod Limits

@@ -13,6 +13,8 @@ pub enum Admits {
     All,
     /// Those that write nothing: the site waits for its peers.
     Readings,
+    /// Those that add nothing: the process has more memory than it may.
+    NoAdditions,
     /// PING alone: another run used the site's number.
     Pings,
 }
@@ -23,6 +25,7 @@ pub struct Admission {
     pub(crate) site: SiteNo,
     waits: AtomicBool,
     is_fenced: AtomicBool,
+    is_full: AtomicBool,
 }
 
 impl Admission {
@@ -32,6 +35,7 @@ impl Admission {
             site,
             waits: AtomicBool::new(waits),
             is_fenced: AtomicBool::new(false),
+            is_full: AtomicBool::new(false),
         }
     }
 
@@ -45,6 +49,11 @@ impl Admission {
         self.is_fenced.store(true, Ordering::SeqCst);
     }
 
+    /// Whether the process has more memory than it may.
+    pub fn fill(&self, is_full: bool) {
+        self.is_full.store(is_full, Ordering::SeqCst);
+    }
+
     /// Whether the site waits for its peers.
     pub fn waits(&self) -> bool {
         self.waits.load(Ordering::SeqCst)
@@ -55,20 +64,27 @@ impl Admission {
         self.is_fenced.load(Ordering::SeqCst)
     }
 
+    /// Whether the process has more memory than it may.
+    pub fn is_full(&self) -> bool {
+        self.is_full.load(Ordering::SeqCst)
+    }
+
     /// Which commands are answered.
     pub(crate) fn admits(&self) -> Admits {
-        admits_by(self.is_fenced(), self.waits())
+        admits_by(self.is_fenced(), self.waits(), self.is_full())
     }
 }
 
-/// Which commands a site answers: PING alone where another run used its number, and else those that
-/// write nothing while it waits for its peers.
-fn admits_by(is_fenced: bool, waits: bool) -> Admits
-    ensures { result ≡ admits_by is_fenced waits }
+/// Which commands a site answers: PING alone where another run used its number, else those that
+/// write nothing while it waits for its peers, and else those that add nothing while the process
+/// has more memory than it may.
+fn admits_by(is_fenced: bool, waits: bool, is_full: bool) -> Admits
+    ensures { result ≡ admits_by is_fenced waits is_full }
 {
-    match (is_fenced, waits) {
-        (true, _) => Admits::Pings,
-        (false, true) => Admits::Readings,
-        (false, false) => Admits::All,
+    match (is_fenced, waits, is_full) {
+        (true, _, _) => Admits::Pings,
+        (false, true, _) => Admits::Readings,
+        (false, false, true) => Admits::NoAdditions,
+        (false, false, false) => Admits::All,
     }
 }

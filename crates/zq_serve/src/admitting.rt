@@ -2,7 +2,7 @@
 
 ghost use Rattle.std.specs.Prelude.{IfSome, IsNone, IsTrue, map, option_copied, true, ◌≡◌, ◌⊎◌, Some};
 ghost use Rattle.zq_resp.specs.Reply.{is_writable};
-ghost use Rattle.zq_serve.specs.Admission.{IsHeldBack, is_admitted, is_ping, is_write, writes};
+ghost use Rattle.zq_serve.specs.Admission.{IsHeldBack, adds, is_addition, is_admitted, is_ping, is_write, writes};
 ghost use Rattle.zq_serve.specs.declared.admission.Admission.{Admission as Asked};
 ghost use Rattle.zq_serve.specs.declared.admission.Admits.{Admits as Choice};
 ghost use Rattle.zq_words.specs.Words as words;
@@ -55,6 +55,10 @@ fn held_back(site: SiteNo, admits: Admits, words: &[Vec<u8>]) -> Option<Reply>
             text: loading_text(site),
             after: None,
         }),
+        Admits::NoAdditions if is_addition(words) => Some(Reply::Error {
+            text: "OOM command not allowed when used memory > 'maxmemory'.",
+            after: None,
+        }),
         Admits::Pings if !is_ping(words) => Some(Reply::Error {
             text: "ERR this site number was used by another run",
             after: None,
@@ -83,6 +87,23 @@ fn writes(name: &[u8]) -> bool
         || is(name, b"ZPOPMIN")
         || is(name, b"ZPOPNEAR")
         || is(name, b"DEL")
+}
+
+/// Whether the first word names one of the two commands that add.
+fn is_addition(words: &[Vec<u8>]) -> bool
+    ensures { result ≡ is_addition (map (λ w. w.items) words.now) }
+{
+    match words {
+        [name, ..] => adds(name),
+        [] => false,
+    }
+}
+
+/// Whether a command of this name adds.
+fn adds(name: &[u8]) -> bool
+    ensures { result ≡ adds name.now }
+{
+    is(name, b"ZADD") || is(name, b"ZINCRBY")
 }
 
 /// Whether the first word names PING.

@@ -5,26 +5,30 @@ ghost use Rattle.zq_serve.specs.Inboxes.{inbox_of};
 ghost use Rattle.zq_session.specs.Passing.{passed_by};
 
 use crate::admitting::Admitting;
+use crate::counting::Counting;
 use crate::inboxes::Inboxes;
 use crate::notifier::Ticks;
 use crate::ticking::Ticking;
 use std::sync::Wait;
 use std::time::Clock;
+use zq_metrics::WorkerCounters;
 use zq_session::{Passing, SitePass};
 use zq_spread::Draws;
 
 /// A server of the pass's site, with these draws, which answers behind the site's gate, where it
 /// has one, and tells of each answer by a Tick in the site's mailbox, where it has one. Commands
-/// that the site does not admit are refused, and do not wait.
+/// that the site does not admit are refused, and do not wait. All answers are counted, where there
+/// are counters.
 pub fn answerer_of<'b, 'a, R: Wait + Clock>(
     rt: &'b R,
     own: &'b mut SitePass<'a>,
     draws: Draws,
     inboxes: Inboxes<'b>,
-) -> Admitting<'b, Ticking<Passing<'b, 'a, R>, Ticks<'b, R>>>
-    ensures server { let server = result.answerer.answerer in
+    counters: Option<&'b WorkerCounters>,
+) -> Counting<'b, Admitting<'b, Ticking<Passing<'b, 'a, R>, Ticks<'b, R>>>>
+    ensures server { let server = result.answerer.answerer.answerer in
         passed_by server.own.now server.draws ≡ passed_by own.old draws }
-    ensures mailbox { option_copied result.answerer.notifier.mailbox
+    ensures mailbox { option_copied result.answerer.answerer.notifier.mailbox
         ≡ inbox_of inboxes.entry own.old.site.now.number }
 {
     let mailbox = inboxes.of(own.site.number());
@@ -32,8 +36,9 @@ pub fn answerer_of<'b, 'a, R: Wait + Clock>(
         answerer: Passing::new(rt, own, draws),
         notifier: Ticks::new(rt, mailbox, inboxes.gate()),
     };
-    Admitting {
+    let answerer = Admitting {
         answerer,
         admission: inboxes.admission(),
-    }
+    };
+    Counting { answerer, counters }
 }

@@ -1,8 +1,10 @@
 //! What accepts a site's connections.
 
+use crate::inboxes::Inboxes;
 use crate::warning::Warner;
 use log::Log;
 use std::sync::{Mutex, Wait};
+use std::time::Clock;
 use zq_loop::{Acceptor, Port};
 use zq_spread::Site;
 
@@ -24,7 +26,12 @@ impl<'b> ClientAcceptor<'b> {
 impl ClientAcceptor<'_> {
     /// Accepts connections, once the gate is open, until all have come. A gate that was never
     /// opened ends it at once.
-    pub(crate) fn run<L: Log + Wait>(self, log: &L, gate: &Mutex<bool>) {
+    pub(crate) fn run<L: Log + Wait + Clock>(
+        self,
+        log: &L,
+        gate: &Mutex<bool>,
+        inboxes: Inboxes<'_>,
+    ) {
         if !*gate.lock(log) {
             return;
         }
@@ -33,6 +40,7 @@ impl ClientAcceptor<'_> {
             port,
             acceptor,
         } = self;
-        acceptor.run(log, port, &Warner::new(log, site.number()));
+        let watch = Warner::new(log, site.number(), inboxes.counters(), None);
+        acceptor.run(log, port, &watch);
     }
 }

@@ -6,6 +6,7 @@ ghost use Rattle.zq_serve.specs.Inboxes.{inbox_of};
 use crate::admission::Admission;
 use crate::gate::Gate;
 use zq_dots::SiteNo;
+use zq_metrics::Counters;
 use zq_peers::Mailbox;
 
 /// The mailboxes of the sites that a process serves.
@@ -13,8 +14,9 @@ use zq_peers::Mailbox;
 pub enum Inboxes<'a> {
     /// Site N's is at place N; a site that has none is not linked.
     Each(&'a [Mailbox]),
-    /// That of the one site, the gate before its calls, and which commands it answers.
-    One(&'a Mailbox, &'a Gate, &'a Admission),
+    /// That of the one site, the gate before its calls, which commands it answers, and what counts
+    /// them.
+    One(&'a Mailbox, &'a Gate, &'a Admission, &'a Counters),
 }
 
 impl<'a> Inboxes<'a> {
@@ -24,7 +26,7 @@ impl<'a> Inboxes<'a> {
     {
         match self {
             Inboxes::Each(mailboxes) => mailboxes.get(usize::from(site.value())),
-            Inboxes::One(mailbox, _, _) => Some(mailbox),
+            Inboxes::One(mailbox, _, _, _) => Some(mailbox),
         }
     }
 
@@ -32,7 +34,7 @@ impl<'a> Inboxes<'a> {
     pub(crate) fn gate(self) -> Option<&'a Gate> {
         match self {
             Inboxes::Each(_) => None,
-            Inboxes::One(_, gate, _) => Some(gate),
+            Inboxes::One(_, gate, _, _) => Some(gate),
         }
     }
 
@@ -40,7 +42,15 @@ impl<'a> Inboxes<'a> {
     pub(crate) fn admission(self) -> Option<&'a Admission> {
         match self {
             Inboxes::Each(_) => None,
-            Inboxes::One(_, _, admission) => Some(admission),
+            Inboxes::One(_, _, admission, _) => Some(admission),
+        }
+    }
+
+    /// What counts commands, where something does.
+    pub(crate) fn counters(self) -> Option<&'a Counters> {
+        match self {
+            Inboxes::Each(_) => None,
+            Inboxes::One(_, _, _, counters) => Some(counters),
         }
     }
 }

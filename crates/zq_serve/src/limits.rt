@@ -28,6 +28,6 @@ pub fn limits_of(connections: Option<ConnectionCount>, limits: &ClientLimits, mo
 /// Warns where a site can have fewer clients at once than its settings say.
 pub fn warn_few<L: Log>(log: &L, site: u64, clients: ClientCount, most: u64) {
     if most < clients.value() {
-        warn!(log; "site {site} has descriptors for {most} clients");
+        warn!(log; limit = most; "site={site} few descriptors");
     }
 }

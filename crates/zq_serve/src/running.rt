@@ -39,7 +39,10 @@ pub fn run_clients<L: Log + Clock + Threads + Wait + Sync>(
                 }
             }
             for client_acceptor in acceptors {
-                if scope.spawn(move || client_acceptor.run(log, gate)).is_err() {
+                if scope
+                    .spawn(move || client_acceptor.run(log, gate, inboxes))
+                    .is_err()
+                {
                     return Err(ServeFault::Device(Cause::Thread));
                 }
             }

@@ -2,34 +2,87 @@
 
 use log::{Log, warn};
 use std::fmt;
+use std::time::{Clock, Duration};
 use zq_dots::SiteNo;
 use zq_loop::{PortFault, Watch};
+use zq_metrics::{Closing, Counters, WorkerCounters};
 
-/// Warns of what goes wrong at a site's port.
+/// Warns of what goes wrong at a site's port, and counts it and the time that turns take, where
+/// there are counters.
 #[derive(Drop)]
-pub struct Warner<'a, L: Log> {
+pub struct Warner<'a, 'b, L: Log> {
     log: &'a L,
     site: SiteNo,
+    /// What counts connections that are closed.
+    counters: Option<&'b Counters>,
+    /// What counts the answers of the thread's turns.
+    own: Option<&'b WorkerCounters>,
 }
 
-impl<'a, L: Log> Warner<'a, L> {
-    /// At this site's port, in this log.
-    pub fn new(log: &'a L, site: SiteNo) -> Warner<'a, L> {
-        Warner { log, site }
+impl<'a, 'b, L: Log> Warner<'a, 'b, L> {
+    /// At this site's port, in this log and by these counters.
+    pub fn new(
+        log: &'a L,
+        site: SiteNo,
+        counters: Option<&'b Counters>,
+        own: Option<&'b WorkerCounters>,
+    ) -> Warner<'a, 'b, L> {
+        Warner {
+            log,
+            site,
+            counters,
+            own,
+        }
     }
 }
 
-impl<L: Log> Watch for Warner<'_, L> {
+impl<L: Log + Clock> Watch for Warner<'_, '_, L> {
     fn tell(&self, fault: PortFault) {
+        if let Some(counters) = self.counters {
+            counters.close(closing_of(fault));
+        }
         let warning = Warning {
             site: self.site,
             fault,
         };
-        warn!(self.log; "{}", warning);
+        warn!(self.log; site = self.site.value(); "{}", warning);
     }
 
     // Nothing is kept on disk.
     fn settle(&self) {}
+
+    /// The clock is read where something was answered.
+    fn end(&self, began: Duration) {
+        if let Some(own) = self.own {
+            time_turn(self.log, own, began);
+        }
+    }
+}
+
+/// Counts how long the answers of a turn took that began at this time.
+fn time_turn<C: Clock>(clock: &C, own: &WorkerCounters, began: Duration) {
+    let requests = own.untimed();
+    if requests == 0 {
+        return;
+    }
+    if let Ok(now) = clock.monotonic() {
+        own.time(requests, nanoseconds_of(now.saturating_sub(began)));
+    }
+}
+
+/// The nanoseconds of a time, as far as 64 bits go.
+fn nanoseconds_of(time: Duration) -> u64 {
+    u64::try_from(time.as_nanos()).unwrap_or(u64::MAX)
+}
+
+/// Why a connection is closed of which this is told.
+fn closing_of(fault: PortFault) -> Closing {
+    match fault {
+        PortFault::Protocol => Closing::Protocol,
+        PortFault::Device => Closing::Device,
+        PortFault::Unread => Closing::Slow,
+        PortFault::Output => Closing::Output,
+    }
 }
 
 /// The words of a warning.

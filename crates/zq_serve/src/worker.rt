@@ -8,6 +8,7 @@ use std::alloc::Global;
 use std::sync::{Mutex, Wait};
 use std::time::Clock;
 use zq_loop::{Poller, Port};
+use zq_metrics::WorkerCounters;
 use zq_session::SitePass;
 use zq_spread::Draws;
 
@@ -35,8 +36,17 @@ impl Worker<'_, '_> {
             return;
         }
         let Worker { own, port, poller } = self;
-        let watch = Warner::new(log, own.site.number());
-        let mut answerer = answerer_of(log, own, Draws::new(seed), inboxes);
+        let counters = own_counters(inboxes);
+        let watch = Warner::new(log, own.site.number(), inboxes.counters(), counters);
+        let mut answerer = answerer_of(log, own, Draws::new(seed), inboxes, counters);
         poller.run(log, alloc, port, &mut answerer, &watch);
+    }
+}
+
+/// The counters of one more worker, where there are some.
+fn own_counters<'b>(inboxes: Inboxes<'b>) -> Option<&'b WorkerCounters> {
+    match inboxes.counters() {
+        Some(counters) => counters.give(),
+        None => None,
     }
 }

@@ -7,7 +7,9 @@
 #![tactic(auto)]
 
 pub use zq_drill::{DrillFault, drill};
-pub use zq_serve::{Cause, ServeFault, serve};
+pub use zq_serve::{Cause, Memory, ServeFault, serve};
 pub use zq_session::{Answers, End, Passing, Plain, SessionFault, session, status};
-pub use zq_settings::{Settings, SettingsFault, SiteSettings, Why, settings, site_settings};
+pub use zq_settings::{
+    LogLevel, Settings, SettingsFault, SiteSettings, Why, settings, site_settings,
+};
 pub use zq_site::{Ending, serve_site};

@@ -8,16 +8,28 @@ use Rattle.zq_serve.specs.contracts.fault.ServeFault as ServeFault
 use Rattle.zq_site.specs.contracts.ending.Ending as Ending
 use Rattle.zq_site.specs.contracts.ending.Stage as Stage
 use Rattle.zq_site.specs.contracts.front.Front as Front
+use Rattle.zq_site.specs.contracts.meters.Meters as Meters
+use Rattle.zq_site.specs.contracts.traffic.Traffic as Traffic
 use Rattle.zq_site.specs.contracts.peer_link.PeerLink as PeerLink
 use Rattle.zq_site.specs.contracts.post.Post as Post
 use Rattle.zq_site.specs.contracts.shared.Shared as Shared
+use Rattle.zq_metrics.proofs.Crossing.{counters_sync}
+use Rattle.zq_admin.proofs.Crossing.{found_send}
 use Rattle.zq_peers.proofs.Crossing.{mailbox_sync}
 use Rattle.zq_replica.specs.contracts.logs.Logs as Logs
 use Rattle.zq_serve.proofs.Crossing.{admission_sync, gate_sync}
+use Rattle.zq_settings.specs.contracts.values.SiteSettings as SiteSettings
 use Rattle.zq_site.specs.contracts.hiring.Hiring as Hiring
+use Rattle.zq_site.specs.contracts.survey.Survey as Survey
+
+traffic_sync : IsSync Traffic.the_row
+traffic_sync = search (sendable, crosses) depth 100 fits 100000
 
 link_sync : IsSync PeerLink.the_row
-link_sync = search (sendable, crosses) depth 100 fits 100000
+link_sync = search (traffic_sync, sendable, crosses) depth 100 fits 100000
+
+meters_sync : IsSync Meters.the_row
+meters_sync = search (counters_sync, sendable, crosses) depth 100 fits 100000
 
 post_sync : IsSync Post.the_row
 post_sync = search (sendable, crosses) depth 100 fits 100000
@@ -43,8 +55,14 @@ stage_send = search (fault_send, sendable, crosses) depth 100 fits 100000
 pub ending_sync : IsSync Ending.the_row
 ending_sync = search (stage_send, sendable, crosses) depth 100 fits 100000
 
+survey_sync : IsSync Survey.the_row
+survey_sync = search (found_send, sendable, crosses) depth 100 fits 100000
+
 front_sync : IsSync Front.the_row
-front_sync = search (sendable, crosses) depth 100 fits 100000
+front_sync = search (survey_sync, sendable, crosses) depth 100 fits 100000
+
+settings_sync : IsSync SiteSettings.the_row
+settings_sync = search (address_send, sendable, crosses) depth 100 fits 100000
 
 pub shared_send : (κ : NamedLft) → IsSend (Shared.the_row κ)
-shared_send κ = search (link_sync, post_sync, logs_sync, hiring_sync, ending_sync, front_sync, admission_sync, gate_sync, mailbox_sync, sendable, crosses) depth 60 fits 100000
+shared_send κ = search (settings_sync, link_sync, post_sync, logs_sync, hiring_sync, ending_sync, front_sync, meters_sync, admission_sync, gate_sync, mailbox_sync, sendable, crosses) depth 60 fits 100000

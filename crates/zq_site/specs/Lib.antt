@@ -4,6 +4,9 @@ pub mod Draining
 pub mod LinkStates
 pub mod Meetings
 pub mod Words
+pub mod Happenings
+pub mod Reports
+pub mod Fields
 pub mod FrameQueues
 pub mod Heard
 pub mod Heartbeat

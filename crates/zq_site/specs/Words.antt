@@ -1,14 +1,11 @@
--- What a site warns of, in words.
+-- Why something happened to a site, in words.
 
-use Rattle.std.specs.Prelude.{Bool, List, codes, decimal, false, if◌then◌else◌, true, ℕ, ◌++◌}
-use Rattle.zq_replica.specs.declared.fence.Fenced.{Fenced}
-use Rattle.zq_site.specs.Callers.{words_of_caller}
+use Rattle.std.specs.Prelude.{Bool, List, codes, false, if◌then◌else◌, true, ℕ}
 use Rattle.zq_site.specs.Standings.{words_of_ending, words_of_reason}
 use Rattle.zq_site.specs.declared.loss.Loss.{Loss}
 use Rattle.zq_site.specs.declared.loss.Loss.TheVariants as loss
-use Rattle.zq_site.specs.declared.warning.Warning.{Warning}
-use Rattle.zq_site.specs.declared.warning.Warning.TheVariants as warning
-use Rattle.zq_site.specs.declared.warning.Warning.TheVariants.{Alone, Dismissed, Drops, Keeps, Kept, Loses, Missed, OtherRun, Refuses, Reused, Unopened, Unwelcome}
+use Rattle.zq_site.specs.declared.why.Why.{Why}
+use Rattle.zq_site.specs.declared.why.Why.TheVariants as why
 use Rattle.zq_delta.specs.declared.fault.OpFault.{OpFault}
 use Rattle.zq_delta.specs.declared.fault.OpFault.TheVariants as op
 use Rattle.zq_links.specs.declared.frame_fault.FrameFault.{FrameFault}
@@ -57,55 +54,15 @@ words_of_unheard (Unread fault) =
     if is_memory fault then codes "there was no memory for it" else codes "it is no frame"
 words_of_unheard (Refused fault) = words_of_node fault
 
--- that another run used the number of a site
-abbrev pub words_of_fenced : ℕ → Fenced → List ℕ
-words_of_fenced site fenced =
-    codes "site " ++ (decimal site
-    ++ (codes " ends: another run used its number, of which site "
-    ++ (decimal fenced.peer ++ (codes " has " ++ (decimal fenced.known
-    ++ (codes " operations in heap " ++ (decimal fenced.heap
-    ++ (codes " and this run made " ++ decimal fenced.own))))))))
-
--- what the site of this number warns of, with the number of the peer where it is known
-abbrev pub words_of_warning : ℕ → Warning → List ℕ
-words_of_warning site (Refuses caller refusal) =
-    codes "site " ++ (decimal site
-    ++ (codes " refuses " ++ (words_of_caller caller ++ (codes ": " ++ words_of refusal))))
-words_of_warning site (Unwelcome caller reason) =
-    codes "site " ++ (decimal site
-    ++ (codes " is refused by "
-    ++ (words_of_caller caller ++ (codes ": " ++ words_of_reason reason))))
-words_of_warning site (Unopened caller ending) =
-    codes "site " ++ (decimal site
-    ++ (codes " opens no link to "
-    ++ (words_of_caller caller ++ (codes ": " ++ words_of_ending ending))))
-words_of_warning site (OtherRun caller) =
-    codes "site " ++ (decimal site
-    ++ (codes " refuses " ++ (words_of_caller caller
-    ++ codes ": another run of that number is linked")))
-words_of_warning site (Reused peer) =
-    codes "site " ++ (decimal site
-    ++ (codes " refuses site " ++ (decimal peer ++ codes ": another run used that number")))
-words_of_warning site (Dismissed peer) =
-    codes "site " ++ (decimal site
-    ++ (codes " ends: site " ++ (decimal peer ++ codes " knows another run of its number")))
-words_of_warning site (Kept peer) =
-    codes "site " ++ (decimal site
-    ++ (codes " has a number that another run uses: site "
-    ++ (decimal peer ++ codes " refused that one")))
-words_of_warning site (warning.Fenced fenced) = words_of_fenced site fenced
-words_of_warning site (Missed peer) =
-    codes "site " ++ (decimal site
-    ++ (codes " takes writes and has not heard site " ++ decimal peer))
-words_of_warning site Alone =
-    codes "site " ++ (decimal site ++ codes " takes writes and has heard no peer")
-words_of_warning site (Loses peer why) =
-    codes "site " ++ (decimal site
-    ++ (codes " lost its link to site " ++ (decimal peer ++ (codes ": " ++ words_of_loss why))))
-words_of_warning site (Drops peer why) =
-    codes "site " ++ (decimal site
-    ++ (codes " drops a frame of site "
-    ++ (decimal peer ++ (codes ": " ++ words_of_unheard why))))
-words_of_warning site (Keeps peer) =
-    codes "site " ++ (decimal site
-    ++ (codes " has a frame for site " ++ (decimal peer ++ codes " that is too long")))
+-- why something happened to a site
+abbrev pub words_of_why : Why → List ℕ
+words_of_why (why.Refusal refusal) = words_of refusal
+words_of_why (why.Reason reason) = words_of_reason reason
+words_of_why (why.Ending ending) = words_of_ending ending
+words_of_why (why.Loss loss) = words_of_loss loss
+words_of_why (why.Unheard unheard) = words_of_unheard unheard
+words_of_why why.OtherRun = codes "another run of its number is linked"
+words_of_why why.Reused = codes "another run used its number"
+words_of_why why.Used = codes "another run used this number"
+words_of_why why.Known = codes "the peer knows another run of this number"
+words_of_why why.Lacking = codes "a peer lacks something that this site made"

@@ -2,11 +2,12 @@
 
 ghost use Rattle.zq_node.specs.Node.{IsNode, IsSameHome};
 
+use crate::note::Note;
 use crate::peer_links::is_dialled;
 use crate::progress::{Deed, Progress, Sight, Stage, deed_next, is_asked, next_progress};
 use crate::shared::Shared;
 use crate::warning::Warning;
-use crate::warning_log::{note_caught_up, warn_of};
+use crate::warning_log::{note_of, warn_of};
 use log::Log;
 use std::sync::Wait;
 use zq_follow::SiteSet;
@@ -101,12 +102,13 @@ impl Beginning {
             Deed::GoesToWork => {
                 replica.go_to_work();
                 shared.admission.open();
+                note_of(log, shared.settings.site, Note::Joined);
             }
             Deed::TakesWrites => {
                 self.warn_of_unheard(log, shared, replica);
                 shared.admission.open();
             }
-            Deed::HasCaughtUp => note_caught_up(log, shared.settings.site),
+            Deed::HasCaughtUp => note_of(log, shared.settings.site, Note::CaughtUp),
         }
     }
 

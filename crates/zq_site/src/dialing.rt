@@ -11,7 +11,7 @@ use crate::reaching::reach;
 use crate::shared::Shared;
 use crate::standing::Standing;
 use crate::unreached::Unreached;
-use crate::warning_log::{note_reached, warn_unreached};
+use crate::warning_log::{note_reached, tell_failed_dial, warn_unreached};
 use log::Log;
 use std::mem;
 use std::net::{Net, TcpListener, TcpStream};
@@ -99,7 +99,7 @@ fn tell_reached<L: Log>(log: &L, site: SiteNo, peer: &Peer, is_reached: &mut boo
     }
 }
 
-/// A peer was not reached, which is said where it was before.
+/// A peer was not reached, which is warned of where it was before.
 fn tell_unreached<L: Log>(
     log: &L,
     site: SiteNo,
@@ -109,5 +109,7 @@ fn tell_unreached<L: Log>(
 ) {
     if mem::replace(is_reached, false) {
         warn_unreached(log, site, peer, why);
+    } else {
+        tell_failed_dial(log, site, peer, why);
     }
 }

@@ -6,12 +6,14 @@ ghost use Rattle.zq_site.specs.Draining as wanted;
 
 use crate::shared::Shared;
 use crate::times::gathering;
+use crate::walking::{Walk, go_on};
 use std::sync::Wait;
 use std::time::Clock;
 use zq_dots::SiteNo;
 use zq_links::Message;
 use zq_node::{Node, NodeFault};
 use zq_peers::{Inbox, Incoming};
+use zq_posheap::Seeded;
 use zq_replica::Drained;
 use zq_serve::NodeWork;
 
@@ -24,31 +26,54 @@ const MOST_LEFT: u64 = 65_536;
 pub struct Draining<'a, L: Clock + Wait> {
     pub log: &'a L,
     pub shared: Shared<'a>,
+    /// By what the members lie that a walk over the keys looks at.
+    pub hasher: Seeded,
 }
 
 impl<L: Clock + Wait> NodeWork for Draining<'_, L> {
     fn run(self, node: &mut Node<'_>, _others: &[SiteNo]) {
-        drain_calls(self.log, self.shared, node);
+        drain_calls(self.log, self.shared, node, self.hasher);
     }
 }
 
 /// Takes what is made and heard into the logs, until the site ends: at once what the first call
-/// after a rest made, and then what all made that came while some time was gathered.
-fn drain_calls<L: Clock + Wait>(rt: &L, shared: Shared<'_>, node: &mut Node<'_>)
+/// after a rest made, and then what all made that came while some time was gathered. Between looks
+/// at the site's keys, where they are asked for.
+fn drain_calls<L: Clock + Wait>(rt: &L, shared: Shared<'_>, node: &mut Node<'_>, hasher: Seeded)
     requires { IsNode node.old }
     ensures node { IsNode node.new }
     ensures home { IsSameHome node.old node.new }
 {
     let mut calls = Incoming::new(rt, shared.mailbox);
+    let mut walk = None;
     for _ in rt.forever() {
         if let Message::Stop = calls.next() {
             break;
         }
-        drain_pieces(rt, shared, node);
+        drain_and_look(rt, shared, node, hasher, &mut walk);
         if shared.halt.wait(rt, gathering()) {
             break;
         }
     }
+}
+
+/// Takes all that was made into the logs, where a site may have peers, and looks at the next of its
+/// keys, where they are asked for.
+fn drain_and_look<L: Clock + Wait>(
+    rt: &L,
+    shared: Shared<'_>,
+    node: &mut Node<'_>,
+    hasher: Seeded,
+    walk: &mut Option<Walk>,
+)
+    requires { IsNode node.old }
+    ensures node { IsNode node.new }
+    ensures home { IsSameHome node.old node.new }
+{
+    if !shared.peer_links.is_empty() {
+        drain_pieces(rt, shared, node);
+    }
+    go_on(rt, shared, node, hasher, walk);
 }
 
 /// Takes all that was made into the logs, round by round. While a round leaves too much the gate

@@ -5,6 +5,7 @@ ghost use Rattle.zq_site.specs.Fronts.{readiness_of};
 
 use crate::halt::Halt;
 use crate::progress::Stage;
+use crate::survey::Survey;
 use std::sync::Wait;
 use std::sync::atomic::{AtomicBool, Ordering};
 use std::time::{Clock, Duration};
@@ -21,6 +22,8 @@ pub struct Front {
     follows: AtomicBool,
     /// Whether its peers have what it made.
     passed_on: Halt,
+    /// Its largest keys.
+    pub survey: Survey,
 }
 
 impl Front {
@@ -31,6 +34,7 @@ impl Front {
             leaves: AtomicBool::new(false),
             follows: AtomicBool::new(false),
             passed_on: Halt::new(),
+            survey: Survey::new(),
         }
     }
 

@@ -6,6 +6,7 @@ ghost use Rattle.zq_site.specs.Standings.{sign_at_end};
 
 use crate::caller::Caller;
 use crate::loss::Loss;
+use crate::note::{LinkUp, Note};
 use crate::notice::{Notice, Reason, write_notice};
 use crate::opening::{PUSHING, Told, Way, open_link};
 use crate::parting::{part, reason_for};
@@ -14,12 +15,13 @@ use crate::peer_links::peer_link_of;
 use crate::post::Event;
 use crate::reading::{Ear, read_link};
 use crate::reception::Reception;
+use crate::report::RunName;
 use crate::shared::Shared;
 use crate::standing::{Ending, Sign, Standing};
 use crate::times;
 use crate::upkeep::{Upkeep, keep_up};
 use crate::warning::Warning;
-use crate::warning_log::warn_of;
+use crate::warning_log::{note_of, warn_of};
 use log::Log;
 use std::net::TcpStream;
 use std::random::RandomSource;
@@ -66,8 +68,10 @@ pub fn serve_link<L: Log + RandomSource + Clock + Wait>(
         Err(Unopened::Old) => Met::Old,
         Err(Unopened::Lost) => {
             let is_dialled = matches!(way, Way::Dials(_));
-            if let Some(sign) = sign_at_end(is_dialled, told.reason, told.ending) {
-                see(log, shared, named(caller, told.site), sign, standing);
+            let caller = named(caller, told.site);
+            match sign_at_end(is_dialled, told.reason, told.ending) {
+                Some(sign) => see(log, shared, caller, sign, standing),
+                None => note_of(log, shared.settings.site, Note::Left(caller, told.ending)),
             }
             Met::Silent
         }
@@ -192,6 +196,19 @@ fn follow<L: Log + Clock + Wait>(
     if kept.heard { Met::Heard } else { Met::Silent }
 }
 
+/// What there is to say of a link to this peer that is up.
+fn up_of(caller: Caller, opened: &Opened) -> LinkUp {
+    let run = match opened.run {
+        Some(run) => Some(RunName(run.name)),
+        None => None,
+    };
+    LinkUp {
+        caller,
+        version: opened.version,
+        run,
+    }
+}
+
 /// Tells a run of a peer's number, and the other one, that the one is let go since the other is
 /// linked.
 fn refuse_run<L: Log + Clock + Wait>(
@@ -251,8 +268,10 @@ impl<L: Log + Wait> Upkeep for LinkUpkeep<'_, L> {
         };
         let mut ear = Ear {
             reception,
+            up: up_of(self.caller, self.opened),
             post: self.shared.post,
             quota: &self.peer_link.quota,
+            traffic: &self.peer_link.traffic,
             peer: self.opened.peer,
             link: self.number,
             heard: false,
@@ -279,7 +298,8 @@ impl<L: Log + Wait> Upkeep for LinkUpkeep<'_, L> {
         if self.refused {
             return;
         }
-        let warning = Warning::Loses(self.opened.peer, loss);
+        let address = Some(self.caller.address);
+        let warning = Warning::Loses(self.opened.peer, address, loss);
         warn_of(self.log, self.shared.settings.site, warning);
     }
 }

@@ -9,6 +9,7 @@ use crate::link_state::{Connection, LinkState};
 use crate::quota::Quota;
 use crate::run_order::Runs;
 use crate::times::heartbeat;
+use crate::traffic::Traffic;
 use std::alloc::{AllocError, Global};
 use std::net::{Shutdown, TcpStream};
 use std::sync::atomic::{AtomicBool, Ordering};
@@ -25,6 +26,8 @@ pub struct PeerLink {
     pub site: SiteNo,
     /// How much of what the peer sent waits for the link thread.
     pub quota: Quota,
+    /// What went over the links.
+    pub traffic: Traffic,
     alloc: Global,
     state: Mutex<LinkState<Arc<TcpStream>>>,
     changed: Condvar,
@@ -64,6 +67,7 @@ impl PeerLink {
         Ok(PeerLink {
             site,
             quota: Quota::new(),
+            traffic: Traffic::new(),
             alloc,
             state: Mutex::new(LinkState::new(alloc, heaps)?),
             changed: Condvar::new(),
@@ -99,6 +103,11 @@ impl PeerLink {
     pub fn send<R: Wait>(&self, rt: &R, frame: Vec<u8>) {
         let _ = self.state.lock(rt).send(frame);
         self.changed.notify_all();
+    }
+
+    /// Whether a link is up.
+    pub fn is_up<R: Wait>(&self, rt: &R) -> bool {
+        self.state.lock(rt).link.is_some()
     }
 
     /// Whether a link is up for which nothing waits, and to which nothing is being written.

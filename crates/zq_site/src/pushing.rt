@@ -4,6 +4,7 @@
 ghost use Rattle.zq_node.specs.Node.{IsNode, IsSameHome};
 
 use crate::beginning::Beginning;
+use crate::measuring::measure_links;
 use crate::notice::{Notice, read_notice, write_notice};
 use crate::outcome::{Outcome, outcome_of};
 use crate::peer_links::peer_link_of;
@@ -157,6 +158,7 @@ fn beat<L: Log + Wait>(
         return;
     }
     let _ = replica.beat(log, shared.alloc, node, out);
+    measure_links(log, shared, node, replica);
 }
 
 /// Tells the peers that ask what this site has, where calls were made.
@@ -350,6 +352,7 @@ fn hear_frame<L: Log + Wait>(
 {
     let heard = replica.hear(log, shared.alloc, node, peer, link, bytes, out);
     if let Err(why) = heard {
+        shared.meters.dropped.add(1);
         warn_of(log, shared.settings.site, Warning::Drops(peer, why));
     }
 }

@@ -9,12 +9,15 @@ ghost use Rattle.zq_wire.specs.StreamLaws.{given_by};
 ghost use Rattle.zq_wire.specs.Stream.{answered, frames_in};
 
 use crate::loss::Loss;
+use crate::note::{LinkUp, Note};
 use crate::notice::{Notice, read_notice};
 use crate::post::{Event, Post};
 use crate::quota::Quota;
 use crate::reception::Reception;
 use crate::standing::Sign;
 use crate::times::{PIECE, most_frame};
+use crate::traffic::Traffic;
+use crate::warning_log::note_of;
 use log::Log;
 use std::alloc::Global;
 use std::io::{ErrorKind, Read};
@@ -36,9 +39,13 @@ pub trait Hear {
 #[derive(Drop)]
 pub struct Ear<'a, L: Log + Wait> {
     pub reception: Reception<'a, L>,
+    /// What is said of the link as the first frame comes.
+    pub up: LinkUp,
     pub post: &'a Post,
     /// How much of what the peer sent may wait.
     pub quota: &'a Quota,
+    /// What went over the links to the peer.
+    pub traffic: &'a Traffic,
     pub peer: SiteNo,
     /// The number of the link.
     pub link: u64,
@@ -58,16 +65,28 @@ impl<L: Log + Wait> Hear for Ear<'_, L> {
         × (new.refused ≡ is_refused old.refused (sign_of frame)) };
 
     fn hear(&mut self, frame: Vec<u8>) {
+        self.traffic.come(frame.len() as u64);
         let sign = sign_of(&frame);
         self.reception.see(sign);
         match sign {
             Sign::Refusal(_) => self.refused = true,
             Sign::Unopened(_) => {}
             Sign::Frame => {
+                self.note_up();
                 self.heard = true;
                 let log = self.reception.log;
                 leave_frame(log, self.post, self.quota, self.peer, self.link, frame);
             }
+        }
+    }
+}
+
+impl<L: Log + Wait> Ear<'_, L> {
+    /// Says that the link is up, where no frame came before.
+    fn note_up(&self) {
+        if !self.heard {
+            let (log, site) = (self.reception.log, self.reception.site);
+            note_of(log, site, Note::LinkUp(self.up));
         }
     }
 }

@@ -1,9 +1,10 @@
 //! What says how a peer takes this site.
 
 use crate::caller::Caller;
+use crate::note::Note;
 use crate::standing::{Sign, Standing, Word, standing_after, word_on};
 use crate::warning::Warning;
-use crate::warning_log::{note_accepted, warn_of};
+use crate::warning_log::{note_of, warn_of};
 use log::Log;
 use zq_dots::SiteNo;
 
@@ -32,7 +33,7 @@ impl<L: Log> Reception<'_, L> {
             Word::Nothing => {}
             Word::Refused(reason) => warn_of(log, site, Warning::Unwelcome(caller, reason)),
             Word::Unopened(ending) => warn_of(log, site, Warning::Unopened(caller, ending)),
-            Word::Again => note_accepted(log, site, caller),
+            Word::Again => note_of(log, site, Note::Accepted(caller)),
         }
         self.standing = standing_after(self.standing, sign);
     }

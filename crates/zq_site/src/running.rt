@@ -8,6 +8,7 @@ use crate::administering::{pass_on, serve_admin};
 use crate::dialing::dial_line;
 use crate::draining::Draining;
 use crate::hired::hire_all;
+use crate::measuring::{measure_process, tick_links};
 use crate::peer_links::is_dialled;
 use crate::peer_listener::PeerListener;
 use crate::pushing::Pushing;
@@ -19,11 +20,14 @@ use std::random::RandomSource;
 use std::sync::Wait;
 use std::thread;
 use std::thread::Threads;
-use std::time::Clock;
+use std::time::{Clock, Duration};
 use zq_admin::AdminPort;
 use zq_loop::Port;
 use zq_posheap::Seeded;
-use zq_serve::{Cause, ClientThreads, Inboxes, Linker, ServeFault, SiteThreads, run_clients};
+use zq_serve::{
+    Cause, ClientThreads, Inboxes, Linker, Memory, MemoryGuard, ServeFault, SiteThreads,
+    run_clients,
+};
 
 /// How many threads accept peers at first.
 const FIRST_ACCEPTORS: usize = 1;
@@ -39,11 +43,11 @@ pub struct Seeds {
 }
 
 /// Runs the threads of a site: its link thread, what takes what calls make into the logs, what
-/// tells of each second, what dials each peer of a smaller number, what accepts peers, what starts
-/// more threads as links come, what answers at the admin port, if there is one, and what serves
-/// clients. When all clients are served the site ends: where it was told to end it waits until its
-/// peers have what it made; the threads of its links are told to halt, and then the link thread to
-/// stop, and all are waited for.
+/// tells of each second and looks at the memory of the process, what dials each peer of a smaller
+/// number, what accepts peers, what starts more threads as links come, what answers at the admin
+/// port, if there is one, and what serves clients. When all clients are served the site ends: where
+/// it was told to end it waits until its peers have what it made; the threads of its links are told
+/// to halt, and then the link thread to stop, and all are waited for.
 ///
 /// `Device` where a thread did not start. Then no client is served.
 pub fn run_site<N, L>(
@@ -57,7 +61,7 @@ pub fn run_site<N, L>(
     seeds: Seeds,
 ) -> Result<(), ServeFault>
 where
-    N: Net<Listener = TcpListener, Stream = TcpStream> + Sync,
+    N: Net<Listener = TcpListener, Stream = TcpStream> + Memory + Sync,
     L: Log + RandomSource + Clock + Threads + Wait + Sync,
 {
     let SiteThreads { clients, linkers } = threads;
@@ -71,12 +75,16 @@ where
             }
         }
         for drainer in drainers {
-            let work = move || drain_site(log, shared, drainer);
+            let work = move || drain_site(log, shared, drainer, seeds.hasher);
             if scope.spawn(work).is_err() {
                 ended = Err(ServeFault::Device(Cause::Thread));
             }
         }
-        if ended.is_ok() && scope.spawn(move || beat_time(log, shared)).is_err() {
+        if ended.is_ok()
+            && scope
+                .spawn(move || beat_time(net, log, shared, port))
+                .is_err()
+        {
             ended = Err(ServeFault::Device(Cause::Thread));
         }
         if ended.is_ok()
@@ -118,7 +126,12 @@ where
             ended = Err(ServeFault::Device(Cause::Thread));
         }
         if ended.is_ok() {
-            let inboxes = Inboxes::One(shared.mailbox, shared.gate, shared.admission);
+            let inboxes = Inboxes::One(
+                shared.mailbox,
+                shared.gate,
+                shared.admission,
+                &shared.meters.counters,
+            );
             ended = run_clients(log, shared.alloc, clients, inboxes, seeds.draws);
         }
         if shared.front.stops() && !shared.admission.is_fenced() {
@@ -166,17 +179,38 @@ fn link_site<L: Log + Clock + Wait>(
 }
 
 /// Takes what calls make into the logs, until the site is to stop.
-fn drain_site<L: Clock + Wait>(log: &L, shared: Shared<'_>, drainer: Linker<'_, '_>) {
-    drainer.lend(shared.alloc, 0, Draining { log, shared });
+fn drain_site<L: Clock + Wait>(
+    log: &L,
+    shared: Shared<'_>,
+    drainer: Linker<'_, '_>,
+    hasher: Seeded,
+) {
+    let draining = Draining {
+        log,
+        shared,
+        hasher,
+    };
+    drainer.lend(shared.alloc, 0, draining);
 }
 
-/// Tells the link thread of each second, until the site ends.
-fn beat_time<L: Wait + Clock>(rt: &L, shared: Shared<'_>) {
-    for _ in rt.forever() {
-        if shared.halt.wait(rt, beat()) {
+/// Looks each second how much memory the process has, measures it and the port, and tells the link
+/// thread of the second, until the site ends.
+fn beat_time<M: Memory, L: Log + Wait + Clock>(
+    memory: &M,
+    log: &L,
+    shared: Shared<'_>,
+    port: Option<&Port>,
+) {
+    let began = log.monotonic().unwrap_or(Duration::from_millis(0));
+    let mut guard = MemoryGuard::new(shared.admission, shared.settings.max_memory);
+    for _ in log.forever() {
+        guard.look(log, memory);
+        measure_process(log, memory, shared, port, began);
+        if shared.halt.wait(log, beat()) {
             break;
         }
-        shared.post.beat(rt);
+        tick_links(shared);
+        shared.post.beat(log);
     }
 }
 

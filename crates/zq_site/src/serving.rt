@@ -16,12 +16,15 @@ use crate::ending::Ending;
 use crate::front::Front;
 use crate::halt::Halt;
 use crate::hiring::Hiring;
+use crate::meters::Meters;
+use crate::note::{Listening, Note};
 use crate::opening::draw_run;
 use crate::peer_links::{dialers_of, open_peer_links, others_of};
 use crate::peer_listener::PeerListener;
 use crate::post::Post;
 use crate::running::{Seeds, acceptors, run_site};
 use crate::shared::Shared;
+use crate::warning_log::note_of;
 use log::Log;
 use std::alloc::{AllocError, Global};
 use std::io::Write;
@@ -35,8 +38,8 @@ use zq_peers::{Link, Mailbox};
 use zq_posheap::Seeded;
 use zq_replica::Logs;
 use zq_serve::{
-    Admission, Gate, Linker, ServeFault, SiteThreads, draw_hasher, limits_of, listen, most_clients,
-    most_waiting, open_port, plan_of, warn_few,
+    Admission, Gate, Linker, Memory, ServeFault, SiteThreads, draw_hasher, limits_of, listen,
+    most_clients, most_waiting, open_port, plan_of, warn_few,
 };
 use zq_session::{LentSite, close_sites, end_loan, lend_sites, open_sites};
 use zq_settings::{SiteSettings, WorkerCount};
@@ -71,6 +74,10 @@ const ADMIN_CONNECTIONS: u64 = 36;
 /// connection the peers are told what the site has, and those that lack something are sent it. A
 /// link over which nothing came for 20 seconds is given up.
 ///
+/// Where the settings bound the memory of the process, it is looked each second how much is
+/// resident. While that is more than `max_memory` commands that add are refused, and all else is
+/// served.
+///
 /// Where the settings have an admin port the site says there how ready it is. Told so there it takes
 /// no connection any more, answers what was read, waits until its peers have what it made, for as
 /// many seconds as `drain` says, and ends.
@@ -91,7 +98,7 @@ pub fn serve_site<N, L, W>(
     ending: &Ending,
 ) -> Result<(), ServeFault>
 where
-    N: Net<Listener = TcpListener, Stream = TcpStream> + Sync,
+    N: Net<Listener = TcpListener, Stream = TcpStream> + Memory + Sync,
     L: Log + RandomSource + Clock + Threads + Wait + Sync,
     W: Write,
 {
@@ -132,7 +139,7 @@ fn serve_lent<'a, N, L, W>(
     sites: &mut [LentSite<'a>],
 ) -> Result<(), ServeFault>
 where
-    N: Net<Listener = TcpListener, Stream = TcpStream> + Sync,
+    N: Net<Listener = TcpListener, Stream = TcpStream> + Memory + Sync,
     L: Log + RandomSource + Clock + Threads + Wait + Sync,
     W: Write,
     requires { (plans : List Plans) × IsPlanOf settings.now workers plans
@@ -159,7 +166,7 @@ fn serve_one<'a, N, L, W>(
     site: &mut LentSite<'a>,
 ) -> Result<(), ServeFault>
 where
-    N: Net<Listener = TcpListener, Stream = TcpStream> + Sync,
+    N: Net<Listener = TcpListener, Stream = TcpStream> + Memory + Sync,
     L: Log + RandomSource + Clock + Threads + Wait + Sync,
     W: Write,
     requires { IsManned workers site.old }
@@ -174,10 +181,8 @@ where
     let mut threads = SiteThreads::new(alloc);
     let other = threads.add(site, &mut port, &link)?;
     let mut drainers = Vec::new(alloc);
-    if !link.others.is_empty() {
-        let drainer = Linker::new(other, &link);
-        drainers.push(drainer).map_err(AllocError::from)?;
-    }
+    let drainer = Linker::new(other, &link);
+    drainers.push(drainer).map_err(AllocError::from)?;
     let logs = open_logs(alloc, settings)?;
     let heaps = settings.heaps.value() as u8;
     let peer_links = open_peer_links(alloc, &link.others, heaps)?;
@@ -186,12 +191,14 @@ where
     let gate = Gate::new();
     let post = Post::new(alloc);
     let run = draw_run(log)?;
-    let admin = open_admin(net, log, alloc, settings.admin)?;
+    let admin = open_admin(net, log, alloc, settings.admin.heard_at())?;
     announce(settings, out)?;
+    note_of(log, settings.site, Note::Listening(listening_of(settings)));
     let number = u64::from(settings.site.value());
     warn_few(log, number, settings.limits.clients, most);
     let halt = Halt::new();
     let front = Front::new();
+    let meters = open_meters(alloc, settings, workers)?;
     let hiring = Hiring::new(alloc, acceptors(dialers.len()));
     let waits = settings.alone.value() > 0 && !link.others.is_empty();
     let admission = Admission::new(settings.site, waits);
@@ -210,12 +217,14 @@ where
         halt: &halt,
         ending,
         front: &front,
+        meters: &meters,
     };
     let seeds = Seeds {
         hasher,
         draws: settings.seed.value(),
     };
     let ended = run_site(net, log, shared, &listener, threads, drainers, admin, seeds);
+    note_of(log, settings.site, Note::Stopped);
     ended_by(admission.is_fenced(), ended)
 }
 
@@ -236,7 +245,7 @@ fn ended_by(is_fenced: bool, ended: Result<(), ServeFault>) -> Result<(), ServeF
 fn links_of(settings: &SiteSettings, others: usize) -> u64 {
     let peers = settings.peers.as_slice().len() as u64;
     let all = peers.saturating_add(others as u64);
-    let asked = match settings.admin {
+    let asked = match settings.admin.address {
         Some(_) => ADMIN_CONNECTIONS,
         None => 0,
     };
@@ -273,6 +282,15 @@ fn tails() -> TailLimits
     }
 }
 
+/// Where a site of these settings listens.
+fn listening_of(settings: &SiteSettings) -> Listening {
+    Listening {
+        clients: clients_address(settings),
+        links: settings.listen,
+        admin: settings.admin.heard_at(),
+    }
+}
+
 /// Where clients connect: the port of the settings at the address of `bind`.
 fn clients_address(settings: &SiteSettings) -> SocketAddr
     ensures ip { socket_ip result ≡ settings.now.bind }
@@ -286,6 +304,19 @@ fn open_logs(alloc: Global, settings: &SiteSettings) -> Result<Logs, AllocError>
     let heaps = settings.heaps.value() as u8;
     let most = settings.link_backlog.value() as u64 / u64::from(heaps.max(1));
     Logs::new(alloc, heaps, most)
+}
+
+/// Where it is noted what is shown of the site.
+fn open_meters(
+    alloc: Global,
+    settings: &SiteSettings,
+    workers: WorkerCount,
+) -> Result<Meters, AllocError> {
+    Meters::new(
+        alloc,
+        workers.value() as usize,
+        settings.heaps.value() as u8,
+    )
 }
 
 /// Where calls are told of.

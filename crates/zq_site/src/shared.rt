@@ -4,6 +4,7 @@ use crate::ending::Ending;
 use crate::front::Front;
 use crate::halt::Halt;
 use crate::hiring::Hiring;
+use crate::meters::Meters;
 use crate::peer_link::PeerLink;
 use crate::post::{Event, Post};
 use std::alloc::Global;
@@ -42,6 +43,8 @@ pub struct Shared<'a> {
     pub ending: &'a Ending,
     /// What is shown of the site, and how it is told to end.
     pub front: &'a Front,
+    /// What is noted for those who ask.
+    pub meters: &'a Meters,
 }
 
 impl Shared<'_> {

@@ -1,71 +1,67 @@
-//! What writes warnings.
+//! What writes to the log of a site.
 
-use crate::caller::Caller;
+use crate::happening::Happening;
+use crate::note::Note;
+use crate::report::Report;
 use crate::unreached::Unreached;
-use crate::warning::{Warning, Words};
-use log::{Log, info, warn};
+use crate::warning::Warning;
+use log::{Log, Metadata, Record, log, target_or};
 use zq_dots::SiteNo;
-use zq_peers::{Unheard, Witness};
 use zq_settings::Peer;
-
-/// Writes the warnings of a site to the log.
-#[derive(Drop)]
-pub struct WarningLog<'a, L: Log> {
-    pub log: &'a L,
-    pub site: SiteNo,
-}
-
-impl<L: Log> Witness for WarningLog<'_, L> {
-    ghost use Rattle.std.specs.Prelude.{◌≡◌};
-
-    ghost tells = { λ old from why new. new.site ≡ old.site };
-
-    fn drops(&mut self, from: SiteNo, why: Unheard) {
-        warn_of(self.log, self.site, Warning::Drops(from, why));
-    }
-}
 
 /// Writes a warning of a site to the log.
 pub fn warn_of<L: Log>(log: &L, site: SiteNo, warning: Warning) {
-    warn!(log; "{}", Words { site, warning });
+    say(log, site, warning.report());
+}
+
+/// Writes a note of a site to the log.
+pub fn note_of<L: Log>(log: &L, site: SiteNo, note: Note) {
+    say(log, site, note.report());
+}
+
+/// Writes a report of a site to the log: the number of the site, what happened, and pairs.
+fn say<L: Log>(log: &L, site: SiteNo, report: Report) {
+    let metadata = Metadata::new(report.what.level(), target_or(log, module_path!()));
+    if log.enabled(&metadata) {
+        let (site, words) = (site.value(), report.what.words());
+        let args = format_args!("site={site} {words}");
+        log.log(&Record::new(metadata, args, report, ()));
+    }
 }
 
 /// Writes to the log that a site cannot dial a peer, and why.
 pub fn warn_unreached<L: Log>(log: &L, site: SiteNo, peer: &Peer, why: Unreached) {
-    let site = site.value();
-    let number = peer.site.value();
-    let address = &peer.address;
-    warn!(log; "site {site} cannot reach site {number} at {address}: {why}");
+    say_of_peer(log, site, Happening::PeerUnreachable, peer, Some(why));
+}
+
+/// Writes to the log that a site cannot dial a peer, as before, and why.
+pub fn tell_failed_dial<L: Log>(log: &L, site: SiteNo, peer: &Peer, why: Unreached) {
+    say_of_peer(log, site, Happening::DialFailed, peer, Some(why));
 }
 
 /// Writes to the log that a site reaches a peer again.
 pub fn note_reached<L: Log>(log: &L, site: SiteNo, peer: &Peer) {
-    let site = site.value();
+    say_of_peer(log, site, Happening::PeerReachable, peer, None);
+}
+
+/// Writes to the log what happened with a peer at its address of the settings, and why, where that
+/// is said.
+fn say_of_peer<L: Log>(
+    log: &L,
+    site: SiteNo,
+    what: Happening,
+    peer: &Peer,
+    why: Option<Unreached>,
+) {
+    let (site, words) = (site.value(), what.words());
     let number = peer.site.value();
     let address = &peer.address;
-    info!(log; "site {site} reaches site {number} at {address} again");
-}
-
-/// Writes to the log that a peer takes a site again.
-pub fn note_accepted<L: Log>(log: &L, site: SiteNo, caller: Caller) {
-    let site = site.value();
-    info!(log; "site {site} is accepted by {caller} again");
-}
-
-/// Writes to the log that a site was told to end.
-pub fn note_stopping<L: Log>(log: &L, site: SiteNo) {
-    let site = site.value();
-    info!(log; "site {site} is told to end");
-}
-
-/// Writes to the log that a site ends before its peers have what it made.
-pub fn warn_left<L: Log>(log: &L, site: SiteNo) {
-    let site = site.value();
-    warn!(log; "site {site} ends, and a peer lacks something that it made");
-}
-
-/// Writes to the log that a site has what its peers had as it went to work.
-pub fn note_caught_up<L: Log>(log: &L, site: SiteNo) {
-    let site = site.value();
-    info!(log; "site {site} has caught up with its peers");
+    match why {
+        Some(why) => {
+            log!(log; what.level(), peer = number, address:% = address, reason:% = why; "site={site} {words}");
+        }
+        None => {
+            log!(log; what.level(), peer = number, address:% = address; "site={site} {words}");
+        }
+    }
 }

@@ -47,9 +47,24 @@ fn write_queued<L: Log + Wait>(
     }
     let mut stream: &TcpStream = &queued.stream;
     let written = send_frames(shared.alloc, &mut stream, &queued.frames);
-    if written == Written::Broken && peer_link.lower(log, queued.number) {
-        shared.down(log, peer, queued.number);
-        warn_of(log, site, Warning::Loses(peer, Loss::Broken));
+    if written == Written::Whole {
+        count_frames(peer_link, &queued.frames);
+    }
+    if written == Written::Broken {
+        let address = queued.stream.peer_addr().ok();
+        if peer_link.lower(log, queued.number) {
+            shared.down(log, peer, queued.number);
+            warn_of(log, site, Warning::Loses(peer, address, Loss::Broken));
+        }
+    }
+}
+
+/// Counts frames that went over a link.
+fn count_frames(peer_link: &PeerLink, frames: &[Vec<u8>]) {
+    for frame in frames {
+        if !is_too_long(frame) {
+            peer_link.traffic.go(frame.len() as u64);
+        }
     }
 }
 

@@ -2,3 +2,4 @@ pub mod Refusal
 pub mod Configured
 pub mod Asked
 pub mod Told
+pub mod Levels

@@ -46,7 +46,8 @@ where
 {
     let settings = settings_in(rt, alloc, path)?;
     let address = admin_of(rt, path, &settings)?;
-    match told(rt, alloc, &address, Asked::Stop) {
+    let token = token_of(&settings);
+    match told(rt, alloc, &address, Asked::Stop, token) {
         Some(202) => {}
         Some(_) => return Ok(NO),
         None => return Ok(NOBODY),
@@ -54,7 +55,7 @@ where
     let looks = settings.drain.value().saturating_add(ENDING) * (1_000 / LOOK);
     for _ in 0..looks {
         let _ = thread::sleep(rt, Duration::from_millis(LOOK));
-        let found = ask(rt, alloc, &address, Asked::Alive, patience());
+        let found = ask(rt, alloc, &address, Asked::Alive, token, patience());
         if found.is_err() {
             return Ok(YES);
         }
@@ -71,7 +72,7 @@ where
 {
     let settings = settings_in(rt, alloc, path)?;
     let address = admin_of(rt, path, &settings)?;
-    let code = told(rt, alloc, &address, Asked::Ready);
+    let code = told(rt, alloc, &address, Asked::Ready, token_of(&settings));
     Ok(status_told(code))
 }
 
@@ -84,9 +85,17 @@ where
     settled(rt, path, site_configured(alloc, &bytes))
 }
 
+/// What the site of these settings has to be told.
+fn token_of(settings: &SiteSettings) -> Option<&str> {
+    match &settings.admin.token {
+        Some(token) => Some(token.as_str()),
+        None => None,
+    }
+}
+
 /// Where the site of these settings is asked. Where it is nowhere standard error says so.
 fn admin_of<R: Eprint>(rt: &R, path: &str, settings: &SiteSettings) -> Result<SocketAddr, Refusal> {
-    match settings.admin {
+    match settings.admin.asked_at() {
         Some(address) => Ok(address),
         None => {
             let _ = eprintln!(rt; "zqueue: {path}: there is no admin port, as admin is missing");
@@ -97,11 +106,17 @@ fn admin_of<R: Eprint>(rt: &R, path: &str, settings: &SiteSettings) -> Result<So
 
 /// Asks this at an admin port, writes what is answered to standard output, and gives the status of
 /// HTTP. Where nobody answers there is none, and standard error says so.
-fn told<R>(rt: &R, alloc: Global, address: &SocketAddr, asked: Asked) -> Option<u16>
+fn told<R>(
+    rt: &R,
+    alloc: Global,
+    address: &SocketAddr,
+    asked: Asked,
+    token: Option<&str>,
+) -> Option<u16>
 where
     R: Net<Listener = TcpListener, Stream = TcpStream> + Print + Eprint,
 {
-    match ask(rt, alloc, address, asked, patience()) {
+    match ask(rt, alloc, address, asked, token, patience()) {
         Ok(Answer { code, words }) => {
             let _ = print!(rt; "{}", str::from_utf8(&words).unwrap_or("?\n"));
             Some(code)

@@ -1,6 +1,7 @@
 //! Serving the sites of a settings file.
 
 ghost use Rattle.std.specs.Prelude.{◌≡◌};
+ghost use Rattle.zqueue.specs.Levels.{filter_of};
 ghost use Rattle.zqueue.specs.Refusal.{ended_of};
 
 use crate::configured::{configured, site_configured};
@@ -19,10 +20,7 @@ use std::sync::Wait;
 use std::thread::Threads;
 use std::time::Clock;
 use zq_log::{LogQueue, QueueLog};
-use zq_server::{ServeFault, serve};
-
-/// The most verbose level that is written.
-const LEVEL: LevelFilter = LevelFilter::Info;
+use zq_server::{LogLevel, Memory, ServeFault, serve};
 
 /// Serves the sites of the settings file of this name, and returns when all connections are done:
 /// then with the status of the program, whose last line is written. Warnings go to standard output,
@@ -50,7 +48,7 @@ where
         return Err(Refusal::Memory);
     };
     let queue = open_log(rt, alloc)?;
-    let log = log_of(&rt, alloc, &*queue);
+    let log = log_of(&rt, alloc, &*queue, settings.log_level);
     let served = serve(&log, alloc, &settings, &mut out);
     tell_cause(&rt, &served);
     Ok(close_log(&rt, alloc, &*queue, ended(served)))
@@ -63,6 +61,7 @@ where
 pub fn serve_site_file<R>(rt: R, alloc: Global, path: &str) -> Result<u8, Refusal>
 where
     R: Files
+        + Memory
         + Net<Listener = TcpListener, Stream = TcpStream>
         + RandomSource
         + Clock
@@ -93,13 +92,25 @@ pub fn start_lines<R: Print>(
     BufWriter::new(alloc, io::writer(rt)).map_err(|_| AllocError)
 }
 
-/// What logs into this queue, up to the level that is written.
+/// What logs into this queue, up to this level.
 pub fn log_of<'a, R: Wait + Clock>(
     rt: &'a R,
     alloc: Global,
     queue: &'a LogQueue,
+    level: LogLevel,
 ) -> Logged<&'a R, QueueLog<'a, R>> {
-    Logged::new(rt, LEVEL, QueueLog::new(rt, alloc, queue))
+    Logged::new(rt, filter_of(level), QueueLog::new(rt, alloc, queue))
+}
+
+/// The most verbose level that is written where the log says so much.
+fn filter_of(level: LogLevel) -> LevelFilter
+    ensures { result ≡ filter_of level }
+{
+    match level {
+        LogLevel::Warn => LevelFilter::Warn,
+        LogLevel::Info => LevelFilter::Info,
+        LogLevel::Debug => LevelFilter::Debug,
+    }
 }
 
 /// Standard error says what failed of the system, where something did.

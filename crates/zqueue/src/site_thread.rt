@@ -9,7 +9,7 @@ use std::thread;
 use std::thread::Threads;
 use std::time::Clock;
 use zq_log::LogQueue;
-use zq_server::{Cause, Ending, ServeFault, SiteSettings, serve_site};
+use zq_server::{Cause, Ending, Memory, ServeFault, SiteSettings, serve_site};
 
 /// Has a thread serve the site of these settings, which logs into this queue, and waits until the
 /// site has ended, or is not to be waited for any longer (`Ending::wait`). Then that thread ends
@@ -25,7 +25,8 @@ pub fn serve_in_thread<R>(
     queue: &Arc<LogQueue>,
 ) -> Result<(), ServeFault>
 where
-    R: Net<Listener = TcpListener, Stream = TcpStream>
+    R: Memory
+        + Net<Listener = TcpListener, Stream = TcpStream>
         + RandomSource
         + Clock
         + Threads
@@ -57,7 +58,8 @@ fn serve_here<R>(
     ending: &Ending,
 ) -> Result<(), ServeFault>
 where
-    R: Net<Listener = TcpListener, Stream = TcpStream>
+    R: Memory
+        + Net<Listener = TcpListener, Stream = TcpStream>
         + RandomSource
         + Clock
         + Threads
@@ -66,6 +68,6 @@ where
         + Sync,
 {
     let mut out = start_lines(rt, alloc)?;
-    let log = log_of(rt, alloc, queue);
+    let log = log_of(rt, alloc, queue, settings.log_level);
     serve_site(rt, &log, alloc, settings, &mut out, ending)
 }

@@ -12,6 +12,7 @@ use std::test::Fail;
 use std::thread;
 use std::thread::Threads;
 use std::time::Clock;
+use zq_serve::Memory;
 use zq_settings::SiteSettings;
 use zq_site::{Ending, serve_site};
 
@@ -108,7 +109,7 @@ pub fn serve_one<N, L>(
     wrong: &Mutex<bool>,
 )
 where
-    N: Net<Listener = TcpListener, Stream = TcpStream> + Sync,
+    N: Net<Listener = TcpListener, Stream = TcpStream> + Memory + Sync,
     L: Log + RandomSource + Clock + Threads + Wait + Sync,
 {
     let mut written = Vec::new(alloc);
@@ -127,7 +128,7 @@ pub fn serve_all<N, L>(
     steps: &[Step<'_>],
 ) -> Result<bool, Fail>
 where
-    N: Net<Listener = TcpListener, Stream = TcpStream> + Sync,
+    N: Net<Listener = TcpListener, Stream = TcpStream> + Memory + Sync,
     L: Log + RandomSource + Clock + Threads + Wait + Sync,
 {
     let wrong = Mutex::new(false);

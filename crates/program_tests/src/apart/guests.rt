@@ -14,6 +14,7 @@ use std::test::Fail;
 use std::thread::Threads;
 use std::time::{Clock, Duration, Instant};
 use std::{str, thread};
+use zq_serve::Memory;
 use zq_settings::SiteSettings;
 use zq_site::{Ending, serve_site};
 
@@ -332,7 +333,8 @@ pub fn logged_with<R>(
     clients: u16,
 ) -> Result<Vec<u8>, Fail>
 where
-    R: Net<Listener = TcpListener, Stream = TcpStream>
+    R: Memory
+        + Net<Listener = TcpListener, Stream = TcpStream>
         + RandomSource
         + Clock
         + Threads

@@ -14,7 +14,7 @@ use std::test::Fail;
 use std::thread::Threads;
 use std::time::Clock;
 use std::{io, thread};
-use zq_serve::{Cause, ServeFault, draw_hasher, serve};
+use zq_serve::{Cause, Memory, ServeFault, draw_hasher, serve};
 use zq_settings::{Settings, SiteSettings, settings, site_settings};
 use zq_site::{Ending, serve_site};
 
@@ -95,7 +95,8 @@ fn answered_apart<R>(
     seed: u64,
 ) -> Result<(Result<(), ServeFault>, Vec<u8>), Fail>
 where
-    R: Net<Listener = TcpListener, Stream = TcpStream>
+    R: Memory
+        + Net<Listener = TcpListener, Stream = TcpStream>
         + RandomSource
         + Clock
         + Threads

@@ -15,8 +15,8 @@ pub spawn-requires-send-F : goal.spawn-requires-send-F
 spawn-requires-send-F g c κs within = worker_crosses g κs c.requires.1
 
 -- and what accepts
-acceptor_crosses : (g : Over) (κs : Lfts 8) → IsSync g.row.L → IsSend (param 1 (arg-11-1 g.row.L g.L.laws g.L.Log-dict g.L.Clock-dict g.L.Threads-dict g.L.Wait-dict κs))
-acceptor_crosses g κs log = search (client_acceptor_send, sendable, crosses) depth 30 fits 50000
+acceptor_crosses : (g : Over) (κs : Lfts 9) → IsSync g.row.L → IsSend (param 1 (arg-11-1 g.row.L g.L.laws g.L.Log-dict g.L.Clock-dict g.L.Threads-dict g.L.Wait-dict κs))
+acceptor_crosses g κs log = search (client_acceptor_send, inboxes_send, sendable, crosses) depth 30 fits 50000
 
 pub spawn-requires-in-loop-client_acceptor-send-F : goal.spawn-requires-in-loop-client_acceptor-send-F
 spawn-requires-in-loop-client_acceptor-send-F g c κs within = acceptor_crosses g κs c.requires.1

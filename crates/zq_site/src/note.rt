@@ -1,0 +1,97 @@
+//! What a site notes: its changes of state that are no trouble.
+
+ghost use Rattle.std.specs.Prelude.{◌≡◌};
+ghost use Rattle.zq_site.specs.Reports as wanted;
+
+use crate::caller::Caller;
+use crate::happening::Happening;
+use crate::report::{Report, RunName};
+use crate::standing::Ending;
+use crate::why::Why;
+use std::net::SocketAddr;
+
+/// What a site notes.
+#[derive(Clone, Copy)]
+pub enum Note {
+    /// It listens.
+    Listening(Listening),
+    /// A link is up.
+    LinkUp(LinkUp),
+    /// A peer takes this site again.
+    Accepted(Caller),
+    /// The site has heard what its peers have, and takes writes.
+    Joined,
+    /// It has what they had then.
+    CaughtUp,
+    /// It was told to end.
+    Stopping,
+    /// It has ended.
+    Stopped,
+    /// Somebody who dialled this site went before a link was open.
+    Left(Caller, Ending),
+}
+
+/// Where a site listens.
+#[derive(Clone, Copy)]
+pub struct Listening {
+    /// For clients.
+    pub clients: SocketAddr,
+    /// For peers.
+    pub links: SocketAddr,
+    /// For who asks how it is.
+    pub admin: Option<SocketAddr>,
+}
+
+/// A link that is up.
+#[derive(Clone, Copy)]
+pub struct LinkUp {
+    /// The peer.
+    pub caller: Caller,
+    /// The version that is spoken.
+    pub version: u8,
+    /// What names the peer's run, where it said so.
+    pub run: Option<RunName>,
+}
+
+impl Note {
+    /// What the log says of it.
+    pub fn report(self) -> Report
+        ensures { result ≡ wanted.of_note self }
+    {
+        match self {
+            Note::Listening(listening) => report_of_listening(listening),
+            Note::LinkUp(link) => report_of_link(link),
+            Note::Accepted(caller) => Report::at(Happening::AcceptedByPeer, caller),
+            Note::Joined => Report::of(Happening::Joined),
+            Note::CaughtUp => Report::of(Happening::CaughtUp),
+            Note::Stopping => Report::of(Happening::Stopping),
+            Note::Stopped => Report::of(Happening::Stopped),
+            Note::Left(caller, ending) => {
+                Report::at(Happening::CallerLeft, caller).since(Why::Ending(ending))
+            }
+        }
+    }
+}
+
+/// What the log says of a site that listens.
+fn report_of_listening(listening: Listening) -> Report
+    ensures { result ≡ wanted.of_listening listening }
+{
+    Report {
+        clients: Some(listening.clients),
+        links: Some(listening.links),
+        admin: listening.admin,
+        ..Report::of(Happening::Listening)
+    }
+}
+
+/// What the log says of a link that is up.
+fn report_of_link(link: LinkUp) -> Report
+    ensures { result ≡ wanted.of_link link }
+{
+    Report {
+        version: Some(link.version),
+        run: link.run,
+        ..Report::at(Happening::LinkUp, link.caller)
+    }
+}
