@@ -1,0 +1,4 @@
+pub mod World
+pub mod Stepping
+pub mod Keeping
+pub mod Reading

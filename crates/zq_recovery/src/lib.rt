@@ -1,0 +1,31 @@
+//! A site's heaps, made again from the entries of its log after a crash.
+//!
+//! Entries are taken one at a time, in the order in which they stand in the log. It holds each heap
+//! once, and the entry that is taken.
+//!
+//! | entry | does | is refused |
+//! |---|---|---|
+//! | Start | is the log's first, and may come again with a higher number and the same folder | where the site, the number of heaps or the rule is not that of the settings |
+//! | Round | its operations go into the heaps that they are of, those that are known change nothing | where an operation is missing before one of them, or it is of no heap of the site |
+//! | Piece | the first of a stream begins the heap anew; each further one gives its members what they have there | where it is of another heap or rule, the first lacks an operation that was read, or a further one is not the next |
+//! | Sealed | sees that all pieces of the heap came, and that it has just the vector's operations | where that is not so |
+//! | Rest | sees that all pieces of all heaps came | where that is not so |
+//!
+//! After a refusal all that was taken is to be thrown away.
+//!
+//! `Recovery` is a `Replay` of `zq_wal`, so that `read_records` has it take a log's records.
+#![tactic(auto)]
+
+mod heap;
+mod laws;
+mod opening;
+mod pieces;
+mod recovery;
+mod refusal;
+mod replaying;
+mod rounds;
+
+pub use laws::{going_on, recovering};
+pub use opening::Identity;
+pub use recovery::Recovery;
+pub use refusal::Refusal;
