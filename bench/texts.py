@@ -5,14 +5,16 @@ import contextlib
 import re
 import tomllib
 
-KEYS = ["ports", "heaps", "workers", "connections", "clients", "timeout", "write_timeout", "output", "seed", "rule"]
+KEYS = ["ports", "heaps", "workers", "connections", "clients", "timeout", "write_timeout", "output", "log_level", "seed", "rule"]
+# The keys whose values are words, and these.
+WORDS_OF = {"log_level": ("warn", "info", "debug"), "rule": ("HIGH", "LOW")}
 LEAST_AND_MOST = {"heaps": (2, 16), "workers": (1, 64), "connections": (0, 1000000), "clients": (1, 1000000), "timeout": (0, 1000000),
                   "write_timeout": (0, 1000000), "output": (2**20, 2**40), "seed": (0, 2**63 - 1)}
-IF_MISSING = {"heaps": 4, "workers": 4, "connections": 0, "clients": 10000, "timeout": 0, "write_timeout": 60, "output": 2**28, "seed": 1,
-              "rule": "HIGH"}
+IF_MISSING = {"heaps": 4, "workers": 4, "connections": 0, "clients": 10000, "timeout": 0, "write_timeout": 60, "output": 2**28,
+              "log_level": "info", "seed": 1, "rule": "HIGH"}
 VALUES = ["0", "1", "2", "4", "16", "17", "64", "65", "-1", "+7", "1000000", "1000001", "9223372036854775807", "9223372036854775808",
           "-9223372036854775808", "0x10", "0b11", "0o17", "1_0", "1__0", "007", "4.0", "1e1", "nan", "inf", "true", "false", '"HIGH"', '"LOW"',
-          '"low"', '""', "'HIGH'", '"\\u0041"', '"""HIGH"""', "[]", "{}", "1979-05-27", "07:32:00", "1979-05-27T07:32:00Z", "{a = 1}", "[1, [2]]"]
+          '"low"', '"info"', '"Info"', '""', "'HIGH'", '"\\u0041"', '"""HIGH"""', "[]", "{}", "1979-05-27", "07:32:00", "1979-05-27T07:32:00Z", "{a = 1}", "[1, [2]]"]
 PORTS = ["7001", "7002", "1", "65535", "0", "65536", "-1", "7_003", "0x1b5a", '"7001"', "7001.0", "true", "[7001]"]
 PIECES = ["\n", "\r\n", "\r", " ", "\t", "#", "=", "[", "]", "[[", "]]", ",", ".", '"', "'", '"""', "{", "}", "\\", "\0", "\x7f", "\ufeff", "é", "ports",
           "heaps = 3", "rule", "_", "-", "+", "1"]
@@ -34,8 +36,8 @@ def drawn_value(draw, key):
         return draw.choice(VALUES)
     if key == "ports":
         return drawn_ports(draw)
-    if key == "rule":
-        return draw.choice(['"HIGH"', '"LOW"'])
+    if key in WORDS_OF:
+        return f'"{draw.choice(WORDS_OF[key])}"'
     least, most = LEAST_AND_MOST.get(key, (0, 9))
     return str(draw.choice([least, most, least - 1, most + 1, draw.randrange(least, most + 1)] + [draw.randrange(least, most + 1)] * 6))
 
@@ -102,9 +104,9 @@ def ports_in(value):
 
 
 def rule_broken(key, value):
-    if key == "rule":
+    if key in WORDS_OF:
         return f"{key} has a value of another kind" if not isinstance(value, str) else \
-            None if value in ("HIGH", "LOW") else f"{key} has a value out of range"
+            None if value in WORDS_OF[key] else f"{key} has a value out of range"
     least, most = LEAST_AND_MOST[key]
     return f"{key} has a value of another kind" if type(value) is not int else None if least <= value <= most else f"{key} has a value out of range"
 
