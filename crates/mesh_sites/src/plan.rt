@@ -14,4 +14,6 @@ pub struct SitePlan {
     pub window: u64,
     /// How many bytes each of its logs keeps.
     pub log: u64,
+    /// How many members of a heap it gives a peer at once, where it knows how to give one in pieces.
+    pub piece: Option<usize>,
 }

@@ -102,6 +102,7 @@ fn tell<R: Print>(rt: &R, counts: &Counts) -> io::Result<()> {
         frames,
         sent,
         heaps,
+        pieces,
         cuts,
         lost,
         doubled,
@@ -116,6 +117,7 @@ fn tell<R: Print>(rt: &R, counts: &Counts) -> io::Result<()> {
     println!(rt; "frames of operations: {frames}")?;
     println!(rt; "operations sent: {sent}")?;
     println!(rt; "whole heaps sent: {heaps}")?;
+    println!(rt; "pieces of heaps sent: {pieces}")?;
     println!(rt; "links cut: {cuts}")?;
     println!(rt; "frames lost: {lost}")?;
     println!(rt; "frames doubled: {doubled}")?;

@@ -147,7 +147,7 @@ impl Logs {
 }
 
 /// All sites.
-fn every_site() -> SiteSet {
+pub(crate) fn every_site() -> SiteSet {
     SiteSet::from_array([true; SITES])
 }
 

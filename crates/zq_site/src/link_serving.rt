@@ -7,7 +7,7 @@ ghost use Rattle.zq_site.specs.Standings.{sign_at_end};
 use crate::caller::Caller;
 use crate::loss::Loss;
 use crate::notice::{Notice, Reason, write_notice};
-use crate::opening::{PUSHING, Told, Way, open_link};
+use crate::opening::{PUSHING, STREAMING, Told, Way, open_link};
 use crate::parting::{part, reason_for};
 use crate::peer_link::{PeerLink, Raised};
 use crate::peer_links::peer_link_of;
@@ -135,8 +135,10 @@ fn protocol_of(version: u8) -> Protocol
 {
     if version < PUSHING {
         Protocol::Asking
-    } else {
+    } else if version < STREAMING {
         Protocol::Pushing
+    } else {
+        Protocol::Streaming
     }
 }
 
