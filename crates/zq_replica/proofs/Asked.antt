@@ -1,7 +1,7 @@
 -- Asking a site what it has, one time after the other.
 
 use Rattle.std.proofs.Common.{inl, inr, refl, ◌∙◌}
-use Rattle.std.specs.Prelude.{Err, IfErr, List, Ok, OnOk, Result, ℕ}
+use Rattle.std.specs.Prelude.{Err, IfErr, List, Ok, OnOk, Option, Result, ℕ}
 use Rattle.zq_dots.specs.Placed.{Placed}
 use Rattle.zq_links.specs.Batch.{IsOneOf}
 use Rattle.zq_links.specs.Frame.{frame_of}
@@ -9,7 +9,9 @@ use Rattle.zq_links.specs.declared.frame.Frame as code
 use Rattle.zq_node.specs.Batches.{HasHeardAll, WasStoppedIn}
 use Rattle.zq_node.specs.declared.faults.NodeFault.{NodeFault}
 use Rattle.zq_node.specs.declared.node.Node.{Node}
-use Rattle.zq_replica.specs.Nodes.{Heard, Hears, IsBrought, IsGiven, IsOpsOf, Shows}
+use Rattle.zq_replica.specs.Brought.{IsBrought}
+use Rattle.zq_replica.specs.Nodes.{Heard, Hears, IsGiven, IsOpsOf, Shows}
+use Rattle.zq_replica.specs.declared.gathering.Gathering.{Gathering}
 
 -- nothing was asked
 pub not_asked : (a : Node) → Shows a a
@@ -70,7 +72,7 @@ given_after frame a b n first (inl shows) = inl (asked_again a b n first shows)
 given_after frame a b n first (inr heard) = inr (asked_before frame a b n first heard)
 
 -- what a frame brings is what its bytes bring
-pub brought_by : (frame : code.Frame) (bytes : List ℕ) (old new : Node) →
-    IsOneOf (frame_of frame) bytes → IsGiven frame old new → IsBrought bytes old new
-brought_by frame bytes old new of (inl shows) = inl shows
-brought_by frame bytes old new of (inr heard) = inr (frame, of, heard)
+pub brought_by : (before : Option Gathering) (frame : code.Frame) (bytes : List ℕ) (old new : Node) →
+    IsOneOf (frame_of frame) bytes → IsGiven frame old new → IsBrought before bytes old new
+brought_by before frame bytes old new of (inl shows) = inl shows
+brought_by before frame bytes old new of (inr heard) = inr (inl (frame, of, heard))

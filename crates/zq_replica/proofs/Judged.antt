@@ -7,11 +7,13 @@ use Rattle.zq_links.specs.Batch.{IsOneOf}
 use Rattle.zq_links.specs.Control.{control_of}
 use Rattle.zq_links.specs.ControlSpelling.{control_spelling}
 use Rattle.zq_links.specs.Frame.{frame_of}
+use Rattle.zq_links.specs.Pieces.{piece_bytes}
 use Rattle.zq_links.specs.declared.control.Control as control
 use Rattle.zq_links.specs.declared.frame.Frame as code
+use Rattle.zq_links.specs.declared.piece.Piece.{Piece}
 use Rattle.zq_node.specs.declared.node.Node.{Node}
 use Rattle.zq_replica.proofs.Shown.{shown_after, shown_before}
-use Rattle.zq_replica.specs.Fence.{IsFencedIn, IsFree, IsFreeIn, IsJudged, IsJudgedIn, IsWeighed, IsWeighedBy, IsWeighedByBytes, IsWeighedByControl, Sent}
+use Rattle.zq_replica.specs.Fence.{IsFencedIn, IsFree, IsFreeIn, IsJudged, IsJudgedIn, IsWeighed, IsWeighedBy, IsWeighedByBytes, IsWeighedByControl, IsWeighedByPiece, Sent}
 use Rattle.zq_replica.specs.Joined.{HasHeardControl, HasHeardFrame}
 use Rattle.zq_replica.specs.Nodes.{Shows, WasShown}
 use Rattle.zq_replica.specs.Sites.{fence_of, is_heeded, is_up}
@@ -134,3 +136,19 @@ bytes_by_frame (Ok x) (Err f) peer frame bytes a c was now sent after alike of w
 bytes_by_frame (Err e) (Ok y) peer frame bytes a c was now sent after alike of w =
     absurd (false≢true (sym alike))
 bytes_by_frame (Err e) (Err f) peer frame bytes a c was now sent after alike of w = w
+
+-- the same of the bytes of a piece
+pub bytes_by_piece : {E F : Type 0} → (r : Result (Unit {0}) E) (s : Result (Unit {0}) F)
+    (peer : ℕ) (p : Piece) (bytes : List ℕ) (a c : Node) (was now : Replica)
+    (sent after : Sent) → is_ok s ≡ is_ok r → bytes ≡ piece_bytes p →
+    MatchResult r (λ _. IsWeighedByPiece peer p a c was now sent after)
+    (λ _. fence_of now ≡ fence_of was) →
+    MatchResult s (λ _. IsWeighedByBytes peer bytes a c was now sent after)
+    (λ _. fence_of now ≡ fence_of was)
+bytes_by_piece (Ok x) (Ok y) peer p bytes a c was now sent after alike of w =
+    inr (inr (p, of, w))
+bytes_by_piece (Ok x) (Err f) peer p bytes a c was now sent after alike of w =
+    absurd (false≢true alike)
+bytes_by_piece (Err e) (Ok y) peer p bytes a c was now sent after alike of w =
+    absurd (false≢true (sym alike))
+bytes_by_piece (Err e) (Err f) peer p bytes a c was now sent after alike of w = w

@@ -6,13 +6,15 @@ use Rattle.zq_links.specs.Batch.{IsOneOf}
 use Rattle.zq_links.specs.Control.{control_of}
 use Rattle.zq_links.specs.ControlSpelling.{control_spelling}
 use Rattle.zq_links.specs.Frame.{frame_of}
+use Rattle.zq_links.specs.Pieces.{piece_bytes}
 use Rattle.zq_links.specs.declared.control.Control as control
 use Rattle.zq_links.specs.declared.frame.Frame as code
+use Rattle.zq_links.specs.declared.piece.Piece.{Piece}
 use Rattle.zq_node.specs.declared.node.Node.{Node}
 use Rattle.zq_replica.specs.Joined.{HasHeardControl, HasHeardFrame}
 use Rattle.zq_replica.specs.Nodes.{WasShown}
 use Rattle.zq_replica.specs.Sites.{fence_of}
-use Rattle.zq_replica.specs.Told.{told_by, told_by_control}
+use Rattle.zq_replica.specs.Told.{told_by, told_by_control, told_by_piece}
 use Rattle.zq_replica.specs.declared.fence.Fenced.{Fenced}
 use Rattle.zq_replica.specs.declared.joining.Joining.{Joining}
 use Rattle.zq_replica.specs.declared.replica.Replica.{Replica}
@@ -90,13 +92,21 @@ IsWeighedByControl peer said old new was now sent after =
     IsWeighed peer (λ heap. told_by_control was.own was.heaps heap said) (HasHeardControl peer said)
     old new was now sent after
 
--- the same of bytes that are one of the two
+-- the same of a piece, by which nothing is heard of what peers have
+abbrev pub IsWeighedByPiece : ℕ → Piece → Node → Node → Replica → Replica → Sent → Sent → Type 0
+IsWeighedByPiece peer p old new was now sent after =
+    IsWeighed peer (λ heap. told_by_piece was.own was.heaps heap p) (λ before now. now ≡ before)
+    old new was now sent after
+
+-- the same of bytes that are one of the three
 abbrev pub IsWeighedByBytes : ℕ → List ℕ → Node → Node → Replica → Replica → Sent → Sent → Type 0
 IsWeighedByBytes peer bytes old new was now sent after =
     ((frame : code.Frame) × IsOneOf (frame_of frame) bytes
     × IsWeighedBy peer frame old new was now sent after)
     ⊎ ((said : control.Control) × (bytes ≡ control_spelling (control_of said))
     × IsWeighedByControl peer said old new was now sent after)
+    ⊎ ((p : Piece) × (bytes ≡ piece_bytes p)
+    × IsWeighedByPiece peer p old new was now sent after)
 
 -- nothing is done
 abbrev pub IsPassedOver : Node → Node → Replica → Replica → Sent → Sent → Type 0

@@ -2,8 +2,7 @@
 
 use Rattle.std.specs.Prelude.{Bool, List, false, true, ℕ, ◌<◌, ◌≡◌, ◌⊎◌}
 use Rattle.zq_dots.specs.Placed.{Placed}
-use Rattle.zq_links.specs.Batch.{IsOneOf}
-use Rattle.zq_links.specs.Frame.{Frame, frame_of}
+use Rattle.zq_links.specs.Frame.{Frame}
 use Rattle.zq_links.specs.declared.frame.Frame as code
 use Rattle.zq_links.specs.declared.frame.Frame.TheVariants as heard
 use Rattle.zq_node.specs.Batches.{HasHeardAll, WasStoppedIn}
@@ -68,9 +67,3 @@ pub record Heard (frame : code.Frame) (old new : Node) : Type 0 where
 -- the site took nothing but what this frame brings
 abbrev pub IsGiven : code.Frame → Node → Node → Type 0
 IsGiven frame old new = Shows old new ⊎ Heard frame old new
-
--- the site took nothing but what the bytes bring, as a frame that they spell, or as operations by
--- differences
-abbrev pub IsBrought : List ℕ → Node → Node → Type 0
-IsBrought bytes old new = Shows old new
-    ⊎ ((frame : code.Frame) × IsOneOf (frame_of frame) bytes × Heard frame old new)

@@ -5,7 +5,7 @@ use Rattle.std.specs.Prelude.{Bool, List, None, Option, Some, false, nat_lt, sli
 use Rattle.zq_replica.specs.declared.end.End.{End}
 use Rattle.zq_replica.specs.declared.end.HeapEnd.{HeapEnd}
 use Rattle.zq_replica.specs.declared.protocol.Protocol.{Protocol}
-use Rattle.zq_replica.specs.declared.protocol.Protocol.TheVariants.{Asking, Pushing}
+use Rattle.zq_replica.specs.declared.protocol.Protocol.TheVariants.{Asking, Pushing, Streaming}
 use Rattle.zq_replica.specs.declared.replica.Replica.{Replica}
 
 -- whether a link is up over which operations are pushed
@@ -13,6 +13,7 @@ abbrev pub is_pushed : Option Protocol → Bool
 is_pushed None = false
 is_pushed (Some Asking) = false
 is_pushed (Some Pushing) = true
+is_pushed (Some Streaming) = true
 
 -- how many operations of a site a peer said that it has of a heap
 abbrev pub said_in : Option HeapEnd → ℕ → ℕ

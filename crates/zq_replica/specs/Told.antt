@@ -8,6 +8,7 @@ use Rattle.zq_links.specs.declared.control.Control.TheVariants as said
 use Rattle.zq_links.specs.declared.control.Resume.{Resume}
 use Rattle.zq_links.specs.declared.frame.Frame as code
 use Rattle.zq_links.specs.declared.frame.Frame.TheVariants as heard
+use Rattle.zq_links.specs.declared.piece.Piece.{Piece}
 
 -- what a number of this heap tells, where it was told of that one among so many
 abbrev pub told_in : ℕ → ℕ → ℕ → ℕ → ℕ → ℕ
@@ -30,6 +31,11 @@ told_by own heaps heap (heard.Have h) =
 told_by own heaps heap (heard.Ops ops) = told_by_ops own heaps heap ops.items
 told_by own heaps heap (heard.State s) =
     told_in heaps heap s.heaps s.heap (slice_index s.image.vector own)
+
+-- a piece tells what its part does
+abbrev pub told_by_piece : ℕ → ℕ → ℕ → Piece → ℕ
+told_by_piece own heaps heap p =
+    told_in heaps heap p.part.heaps p.part.heap (slice_index p.part.image.vector own)
 
 -- what the peer's stage of a heap has taken, where it has one
 abbrev pub told_by_resume : ℕ → Option Resume → ℕ

@@ -1,7 +1,9 @@
 //! Fetching a heap from a peer.
 
+ghost use Rattle.std.specs.Prelude.{◌≡◌};
 ghost use Rattle.zq_node.specs.Node.{IsNode};
 ghost use Rattle.zq_replica.specs.Fence.{IsSteady};
+ghost use Rattle.zq_replica.specs.Gathered.{gathered_of};
 ghost use Rattle.zq_replica.specs.Nodes.{Shows};
 
 use crate::parcels::Parcels;
@@ -11,7 +13,8 @@ use std::sync::Wait;
 use zq_dots::{SiteNo, Vector};
 use zq_node::{Node, NodeFault};
 
-/// For how many beats a heap is waited for, after which it is asked of another peer.
+/// For how many beats a heap, or its next piece, is waited for, after which it is asked of another
+/// peer.
 const MOST_BEATS: u8 = 15;
 
 /// A heap that is being fetched.
@@ -76,7 +79,7 @@ impl Replica<'_> {
         }
     }
 
-    /// Asks a peer for a heap.
+    /// Asks a peer for a heap, or for the rest of it where a part came from this peer.
     fn fetch(
         &mut self,
         alloc: Global,
@@ -91,7 +94,8 @@ impl Replica<'_> {
             return Ok(());
         };
         let from = end.peer;
-        self.ask_for(alloc, place, heap, out)?;
+        let resume = self.resume_of(from, heap);
+        self.ask_for(alloc, place, heap, resume, out)?;
         self.catching = Some(Catching {
             heap,
             from,
@@ -125,6 +129,24 @@ impl Replica<'_> {
         self.end_catching(rt, alloc, node, out)
     }
 
+    /// Whether this heap is being fetched from this peer.
+    pub(crate) fn is_awaited(&self, peer: SiteNo, heap: u8) -> bool {
+        match &self.catching {
+            Some(catching) => catching.from == peer && catching.heap == heap,
+            None => false,
+        }
+    }
+
+    /// Something of the heap that is fetched came: it is waited for as long as before.
+    pub(crate) fn wait_on(&mut self)
+        ensures steady { IsSteady self.old self.new }
+        ensures gathered { gathered_of self.new ≡ gathered_of self.old }
+    {
+        if let Some(catching) = &mut self.catching {
+            catching.left = MOST_BEATS;
+        }
+    }
+
     /// One beat more has gone by: a heap that did not come is waited for no more.
     pub(crate) fn wait_for_heap<R: Wait>(
         &mut self,
@@ -138,6 +160,7 @@ impl Replica<'_> {
         ensures shows { Shows node.old node.new }
     {
         let Some(catching) = &mut self.catching else {
+            self.keep_gathered();
             return Ok(());
         };
         if catching.left > 0 {

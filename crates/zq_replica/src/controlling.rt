@@ -13,7 +13,7 @@ use std::alloc::Global;
 use std::sync::Wait;
 use zq_dots::{Rule, SiteNo};
 use zq_follow::{HeardAt, SiteSet};
-use zq_links::{At, Control, Frame, Routes, write_frame};
+use zq_links::{At, Control, Fetch, Frame, Routes, write_frame};
 use zq_node::{Node, NodeFault};
 
 impl Replica<'_> {
@@ -59,7 +59,7 @@ impl Replica<'_> {
     }
 
     /// Whether a heap among so many is one of this site's.
-    fn judge_heap(&self, heap: u8, heaps: u8) -> Result<(), NodeFault> {
+    pub(crate) fn judge_heap(&self, heap: u8, heaps: u8) -> Result<(), NodeFault> {
         if heaps != self.heaps || heap >= heaps {
             return Err(NodeFault::WrongHeap);
         }
@@ -67,7 +67,7 @@ impl Replica<'_> {
     }
 
     /// Whether a rule is this site's.
-    fn judge_rule(&self, rule: Rule) -> Result<(), NodeFault> {
+    pub(crate) fn judge_rule(&self, rule: Rule) -> Result<(), NodeFault> {
         if rule != self.rule {
             return Err(NodeFault::WrongRule);
         }
@@ -100,7 +100,7 @@ impl Replica<'_> {
             Control::Behind(behind) => {
                 self.catch_up(rt, alloc, node, place, behind.heap, behind.vector, out)
             }
-            Control::Fetch(fetch) => self.serve(rt, alloc, node, place, fetch.heap, out),
+            Control::Fetch(fetch) => self.serve(rt, alloc, node, place, fetch, out),
         }
     }
 
@@ -170,9 +170,39 @@ impl Replica<'_> {
         Ok(())
     }
 
-    /// Gives a peer a whole heap. Until the peer says that the heap is open nothing more of it is
-    /// pushed.
+    /// Gives a peer the heap that it asks for: in pieces, or at once where it knows none.
     fn serve<R: Wait>(
+        &mut self,
+        rt: &R,
+        alloc: Global,
+        node: &mut Node<'_>,
+        place: usize,
+        fetch: &Fetch,
+        out: &mut Parcels,
+    ) -> Result<(), NodeFault>
+        requires node { IsNode node.old }
+        ensures node { IsNode node.new }
+        ensures shows { Shows node.old node.new }
+        ensures steady { IsSteady self.old self.new }
+    {
+        if self.is_streamed_at(place) {
+            self.begin_stream(rt, node, place, fetch)
+        } else {
+            self.give_whole(rt, alloc, node, place, fetch.heap, out)
+        }
+    }
+
+    /// Whether the peer at this place is given heaps in pieces.
+    fn is_streamed_at(&self, place: usize) -> bool {
+        match self.ends.get(place) {
+            Some(end) => end.streams(),
+            None => false,
+        }
+    }
+
+    /// Gives a peer a whole heap at once. Until the peer says that the heap is open nothing more of
+    /// it is pushed.
+    fn give_whole<R: Wait>(
         &mut self,
         rt: &R,
         alloc: Global,

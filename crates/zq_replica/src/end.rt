@@ -5,6 +5,7 @@ ghost use Rattle.zq_replica.specs.Passing.{is_pushed};
 ghost use Rattle.zq_replica.specs.Sites.{is_end_of};
 
 use crate::protocol::Protocol;
+use crate::serving::Serving;
 use std::alloc::{AllocError, Global};
 use zq_dots::{SiteNo, Vector};
 use zq_follow::{Follow, SiteSet};
@@ -53,6 +54,8 @@ pub(crate) struct HeapEnd {
     pub(crate) was_full: bool,
     /// What the peer had where it said that this site is behind, and could not be asked then.
     pub(crate) noted: Option<Vector>,
+    /// The stream in which the peer is given the heap, if it is.
+    pub(crate) serving: Option<Serving>,
 }
 
 impl ToldRoutes {
@@ -74,6 +77,7 @@ impl HeapEnd {
             earlier: Vector::new(),
             was_full: false,
             noted: None,
+            serving: None,
         }
     }
 }
@@ -122,6 +126,14 @@ impl End {
     pub(crate) fn pushes(&self) -> bool
         ensures { result ≡ is_pushed self.now.protocol }
     {
-        self.protocol == Some(Protocol::Pushing)
+        match self.protocol {
+            Some(Protocol::Pushing | Protocol::Streaming) => true,
+            Some(Protocol::Asking) | None => false,
+        }
+    }
+
+    /// Whether the peer is given heaps in pieces.
+    pub(crate) fn streams(&self) -> bool {
+        self.protocol == Some(Protocol::Streaming)
     }
 }

@@ -8,11 +8,11 @@ ghost use Rattle.zq_replica.specs.Sites.{fence_of, heaps_of};
 ghost use Rattle.zq_replica.specs.Told as told;
 
 use crate::replica::Replica;
-use crate::told::{may_tell, told_by, told_by_control};
+use crate::told::{may_tell, told_by, told_by_control, told_by_piece};
 use std::sync::Wait;
 use zq_dots::{SiteNo, Vector};
 use zq_follow::{began_with_fewer, is_used_by_others};
-use zq_links::{Control, Frame};
+use zq_links::{Control, Frame, Piece};
 use zq_node::{Node, NodeFault};
 
 /// What proves that another run used this site's number.
@@ -144,6 +144,32 @@ impl Replica<'_> {
     {
         for heap in 0..self.heaps {
             let known = told_by_control(self.own, self.heaps, heap, control);
+            if self.fences(rt, node, peer, heap, known)? {
+                return Ok(true);
+            }
+        }
+        Ok(false)
+    }
+
+    /// Whether a piece of a heap of a peer proves that another run used this site's number, which is
+    /// noted. After an `Err` this is as it was.
+    pub(crate) fn fences_by_piece<R: Wait>(
+        &mut self,
+        rt: &R,
+        node: &mut Node<'_>,
+        peer: SiteNo,
+        piece: &Piece,
+    ) -> Result<bool, NodeFault>
+        requires node { IsNode node.old }
+        ensures node { IsNode node.new }
+        ensures shows { Shows node.old node.new }
+        ensures judged { IfOk result
+            (IsJudged peer (λ heap. told.told_by_piece self.old.own self.old.heaps heap piece.now)
+            node.old node.new self.old self.new) }
+        ensures failed { OnErr result (self.new ≡ self.old) }
+    {
+        for heap in 0..self.heaps {
+            let known = told_by_piece(self.own, self.heaps, heap, piece);
             if self.fences(rt, node, peer, heap, known)? {
                 return Ok(true);
             }

@@ -4,8 +4,10 @@ ghost use Rattle.std.specs.Prelude.{All, IfOk, IsSome, MatchBool, MatchResult, O
 ghost use Rattle.zq_links.specs.Frame.{IsWritable};
 ghost use Rattle.zq_node.specs.Node.{IsNode, IsSameHome};
 ghost use Rattle.zq_links.specs.declared.frame.Frame.{Frame as Frames};
+ghost use Rattle.zq_replica.specs.Brought.{IsBrought};
 ghost use Rattle.zq_replica.specs.Fence.{IsPassedOver, IsSteady, IsWeighedBy, IsWeighedByBytes};
-ghost use Rattle.zq_replica.specs.Nodes.{Heard, Hears, IsBrought, IsGiven, IsOpsOf, Shows};
+ghost use Rattle.zq_replica.specs.Gathered.{gathered_of};
+ghost use Rattle.zq_replica.specs.Nodes.{Heard, Hears, IsGiven, IsOpsOf, Shows};
 ghost use Rattle.zq_replica.specs.Sites.{fence_of, is_heeded};
 
 use crate::parcels::{Parcels, address};
@@ -14,7 +16,7 @@ use std::alloc::Global;
 use std::sync::Wait;
 use zq_dots::{Op, SiteNo, Vector};
 use zq_follow::SiteSet;
-use zq_links::{Frame, is_control, read_control, read_heard, write_frame};
+use zq_links::{Frame, is_control, is_piece, read_control, read_heard, write_frame};
 use zq_node::{Node, NodeFault};
 use zq_peers::Unheard;
 
@@ -38,7 +40,7 @@ impl Replica<'_> {
         requires node { IsNode node.old }
         ensures node { IsNode node.new }
         ensures home { IsSameHome node.old node.new }
-        ensures brought { IsBrought bytes.now node.old node.new }
+        ensures brought { IsBrought (gathered_of self.old) bytes.now node.old node.new }
         ensures silent { IsSome (fence_of self.new) → out.new.items ≡ out.old.items }
         ensures weighed { MatchBool (is_heeded from link self.old)
             (MatchResult result
@@ -53,6 +55,8 @@ impl Replica<'_> {
         };
         if is_control(bytes) {
             self.hear_words(rt, alloc, node, place, from, bytes, out)
+        } else if is_piece(bytes) {
+            self.hear_piece_bytes(rt, alloc, node, place, from, bytes, out)
         } else {
             self.hear_bytes(rt, alloc, node, place, from, bytes, out)
         }
@@ -107,7 +111,7 @@ impl Replica<'_> {
         requires node { IsNode node.old }
         ensures node { IsNode node.new }
         ensures home { IsSameHome node.old node.new }
-        ensures brought { IsBrought bytes.now node.old node.new }
+        ensures brought { IsBrought (gathered_of self.old) bytes.now node.old node.new }
         ensures weighed { MatchResult result
             (λ _. IsWeighedByBytes from bytes.now node.old node.new self.old self.new
             out.old.items out.new.items)
@@ -185,7 +189,7 @@ impl Replica<'_> {
     /// Has the node hear a whole heap of a peer. What the heap here has made goes into its log
     /// first, since the merge leaves no record of it; and peers to which it is owed are told what
     /// this site has then, since what they have pushed may have come with the heap.
-    fn hear_state<R: Wait>(
+    pub(crate) fn hear_state<R: Wait>(
         &mut self,
         rt: &R,
         alloc: Global,
@@ -201,6 +205,7 @@ impl Replica<'_> {
         ensures steady { IsSteady self.old self.new }
     {
         self.logs.drain_heap(rt, alloc, node, heap)?;
+        self.begin_life(heap);
         self.hear_and_answer(rt, alloc, node, frame, out)?;
         let vector = node.vector(rt, heap)?;
         self.acknowledge(rt, alloc, node, heap, &vector, out)
@@ -252,6 +257,9 @@ impl Replica<'_> {
         if heap >= self.heaps {
             return Err(NodeFault::WrongHeap);
         }
+        if self.gathers(from, heap) {
+            return self.gather_ops(alloc, place, heap, ops, out);
+        }
         let before = node.vector(rt, heap)?;
         let heard = node.hear_ops(rt, alloc, ops);
         let after = node.vector(rt, heap)?;
@@ -264,7 +272,7 @@ impl Replica<'_> {
     }
 
     /// Notes that the peer at this place has these operations.
-    fn note_dots(&mut self, place: usize, heap: u8, ops: &[Op])
+    pub(crate) fn note_dots(&mut self, place: usize, heap: u8, ops: &[Op])
         ensures { IsSteady self.old self.new }
     {
         let Some(end) = self.ends.get_mut(place) else {
@@ -297,7 +305,7 @@ impl Replica<'_> {
 
     /// Tells each peer what this site has of a heap where a good part of what it may have under way
     /// has come.
-    fn acknowledge<R: Wait>(
+    pub(crate) fn acknowledge<R: Wait>(
         &mut self,
         rt: &R,
         alloc: Global,

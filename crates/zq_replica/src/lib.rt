@@ -8,17 +8,22 @@
 //!
 //! Between the heaps and the links stand logs of written operations. `drain` takes what a heap has
 //! made since into its log. A peer that lacks what a log has no more is told so, and fetches the
-//! whole heap, from one peer at a time.
+//! heap, from one peer at a time. The heap comes in pieces, with operations between them, which are
+//! gathered beside the site's own heap; once it is whole it takes the place of that. A peer that
+//! knows no pieces is sent it at once.
 #![tactic(auto)]
 
 mod calming;
 mod catching;
 mod controlling;
 mod end;
+mod exchanging;
 mod fence;
+mod gathering;
 mod hearing;
 mod joining;
 mod lagging;
+mod lives;
 mod logs;
 mod parcels;
 mod passing;
@@ -27,10 +32,12 @@ mod pushing;
 mod raising;
 mod replica;
 mod routing;
+mod serving;
 mod telling;
 mod told;
 
 pub use fence::Fenced;
+pub use lives::{PORTION, Portioning};
 pub use logs::{Drained, LogSize, Logs};
 pub use parcels::Parcels;
 pub use protocol::Protocol;

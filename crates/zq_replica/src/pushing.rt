@@ -26,8 +26,8 @@ enum Push {
 }
 
 impl Replica<'_> {
-    /// Pushes to each of these peers what it lacks: of each heap a batch at most. It says whether
-    /// more may follow.
+    /// Pushes to each of these peers what it lacks: of each heap a batch at most, or the next frame
+    /// of a stream in which it goes. It says whether more may follow.
     pub fn push<R: Wait>(
         &mut self,
         rt: &R,
@@ -79,7 +79,7 @@ impl Replica<'_> {
     }
 
     /// Pushes a batch of a heap to the peer at this place, or tells it that it is behind, and says
-    /// whether more may follow.
+    /// whether more may follow. A peer that is given the heap is sent what is next in its stream.
     fn push_heap<R: Wait>(
         &mut self,
         rt: &R,
@@ -93,6 +93,9 @@ impl Replica<'_> {
         ensures node { IsNode node.new }
         ensures shows { Shows node.old node.new }
     {
+        if let Some(serving) = self.take_serving(place, heap) {
+            return self.stream(rt, alloc, node, place, heap, serving, out);
+        }
         match self.cut(rt, alloc, place, heap)? {
             Push::Batch(batch, more) => {
                 self.send(alloc, place, heap, batch, out)?;

@@ -38,13 +38,16 @@ impl Replica<'_> {
             return Ok(());
         };
         match protocol {
-            Protocol::Pushing => self.tell_each(rt, alloc, node, place, false, out),
+            Protocol::Pushing | Protocol::Streaming => self.tell_each(
+                rt, alloc, node, place, false, out,
+            ),
             Protocol::Asking => self.tell_haves(rt, alloc, node, out),
         }
     }
 
     /// The link of this number to this peer is down: all that was known of the peer is forgotten.
-    /// What was being fetched from it is fetched no more. An older link's end is passed over.
+    /// What was being fetched from it is fetched no more; what came of it in pieces is kept for a
+    /// minute, so that the rest can be asked of the same peer. An older link's end is passed over.
     pub fn lower<R: Wait>(
         &mut self,
         rt: &R,

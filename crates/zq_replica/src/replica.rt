@@ -8,12 +8,15 @@ ghost use Rattle.zq_replica.specs.Sites.{place_of};
 use crate::catching::Catching;
 use crate::end::End;
 use crate::fence::Fenced;
+use crate::gathering::Gathering;
 use crate::joining::Joining;
+use crate::lives::{Portioning, lives};
 use crate::logs::Logs;
 use std::alloc::{AllocError, Global};
 use zq_dots::{Rule, SITES, SiteNo};
 use zq_follow::SiteSet;
 use zq_posheap::Seeded;
+use zq_stage::PortionLimits;
 
 /// How many operations of a heap a peer may have under way to a site at least.
 pub const LEAST_WINDOW: u64 = 256;
@@ -43,6 +46,13 @@ pub struct Replica<'l> {
     pub(crate) sources: Vec<[Option<SiteNo>; SITES]>,
     /// The heap that is fetched from a peer, if one is.
     pub(crate) catching: Option<Catching>,
+    /// The heap that comes in pieces, as far as it came: the one that is fetched, or one that broke
+    /// off and may go on.
+    pub(crate) gathering: Option<Gathering>,
+    /// The life of each heap.
+    pub(crate) lives: Vec<u64>,
+    /// How much of a heap goes at once.
+    pub(crate) limits: PortionLimits,
     /// How many beats there were since the last calm.
     pub(crate) beats: u8,
     /// What was heard since the site began.
@@ -54,7 +64,7 @@ pub struct Replica<'l> {
 impl<'l> Replica<'l> {
     /// The site of this number, with so many heaps and this rule, none of whose links to these
     /// peers is up. Each peer may have so many operations of a heap under way to it. What the heaps
-    /// make is in these logs, one for each heap.
+    /// make is in these logs, one for each heap. They go to peers in pieces so.
     pub fn new(
         alloc: Global,
         own: SiteNo,
@@ -63,6 +73,7 @@ impl<'l> Replica<'l> {
         hasher: Seeded,
         window: u64,
         logs: &'l Logs,
+        portioning: Portioning,
         peers: &[SiteNo],
     ) -> Result<Replica<'l>, AllocError>
         ensures { IfOk result (IsNewSite own heaps) }
@@ -85,6 +96,9 @@ impl<'l> Replica<'l> {
             ends,
             sources,
             catching: None,
+            gathering: None,
+            lives: lives(alloc, heaps, portioning.life)?,
+            limits: portioning.limits,
             beats: 0,
             joining: Joining::new(alloc, heaps)?,
             fenced: None,

@@ -9,7 +9,7 @@ use crate::replica::Replica;
 use std::alloc::Global;
 use std::sync::Wait;
 use zq_dots::Vector;
-use zq_links::{At, Behind, Control, Fetch, Routes, write_control};
+use zq_links::{At, Behind, Control, Fetch, Resume, Routes, write_control};
 use zq_node::{Node, NodeFault};
 
 impl Replica<'_> {
@@ -110,12 +110,13 @@ impl Replica<'_> {
         Ok(())
     }
 
-    /// Asks a peer for a heap.
+    /// Asks a peer for a heap, or for the rest of it from where a stream broke off.
     pub(crate) fn ask_for(
         &self,
         alloc: Global,
         place: usize,
         heap: u8,
+        resume: Option<Resume>,
         out: &mut Parcels,
     ) -> Result<(), NodeFault> {
         if !self.has_heap(heap) {
@@ -127,7 +128,7 @@ impl Replica<'_> {
         let fetch = Fetch {
             heaps: self.heaps,
             heap,
-            resume: None,
+            resume,
         };
         let frame = write_control(alloc, &Control::Fetch(fetch))?;
         address(out, end.peer, frame)?;

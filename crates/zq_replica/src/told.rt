@@ -5,7 +5,7 @@ ghost use Rattle.std.specs.Prelude.{false, ℕ, ◌==◌, ◌≡◌};
 ghost use Rattle.zq_replica.specs.Told as spec;
 
 use zq_dots::{Op, SiteNo};
-use zq_links::{Control, Frame, Resume};
+use zq_links::{Control, Frame, Piece, Resume};
 
 /// Whether a frame may tell of operations of this site, `own`. Operations of others tell nothing.
 pub(crate) fn may_tell(own: SiteNo, frame: &Frame) -> bool
@@ -89,6 +89,21 @@ pub(crate) fn told_by_control(own: SiteNo, heaps: u8, heap: u8, control: &Contro
             told_in(heaps, heap, fetch.heaps, fetch.heap, known)
         }
     }
+}
+
+/// How many operations of this site, `own`, the sender of a piece knows in a heap among so many: 0
+/// where the piece is of another heap.
+pub(crate) fn told_by_piece(own: SiteNo, heaps: u8, heap: u8, piece: &Piece) -> u64
+    ensures { result ≡ spec.told_by_piece own heaps heap piece.now }
+{
+    let part = &piece.part;
+    told_in(
+        heaps,
+        heap,
+        part.heaps(),
+        part.heap(),
+        part.vector().get(own),
+    )
 }
 
 /// How many operations of this site a stage of the peer has taken, where the peer has one.

@@ -4,7 +4,7 @@ use Rattle.zq_replica.proofs.replica.Replica.hear_bytes.Goals as goal
 
 pub returns-in-Ok-clause-brought : goal.returns-in-Ok-clause-brought
 returns-in-Ok-clause-brought g c =
-    brought_by c.in-Ok.frame c.args.bytes.now c.args.node.now c.hear_unless_fenced.new.node
+    brought_by c.args.self.now.gathering c.in-Ok.frame c.args.bytes.now c.args.node.now c.hear_unless_fenced.new.node
     c.in-Ok.ensures.found c.hear_unless_fenced.ensures.given
 
 pub returns-in-Ok-clause-weighed : goal.returns-in-Ok-clause-weighed

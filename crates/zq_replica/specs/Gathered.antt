@@ -1,0 +1,153 @@
+-- A heap that comes in pieces, and takes the place of a site's own.
+
+use Rattle.std.specs.Prelude.{Bool, List, None, Option, Some, [], false, suc, true, zero, ℕ, ◌∷◌, ◌≡◌, ◌⊎◌}
+use Rattle.zq_dots.specs.Placed.{Placed}
+use Rattle.zq_journal.specs.declared.since.Since.{Since}
+use Rattle.zq_journal.specs.declared.since.Since.TheVariants.{Ops, TooOld}
+use Rattle.zq_links.specs.declared.frame.Frame.TheVariants as heard
+use Rattle.zq_links.specs.declared.piece.Piece.{Piece}
+use Rattle.zq_model.specs.Image.{image_taken}
+use Rattle.zq_model.specs.Sets.{IsIn}
+use Rattle.zq_node.specs.Calls.{Asked, IsCalled, MadeNoStep, TookOver}
+use Rattle.zq_node.specs.Node.{IsSameHome, parked_of, pass_of, site_of}
+use Rattle.zq_node.specs.Work.{HasWorked, WasStopped}
+use Rattle.zq_node.specs.declared.node.Node.{Node}
+use Rattle.zq_replica.specs.Nodes.{IsGiven, Shows}
+use Rattle.zq_replica.specs.declared.exchanging.Exchange.{Exchange}
+use Rattle.zq_replica.specs.declared.exchanging.Exchange.TheVariants.{Done, Lacks, Old}
+use Rattle.zq_replica.specs.declared.gathering.Gathering.{Gathering}
+use Rattle.zq_replica.specs.declared.replica.Replica.{Replica}
+use Rattle.zq_shard.specs.Shard.{HeapImage}
+use Rattle.zq_stage.specs.Piece.{IsNextPiece}
+use Rattle.zq_transfer.specs.Transfer.{Received, after_part, begun_by}
+
+-- what came of a heap, if anything did
+abbrev pub gathered_of : Replica → Option Gathering
+gathered_of replica = replica.gathering
+
+-- ---- what comes
+
+-- the piece begins a heap, or is the next one of what came before
+abbrev pub IsNextOf : Option Gathering → Piece → Received → Type 0
+IsNextOf None p now = (p.number ≡ 0) × (now ≡ begun_by p)
+IsNextOf (Some g) p now = ((p.number ≡ 0) × (now ≡ begun_by p))
+    ⊎ (IsNextPiece g.receiving.staged p.life p.number p.part
+    × (now ≡ after_part p g.receiving))
+
+-- the piece was taken so
+abbrev pub IsAdded : Option Gathering → Piece → Option Gathering → Type 0
+IsAdded before p after = (g : Gathering) × (after ≡ Some g) × IsNextOf before p g.receiving
+
+-- all of this heap came
+abbrev pub IsWholeIn : Option Gathering → HeapImage → Type 0
+IsWholeIn None heap = ⊥
+IsWholeIn (Some g) heap = (g.receiving.staged.whole ≡ true) × (heap ≡ g.receiving.staged.held)
+
+-- the piece is the last one: with it this heap is whole
+abbrev pub IsWhole : Option Gathering → Piece → HeapImage → Type 0
+IsWhole before p heap = (now : Received) × IsNextOf before p now
+    × (now.staged.whole ≡ true) × (heap ≡ now.staged.held)
+
+-- ---- what the site makes meanwhile
+
+-- the heap after these operations, of which the last one comes first
+abbrev pub grown : List Placed → HeapImage → HeapImage
+grown [] s = s
+grown (o ∷ before) s =
+    record (grown before s) { image = image_taken o.operation (grown before s).image }
+
+-- the operation is among those that an answer has
+abbrev pub IsInAnswer : Since → Placed → Type 0
+IsInAnswer TooOld o = ⊥
+IsInAnswer (Ops ops) o = IsIn o ops.items
+
+-- the heap took operations of an answer, and nothing else
+abbrev pub HasTakenOf : Since → HeapImage → HeapImage → Type 0
+HasTakenOf answer heap now = (ops : List Placed)
+    × ((o : Placed) → IsIn o ops → IsInAnswer answer o) × (now ≡ grown ops heap)
+
+-- the site was asked what a heap lacks, the heap took operations of the answer, and then the site
+-- was asked alone what it has
+pub record HasGrown (heap now : HeapImage) (old new : Node) : Type 0 where
+  pub number : ℕ
+  pub vector : List ℕ
+  pub answer : Since
+  pub asked : Node
+  pub called : IsCalled (site_of old) (pass_of old) (pass_of asked) (Asked number vector answer)
+  pub shows : Shows old new
+  pub took : HasTakenOf answer heap now
+
+-- ---- what takes the site's place
+
+-- the site made no step
+pub record IsIdle (old new : Node) : Type 0 where
+  pub home : IsSameHome old new
+  pub parked : parked_of new ≡ parked_of old
+  pub no_step : MadeNoStep (pass_of old) (pass_of new)
+
+-- the heap was exchanged for the site's own
+pub record IsExchanged (heap : HeapImage) (old new : Node) : Type 0 where
+  pub home : IsSameHome old new
+  pub parked : parked_of new ≡ parked_of old
+  pub over : IsCalled (site_of old) (pass_of old) (pass_of new) (TookOver heap)
+
+-- so often the heap took what the site gave, and the exchange was refused
+abbrev pub AreTries : ℕ → HeapImage → HeapImage → Node → Node → Type 0
+AreTries zero heap now old new = (now ≡ heap) × (new ≡ old)
+AreTries (suc n) heap now old new = (earlier : HeapImage) × (mid grew : Node)
+    × AreTries n heap earlier old mid × HasGrown earlier now mid grew × IsIdle grew new
+
+-- the heap took what the site gave, and was exchanged for the site's own
+abbrev pub IsTaken : HeapImage → Node → Node → Type 0
+IsTaken heap old new = (now : HeapImage) × (grew : Node) × HasGrown heap now old grew
+    × IsExchanged now grew new
+
+-- the site was asked what it has, and made no step after that
+abbrev pub IsStopped : Node → Node → Type 0
+IsStopped old new = (mid : Node) × Shows old mid × IsIdle mid new
+
+-- what was parked was tried, and then the site was asked alone what it has
+pub record IsSettled (old new : Node) : Type 0 where
+  pub after : Node
+  pub home : IsSameHome old after
+  pub tried : HasWorked [] old after ⊎ WasStopped [] old after
+  pub then_asked : Shows after new
+
+-- The heap took what the site made meanwhile, and took the place of the site's own, after which what
+-- was parked was tried; or it was merged as one that came at once; or the site made no step.
+pub record HasReplaced (heap : HeapImage) (old new : Node) : Type 0 where
+  pub before : Node
+  pub asked : Shows old before
+  pub times : ℕ
+  pub now : HeapImage
+  pub mid : Node
+  pub tried : AreTries times heap now before mid
+  pub became : ((after : Node) × IsTaken now mid after × IsSettled after new)
+      ⊎ IsGiven (heard.State now) mid new ⊎ IsStopped mid new
+
+-- what came of an exchange
+abbrev pub IsCame : Exchange → HeapImage → HeapImage → Node → Node → Type 0
+IsCame Done heap now old new = IsExchanged heap old new
+IsCame Lacks heap now old new = (now ≡ heap) × IsIdle old new
+IsCame Old heap now old new = (now ≡ heap) × IsIdle old new
+
+-- what came of trying once
+abbrev pub IsTried : Exchange → HeapImage → HeapImage → Node → Node → Type 0
+IsTried Done heap now old new = IsTaken heap old new
+IsTried Lacks heap now old new = (grew : Node) × HasGrown heap now old grew × IsIdle grew new
+IsTried Old heap now old new = (grew : Node) × HasGrown heap now old grew × IsIdle grew new
+
+-- what came of trying several times
+abbrev pub AreTried : Bool → HeapImage → HeapImage → Node → Node → Type 0
+AreTried true heap now old new = (times : ℕ) × (earlier : HeapImage) × (mid : Node)
+    × AreTries times heap earlier old mid × IsTaken earlier mid new
+AreTried false heap now old new = (times : ℕ) × AreTries times heap now old new
+
+abbrev pub WereStopped : HeapImage → Node → Node → Type 0
+WereStopped heap old new = (times : ℕ) × (now : HeapImage) × (mid : Node)
+    × AreTries times heap now old mid × IsStopped mid new
+
+-- what came took the site's place where it was whole, and else the site was not asked
+abbrev pub IsFinished : Option Gathering → Node → Node → Type 0
+IsFinished came old new = (new ≡ old)
+    ⊎ ((heap : HeapImage) × IsWholeIn came heap × HasReplaced heap old new)
