@@ -3,7 +3,7 @@
 use Rattle.std.specs.Prelude.{Bool, List, None, Option, Some, [], false, if◌then◌else◌, is_some, nat_le, nat_lt, not, option_map, true, ℕ, ◌%◌, ◌&&◌, ◌+◌, ◌++◌, ◌==◌, ◌^◌, ◌∷◌, ◌≡◌, ◌⊎◌}
 use Rattle.zq_links.specs.About.{topic_at}
 use Rattle.zq_replica.specs.declared.protocol.Protocol.{Protocol}
-use Rattle.zq_replica.specs.declared.protocol.Protocol.TheVariants.{Asking, Pushing}
+use Rattle.zq_replica.specs.declared.protocol.Protocol.TheVariants.{Asking, Pushing, Streaming}
 use Rattle.zq_site.specs.FrameQueues.{bytes_of, is_empty}
 use Rattle.zq_site.specs.Heartbeat.{heartbeat}
 use Rattle.zq_site.specs.declared.link_state.Connection.{Connection}
@@ -123,6 +123,7 @@ put_about (Some topic) frame state = put_on topic frame state
 abbrev pub sent_by : {S : Type 0} → Option Protocol → List ℕ → LinkState S → LinkState S
 sent_by None frame state = state
 sent_by (Some Pushing) frame state = append_to frame state
+sent_by (Some Streaming) frame state = append_to frame state
 sent_by (Some Asking) frame state = put_about (topic_at frame) frame state
 
 abbrev pub sent : {S : Type 0} → List ℕ → LinkState S → LinkState S

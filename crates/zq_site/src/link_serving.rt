@@ -8,7 +8,7 @@ use crate::caller::Caller;
 use crate::loss::Loss;
 use crate::note::{LinkUp, Note};
 use crate::notice::{Notice, Reason, write_notice};
-use crate::opening::{PUSHING, Told, Way, open_link};
+use crate::opening::{PUSHING, STREAMING, Told, Way, open_link};
 use crate::parting::{part, reason_for};
 use crate::peer_link::{PeerLink, Raised};
 use crate::peer_links::peer_link_of;
@@ -139,8 +139,10 @@ fn protocol_of(version: u8) -> Protocol
 {
     if version < PUSHING {
         Protocol::Asking
-    } else {
+    } else if version < STREAMING {
         Protocol::Pushing
+    } else {
+        Protocol::Streaming
     }
 }
 

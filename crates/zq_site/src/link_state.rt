@@ -103,7 +103,7 @@ impl<S> LinkState<S> {
         ensures refused { OnErr result (self.new ≡ self.old) }
     {
         match self.protocol() {
-            Some(Protocol::Pushing) => self.append(frame),
+            Some(Protocol::Pushing | Protocol::Streaming) => self.append(frame),
             Some(Protocol::Asking) => {
                 if let Some(topic) = topic_of(&frame) {
                     self.put(topic, frame);

@@ -20,10 +20,13 @@ use zq_wire::{Form, NONCE, Opened, RUN, Secret, Side, Unopened, Versions, accept
 /// From this version on the sites of a link push.
 pub const PUSHING: u8 = 2;
 
+/// From this version on they give each other heaps in pieces.
+pub const STREAMING: u8 = 3;
+
 /// The versions that this site speaks.
 const SPOKEN: Versions = Versions {
     lowest: 1,
-    highest: PUSHING,
+    highest: STREAMING,
 };
 
 /// The number of the start of a site that keeps nothing over it.

@@ -21,8 +21,9 @@ use zq_dots::SiteNo;
 use zq_follow::SiteSet;
 use zq_node::Node;
 use zq_posheap::Seeded;
-use zq_replica::{Parcels, Protocol, Replica, window_for};
+use zq_replica::{PORTION, Parcels, Portioning, Protocol, Replica, window_for};
 use zq_serve::NodeWork;
+use zq_wire::RUN;
 
 /// Pushing to the peers of a site.
 #[derive(Drop)]
@@ -39,6 +40,10 @@ impl<L: Log + Wait> NodeWork for Pushing<'_, L> {
         let (shared, settings) = (self.shared, self.shared.settings);
         let heaps = settings.heaps.value() as u8;
         let window = window_of(shared, 0);
+        let portioning = Portioning {
+            life: life_of(&shared.run),
+            limits: PORTION,
+        };
         let made = Replica::new(
             shared.alloc,
             settings.site,
@@ -47,6 +52,7 @@ impl<L: Log + Wait> NodeWork for Pushing<'_, L> {
             self.hasher,
             window,
             shared.logs,
+            portioning,
             others,
         );
         match made {
@@ -58,6 +64,13 @@ impl<L: Log + Wait> NodeWork for Pushing<'_, L> {
             Err(AllocError) => shared.admission.open(),
         }
     }
+}
+
+/// The first life of this run's heaps: another run begins with another one.
+fn life_of(run: &[u8; RUN]) -> u64 {
+    run.iter()
+        .take(8)
+        .fold(0, |life: u64, byte| life << 8 | u64::from(*byte))
 }
 
 /// Hears what comes over the links, and pushes to the peers what they lack, until the site ends, or
