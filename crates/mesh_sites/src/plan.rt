@@ -14,4 +14,6 @@ pub struct SitePlan {
     pub window: u64,
     /// How many bytes each of its logs keeps.
     pub log: u64,
+    /// How many members of a heap it gives a peer at once. `None` where it knows only whole heaps.
+    pub piece: Option<usize>,
 }

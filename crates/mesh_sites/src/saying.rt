@@ -5,8 +5,11 @@ use crate::plan::HEAPS;
 use std::alloc::{AllocError, Global};
 use zq_dots::{Act, LAST_COUNTER, Op, Rule, SiteNo, Vector};
 use zq_links::{
-    At, Behind, Control, Fetch, Frame, Have, Resume, Routes, Spot, write_control, write_frame,
+    At, Behind, Control, Fetch, Frame, Have, Piece, Resume, Routes, Spot, write_control,
+    write_frame, write_piece,
 };
+use zq_posheap::Seeded;
+use zq_shard::Shard;
 
 /// How many operations a frame that is made by hand may have.
 const MOST_OPS: usize = 1_000;
@@ -25,6 +28,8 @@ pub enum Saying {
     FetchOn(u64),
     /// It has them, as a Have says.
     Have(u64),
+    /// It gives a piece of the heap, which has no member and them.
+    Piece(u64),
     /// It sends those of these numbers, in this order.
     Ops(&'static [u64]),
 }
@@ -83,6 +88,7 @@ impl Saying {
             Saying::Fetch => fetch(alloc, None)?,
             Saying::FetchOn(known) => fetch(alloc, Some(resume_of(site, *known)))?,
             Saying::Have(known) => have(alloc, peer, vector_of(site, *known))?,
+            Saying::Piece(known) => piece(alloc, &vector_of(site, *known))?,
             Saying::Ops(numbers) => ops(alloc, site, numbers)?,
         };
         Ok(bytes)
@@ -135,6 +141,17 @@ fn have(alloc: Global, from: SiteNo, vector: Vector) -> Result<Vec<u8>, AllocErr
         vector,
     };
     write_frame(alloc, &Frame::Have(have))
+}
+
+fn piece(alloc: Global, vector: &Vector) -> Result<Vec<u8>, AllocError> {
+    let part = Shard::of_vector(alloc, 0, HEAPS, Rule::High, vector, Seeded::new(0));
+    let piece = Piece {
+        life: 1,
+        number: 0,
+        next: Spot { key: 0, member: 0 },
+        part,
+    };
+    write_piece(alloc, &piece)
 }
 
 fn ops(alloc: Global, site: SiteNo, numbers: &[u64]) -> Result<Vec<u8>, StationFault> {

@@ -16,9 +16,10 @@ use zq_follow::SiteSet;
 use zq_journal::Since;
 use zq_node::Node;
 use zq_posheap::Seeded;
-use zq_replica::{Fenced, Logs, Parcels, Protocol, Replica};
+use zq_replica::{Fenced, Logs, PORTION, Parcels, Portioning, Protocol, Replica};
 use zq_shard::Shard;
 use zq_spread::{Pass, Site};
+use zq_stage::PortionLimits;
 use zq_words::Command;
 
 /// A site, the pass of its clients, its node, and what it knows of its peers.
@@ -29,6 +30,8 @@ pub struct Station<'a> {
     node: Node<'a>,
     logs: &'a Logs,
     replica: Replica<'a>,
+    /// The sites that know how to give a heap in pieces.
+    streaming: SiteSet,
     ghost clients_are: { IsPassOf site.now clients } by { pass_fact site.now clients },
     ghost node_is: { IsNode node } by { node_fact node },
 }
@@ -91,6 +94,7 @@ impl<'a> Station<'a> {
             node: Node::new(alloc, site, nodes),
             logs,
             replica: replica(alloc, &plan, logs, sites)?,
+            streaming: streaming(sites),
         })
     }
 
@@ -197,10 +201,24 @@ impl<'a> Station<'a> {
         link: u64,
         out: &mut Parcels,
     ) -> Result<(), StationFault> {
-        let protocol = Protocol::Pushing;
+        let protocol = self.protocol_with(peer);
         self.replica
             .raise(rt, alloc, &mut self.node, peer, link, protocol, out)?;
         Ok(())
+    }
+
+    /// What goes over a link to a peer: heaps in pieces, where both know how.
+    fn protocol_with(&self, peer: SiteNo) -> Protocol {
+        if self.streams_to(peer) {
+            Protocol::Streaming
+        } else {
+            Protocol::Pushing
+        }
+    }
+
+    /// Whether it gives a peer heaps in pieces: both know how.
+    pub fn streams_to(&self, peer: SiteNo) -> bool {
+        self.streaming.has(self.number()) && self.streaming.has(peer)
     }
 
     /// The link of this number to a peer is down.
@@ -249,6 +267,17 @@ impl<'a> Station<'a> {
     }
 }
 
+/// Those of the sites that know how to give a heap in pieces.
+fn streaming(sites: &[SitePlan]) -> SiteSet {
+    let mut streaming = SiteSet::empty();
+    for site in sites {
+        if site.piece.is_some() {
+            streaming = streaming.with(site.number);
+        }
+    }
+    streaming
+}
+
 /// What a site knows of the others, to none of which a link is up.
 fn replica<'l>(
     alloc: Global,
@@ -264,7 +293,16 @@ fn replica<'l>(
         }
     }
     let (own, hasher) = (plan.number, Seeded::new(0));
-    let window = plan.window;
-    let made = Replica::new(alloc, own, HEAPS, Rule::High, hasher, window, logs, &peers)?;
+    let (window, rule) = (plan.window, Rule::High);
+    let portioning = Portioning {
+        life: 1,
+        limits: PortionLimits {
+            rows: plan.piece.unwrap_or(1),
+            bytes: PORTION.bytes,
+        },
+    };
+    let made = Replica::new(
+        alloc, own, HEAPS, rule, hasher, window, logs, portioning, &peers,
+    )?;
     Ok(made)
 }

@@ -15,6 +15,8 @@ pub struct Counts {
     pub sent: u64,
     /// Whole heaps that were sent.
     pub heaps: u64,
+    /// Pieces of heaps that were sent.
+    pub pieces: u64,
     /// Links that were cut.
     pub cuts: u64,
     /// Frames that were lost, where a link was cut or on one that stayed up.
@@ -47,6 +49,7 @@ impl Counts {
             frames: 0,
             sent: 0,
             heaps: 0,
+            pieces: 0,
             cuts: 0,
             lost: 0,
             doubled: 0,
@@ -66,7 +69,8 @@ impl Counts {
                 count(&mut self.sent, dots.len() as u64);
             }
             News::Heap(_) => count(&mut self.heaps, 1),
-            News::At(_) | News::Other => {}
+            News::Piece { .. } => count(&mut self.pieces, 1),
+            News::At(_) | News::Rest { .. } | News::Other => {}
         }
     }
 
@@ -77,6 +81,7 @@ impl Counts {
         count(&mut self.frames, other.frames);
         count(&mut self.sent, other.sent);
         count(&mut self.heaps, other.heaps);
+        count(&mut self.pieces, other.pieces);
         count(&mut self.cuts, other.cuts);
         count(&mut self.lost, other.lost);
         count(&mut self.doubled, other.doubled);

@@ -4,8 +4,9 @@
 //! from the one after it. It writes a line for each that goes wrong, and in the end what was
 //! counted. In a world 2 to 5 sites of 2 heaps have links that come up and are cut; clients call,
 //! sites push, frames come, and in half of the worlds some are lost, doubled or overtake others. A
-//! site may die. In the end all links are up and nothing is lost any more: then all sites have to
-//! have the same, and all that was made at any of them.
+//! site may die. Four of five sites know how to give heaps in pieces, and two of them have to. In the
+//! end all links are up and nothing is lost any more: then all sites have to have the same, and all
+//! that was made at any of them.
 #![tactic(auto)]
 
 mod counts;
@@ -102,6 +103,7 @@ fn tell<R: Print>(rt: &R, counts: &Counts) -> io::Result<()> {
         frames,
         sent,
         heaps,
+        pieces,
         cuts,
         lost,
         doubled,
@@ -116,6 +118,7 @@ fn tell<R: Print>(rt: &R, counts: &Counts) -> io::Result<()> {
     println!(rt; "frames of operations: {frames}")?;
     println!(rt; "operations sent: {sent}")?;
     println!(rt; "whole heaps sent: {heaps}")?;
+    println!(rt; "pieces of heaps sent: {pieces}")?;
     println!(rt; "links cut: {cuts}")?;
     println!(rt; "frames lost: {lost}")?;
     println!(rt; "frames doubled: {doubled}")?;

@@ -3,7 +3,10 @@
 use crate::wrong::Wrong;
 use std::alloc::{AllocError, Global};
 use zq_dots::{Dot, Op, Vector};
-use zq_links::{Control, Frame, is_batch, is_control, read_batch_frame, read_control, read_frame};
+use zq_links::{
+    Control, Fetch, Frame, is_batch, is_control, is_piece, read_batch_frame, read_control,
+    read_frame, read_piece,
+};
 use zq_posheap::Seeded;
 
 /// What is looked at of a frame.
@@ -15,6 +18,10 @@ pub enum News {
     At(Told),
     /// A whole heap goes.
     Heap(u8),
+    /// Some members of a heap go, with what the sender has of it.
+    Piece { heap: u8, vector: Vector },
+    /// The sender asks for the rest of a heap, of which it has gathered this.
+    Rest { heap: u8, vector: Vector },
     /// Something else is said.
     Other,
 }
@@ -41,6 +48,9 @@ impl News {
         if is_batch(bytes) {
             return of_frame(alloc, read_batch_frame(alloc, bytes)?);
         }
+        if is_piece(bytes) {
+            return of_piece(alloc, bytes);
+        }
         of_frame(alloc, read_frame(alloc, bytes, Seeded::new(0))?)
     }
 
@@ -53,6 +63,14 @@ impl News {
             },
             News::At(told) => News::At(*told),
             News::Heap(heap) => News::Heap(*heap),
+            News::Piece { heap, vector } => News::Piece {
+                heap: *heap,
+                vector: *vector,
+            },
+            News::Rest { heap, vector } => News::Rest {
+                heap: *heap,
+                vector: *vector,
+            },
             News::Other => News::Other,
         })
     }
@@ -75,7 +93,19 @@ fn told_by(control: &Control, has_parked: bool) -> News {
             is_open: at.open,
             has_parked,
         }),
-        _ => News::Other,
+        Control::Fetch(fetch) => rest_of(fetch),
+        Control::Routes(_) | Control::Behind(_) => News::Other,
+    }
+}
+
+/// What the sender of a Fetch has gathered, where it has gathered some.
+fn rest_of(fetch: &Fetch) -> News {
+    match &fetch.resume {
+        Some(resume) => News::Rest {
+            heap: fetch.heap,
+            vector: resume.vector,
+        },
+        None => News::Other,
     }
 }
 
@@ -86,6 +116,15 @@ fn of_frame(alloc: Global, frame: Frame) -> Result<News, Wrong> {
         Frame::State(shard) => Ok(News::Heap(shard.heap())),
         Frame::Have(_) => Ok(News::Other),
     }
+}
+
+/// What is looked at of a piece.
+fn of_piece(alloc: Global, bytes: &[u8]) -> Result<News, Wrong> {
+    let piece = read_piece(alloc, bytes, Seeded::new(0))?;
+    Ok(News::Piece {
+        heap: piece.part.heap(),
+        vector: *piece.part.vector(),
+    })
 }
 
 /// What is looked at of operations.

@@ -12,6 +12,9 @@ const WINDOWS: [u64; 3] = [4, 20, 300];
 /// How many bytes of operations a log keeps.
 const LOGS: [u64; 5] = [300, 500, 1_000, 3_000, 30_000];
 
+/// How many members of a heap go at once.
+const PIECES: [usize; 4] = [1, 2, 3, 7];
+
 /// A world has at most so many sites.
 const MOST_SITES: usize = 5;
 
@@ -67,11 +70,18 @@ fn drawn_sites(alloc: Global, draws: &mut Draws, count: usize) -> Result<Vec<Sit
             number,
             window: draws.one_of(&WINDOWS),
             log: draws.one_of(&LOGS),
+            piece: drawn_piece(draws),
         };
         sites.reserve(1)?;
         sites.push_reserved(plan);
     }
     Ok(sites)
+}
+
+/// Draws how many members of a heap go at once, where the site knows pieces: one of five does not.
+fn drawn_piece(draws: &mut Draws) -> Option<usize> {
+    let at = draws.below(PIECES.len() + 1);
+    PIECES.get(at).copied()
 }
 
 /// Draws the links of so many sites: a tree, and of all other pairs none, half or all.

@@ -64,8 +64,10 @@ impl World<'_> {
         }
         let sent = self.counts.sent;
         let heaps = self.counts.heaps;
+        let pieces = self.counts.pieces;
         self.pass_calms(rt, alloc)?;
-        if self.counts.sent != sent || self.counts.heaps != heaps {
+        let more = self.counts.heaps != heaps || self.counts.pieces != pieces;
+        if more || self.counts.sent != sent {
             return Err(Wrong::Needless);
         }
         Ok(())

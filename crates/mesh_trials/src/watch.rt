@@ -4,7 +4,7 @@ use crate::marks::Marks;
 use crate::news::{News, Told};
 use crate::wrong::Wrong;
 use mesh_sites::HEAPS;
-use zq_dots::Dot;
+use zq_dots::{Dot, Vector};
 
 /// What went over a link in one direction, and what its sender has heard of the receiver there.
 #[derive(Clone, Copy, Debug)]
@@ -50,7 +50,13 @@ impl Watch {
                 }
                 Ok(())
             }
-            News::At(_) | News::Other => Ok(()),
+            News::Piece { heap, vector } => {
+                if let Some(watch) = self.heaps.get_mut(usize::from(*heap)) {
+                    watch.give(vector);
+                }
+                Ok(())
+            }
+            News::At(_) | News::Rest { .. } | News::Other => Ok(()),
         }
     }
 
@@ -81,7 +87,12 @@ impl Watch {
                     watch.hear(told);
                 }
             }
-            News::Heap(_) | News::Other => {}
+            News::Rest { heap, vector } => {
+                if let Some(watch) = self.heaps.get_mut(usize::from(*heap)) {
+                    watch.known.raise_all(vector);
+                }
+            }
+            News::Heap(_) | News::Piece { .. } | News::Other => {}
         }
     }
 }
@@ -98,6 +109,14 @@ impl HeapWatch {
         self.last.raise(dot.site, dot.n);
         self.known.raise(dot.site, dot.n);
         Ok(())
+    }
+
+    /// A piece goes: the receiver has what the sender had of the heap, as soon as all came. In a
+    /// stream operations go that may have gone before.
+    fn give(&mut self, vector: &Vector) {
+        self.known.raise_all(vector);
+        self.last = Marks::none();
+        self.is_shut = true;
     }
 
     /// The sender hears what the receiver has. Where the heap is opened again, or the receiver has

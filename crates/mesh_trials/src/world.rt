@@ -120,10 +120,11 @@ impl<'a> World<'a> {
             return Err(Wrong::NoPlace);
         };
         let news = News::of(alloc, &bytes, station.has_parked())?;
-        self.counts.note(&news);
         let Some(way) = self.ways.get_mut(way) else {
             return Err(Wrong::NoPlace);
         };
+        judge_form(&news, station.streams_to(way.peer))?;
+        self.counts.note(&news);
         way.watch.send(&news)?;
         way.frames.reserve(1)?;
         way.frames.push_back_reserved(Sent { bytes, news });
@@ -279,6 +280,15 @@ impl<'a> World<'a> {
         let mut out = Vec::new(alloc);
         station.beat(rt, alloc, &mut out)?;
         self.put(alloc, place, out)
+    }
+}
+
+/// Whether a heap goes in the form that both sites know: in pieces, or at once.
+fn judge_form(news: &News, in_pieces: bool) -> Result<(), Wrong> {
+    match news {
+        News::Heap(heap) if in_pieces => Err(Wrong::Form(*heap)),
+        News::Piece { heap, .. } if !in_pieces => Err(Wrong::Form(*heap)),
+        _ => Ok(()),
     }
 }
 

@@ -21,6 +21,8 @@ pub enum Wrong {
     Gap(Dot),
     /// This operation went twice over a link that lost nothing.
     Twice(Dot),
+    /// This heap went at once between sites that know pieces, or in pieces to one that knows none.
+    Form(u8),
     /// The sites go on sending for ever.
     Restless,
     /// Nothing was lost, and sites take more than some beats to have the same.
@@ -44,6 +46,7 @@ impl fmt::Display for Wrong {
             Wrong::Unread(fault) => write!(f, "unread: {fault:?}"),
             Wrong::Gap(dot) => write!(f, "a gap before {dot:?}"),
             Wrong::Twice(dot) => write!(f, "sent twice: {dot:?}"),
+            Wrong::Form(heap) => write!(f, "heap {heap} went in a form that does not fit"),
             Wrong::Restless => write!(f, "it does not come to rest"),
             Wrong::Late => write!(f, "sites take long to have the same"),
             Wrong::Needless => write!(f, "operations are sent though all sites have the same"),

@@ -12,7 +12,7 @@ use herald::Herald;
 use log::sink::Locked;
 use log::{LevelFilter, Logged};
 use places::{Place, free_places, settings_at, settings_of, settings_with};
-use recorded::{version_1, version_2};
+use recorded::{version_1, version_2, version_3};
 use std::alloc::Global;
 use std::net::{Net, TcpListener, TcpStream};
 use std::random::RandomSource;
@@ -279,6 +279,25 @@ fn a_conversation_of_version_2_is_understood(rt: HostRuntime) -> Result<(), Fail
     let settings = settings_with(alloc, *greater, &[*peer, *greater], None, "alone = 0\n")?;
     let listener = TcpListener::bind(&rt, peer.door())?;
     let guests = Guests::Accepts(&listener, &version_2::ACCEPTED, b"$5\r\n60000\r\n");
+    let log = logged_with(&rt, alloc, &settings, &guests, greater.clients)?;
+    assert!(rt; !is_logged(&log, &["dropped"])?);
+    Ok(())
+}
+
+#[test]
+fn a_conversation_of_version_3_is_understood(rt: HostRuntime) -> Result<(), Fail> {
+    let alloc = rt.alloc();
+    let places = free_places(&rt, alloc, rt.process(), 3)?;
+    let [lesser, peer, greater] = places.as_slice() else {
+        return Err("three places".into());
+    };
+    let settings = settings_with(alloc, *lesser, &[*lesser], None, "alone = 0\n")?;
+    let guests = Guests::Dials(lesser.door(), &version_3::DIALLED);
+    let log = logged_with(&rt, alloc, &settings, &guests, lesser.clients)?;
+    assert!(rt; !is_logged(&log, &["dropped"])?);
+    let settings = settings_with(alloc, *greater, &[*peer, *greater], None, "alone = 0\n")?;
+    let listener = TcpListener::bind(&rt, peer.door())?;
+    let guests = Guests::Accepts(&listener, &version_3::ACCEPTED, b"$5\r\n60000\r\n");
     let log = logged_with(&rt, alloc, &settings, &guests, greater.clients)?;
     assert!(rt; !is_logged(&log, &["dropped"])?);
     Ok(())

@@ -1,16 +1,17 @@
 //! Sites that lack more than the logs have.
 
 use crate::scenes::Step::{
-    Beats, Cut, Differ, Hear, Link, Lose, Push, Put, Run, Same, Sent, Settle, Tick, Went,
+    Beats, Cut, Differ, Hear, Link, Lose, Pieces, Push, Put, Run, Same, Sent, Settle, Tick, Went,
 };
-use crate::scenes::{Step, play};
-use crate::traffic::Kind::{At, Behind, Fetch, Routes, State};
+use crate::scenes::{Step, play, play_whole};
+use crate::traffic::Kind::{At, Behind, Fetch, Piece, Routes};
 
 /// A log of so many bytes has fewer than 100 operations: each takes more than 50.
 const SHORT: u64 = 5_000;
 
-/// A site that was away lacks more than the logs have, and is given whole heaps.
-const BEHIND: [Step; 15] = [
+/// A site that was away lacks more than the logs have, and is given both heaps. Of 1,000 members
+/// 500 lie in each, as the lowest bits of their digits say.
+const BEHIND: [Step; 16] = [
     Link(0, 1),
     Settle,
     Put(0, 10),
@@ -23,14 +24,84 @@ const BEHIND: [Step; 15] = [
     Link(0, 1),
     Settle,
     Same(1000),
+    Pieces(10),
     Run(0, "ZADD q 1 new 2 newer"),
     Settle,
     Same(1002),
 ];
 
 #[test]
-fn a_site_far_behind_is_given_whole_heaps(rt: HostRuntime) {
+fn a_site_far_behind_is_given_heaps_in_pieces(rt: HostRuntime) {
     play(&rt, rt.alloc(), 2, SHORT, &BEHIND);
+}
+
+/// The same of sites that know no pieces.
+const WHOLE: [Step; 7] = [
+    Put(0, 1000),
+    Link(0, 1),
+    Settle,
+    Same(1000),
+    Went(0, 2),
+    Pieces(0),
+    Same(1000),
+];
+
+#[test]
+fn a_site_that_knows_no_pieces_is_given_whole_heaps(rt: HostRuntime) {
+    play_whole(&rt, rt.alloc(), 2, SHORT, &WHOLE);
+}
+
+/// The link is cut when two pieces came, and both sites make something. The stream goes on behind
+/// them over the next link: of both heaps 10 pieces go, and none twice.
+const RESUMED: [Step; 19] = [
+    Put(0, 1000),
+    Link(0, 1),
+    Hear(10),
+    Push,
+    Hear(2),
+    Hear(1),
+    Push,
+    Hear(1),
+    Push,
+    Hear(1),
+    Pieces(2),
+    Cut(0, 1),
+    Run(0, "ZREM q m0 m1 m2 m3"),
+    Run(0, "ZADD q 1 new"),
+    Run(1, "ZADD q 2 newer"),
+    Link(0, 1),
+    Settle,
+    Same(998),
+    Pieces(8),
+];
+
+#[test]
+fn a_stream_that_broke_off_goes_on(rt: HostRuntime) {
+    play(&rt, rt.alloc(), 2, SHORT, &RESUMED);
+}
+
+/// A piece is lost on a link that stays up: the one behind it does not follow, and the heap is
+/// asked for from its beginning.
+const LOST: [Step; 14] = [
+    Put(0, 1000),
+    Link(0, 1),
+    Hear(10),
+    Push,
+    Hear(2),
+    Hear(1),
+    Push,
+    Hear(1),
+    Push,
+    Lose(0, 1),
+    Pieces(2),
+    Settle,
+    Same(1000),
+    Went(0, 2),
+];
+
+#[test]
+fn a_heap_of_which_a_piece_was_lost_comes_anew(rt: HostRuntime) {
+    play(&rt, rt.alloc(), 2, SHORT, &LOST);
 }
 
 /// Site 1 is told twice of each heap that it is behind, the second time while one is on its way to
@@ -45,10 +116,10 @@ const ONCE: [Step; 13] = [
     Tick(5),
     Hear(6),
     Push,
-    Sent(&[(At, 4), (State, 1), (Behind, 2)]),
+    Sent(&[(At, 4), (Piece, 1), (Behind, 1)]),
     Settle,
     Same(1000),
-    Sent(&[(State, 1), (Fetch, 1), (At, 4)]),
+    Sent(&[(Piece, 9), (Fetch, 1), (At, 4)]),
 ];
 
 #[test]
@@ -75,7 +146,9 @@ fn a_new_site_is_given_each_heap_by_one_peer(rt: HostRuntime) {
     play(&rt, rt.alloc(), 3, SHORT, &JOINER);
 }
 
-/// What site 1 makes while a heap is on its way to it goes to 0 as operations.
+/// What site 1 makes while a heap is on its way to it goes to 0 as operations. Two of the members,
+/// w and y, lie in heap 0, of which a piece is on its way by then: they come back in front of the
+/// next one.
 const MEANWHILE: [Step; 9] = [
     Put(0, 1000),
     Link(0, 1),
@@ -85,7 +158,7 @@ const MEANWHILE: [Step; 9] = [
     Run(1, "ZADD q 1 v 2 w 3 x 4 y 5 z"),
     Settle,
     Same(1005),
-    Went(5, 2),
+    Went(7, 2),
 ];
 
 #[test]

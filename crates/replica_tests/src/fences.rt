@@ -2,7 +2,7 @@
 
 use crate::scenes::{ROOMY, WINDOW};
 use crate::world::number;
-use mesh_sites::Saying::{At, Behind, Fetch, FetchOn, Have, Ops};
+use mesh_sites::Saying::{At, Behind, Fetch, FetchOn, Have, Ops, Piece};
 use mesh_sites::{Saying, SitePlan, Station, open_all, seat_all};
 use std::alloc::Global;
 use std::process::Abort;
@@ -17,7 +17,7 @@ const MADE: [&str; 3] = ["ZADD q 1 a", "ZADD q 2 c", "ZADD q 3 e"];
 
 /// What site 1 says to site 0, which has made nothing, and of how many operations of site 0 in heap
 /// 0 site 0 learns by that, if it is fenced.
-const BEFORE: [(Saying, Option<u64>); 15] = [
+const BEFORE: [(Saying, Option<u64>); 17] = [
     (At(0), None),
     (At(1), Some(1)),
     (Behind(0), None),
@@ -28,6 +28,8 @@ const BEFORE: [(Saying, Option<u64>); 15] = [
     (FetchOn(1), Some(1)),
     (Have(0), None),
     (Have(2), Some(2)),
+    (Piece(0), None),
+    (Piece(2), Some(2)),
     (Ops(&[]), None),
     (Ops(&[1]), Some(1)),
     (Ops(&[3, 2, 1]), Some(3)),
@@ -36,7 +38,7 @@ const BEFORE: [(Saying, Option<u64>); 15] = [
 ];
 
 /// The same, where site 0 has made three operations of heap 0.
-const AFTER: [(Saying, Option<u64>); 13] = [
+const AFTER: [(Saying, Option<u64>); 15] = [
     (At(3), None),
     (At(4), Some(4)),
     (Behind(2), None),
@@ -46,6 +48,8 @@ const AFTER: [(Saying, Option<u64>); 13] = [
     (FetchOn(4), Some(4)),
     (Have(3), None),
     (Have(4), Some(4)),
+    (Piece(3), None),
+    (Piece(4), Some(4)),
     (Ops(&[3, 2, 1]), None),
     (Ops(&[4, 3]), Some(4)),
     (Ops(&[5, 4]), Some(5)),
@@ -58,6 +62,7 @@ fn plans(rt: &impl Abort) -> [SitePlan; 2] {
         number: number(rt, site),
         window: WINDOW,
         log: ROOMY,
+        piece: Some(1),
     })
 }
 

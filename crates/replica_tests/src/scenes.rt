@@ -13,6 +13,9 @@ pub const WINDOW: u64 = 256;
 /// More bytes than a log takes of all that a scene makes.
 pub const ROOMY: u64 = 1_000_000;
 
+/// How many members of a heap go at once.
+const PIECE: usize = 100;
+
 /// What is done in a scene.
 #[derive(Clone, Copy)]
 pub enum Step {
@@ -36,8 +39,11 @@ pub enum Step {
     Tick(u32),
     /// So many seconds go by at all sites, and all comes to rest after each.
     Beats(u32),
-    /// So many operations went over links since the last such step, and so many whole heaps.
+    /// So many operations went over links since the last such step, and so many heaps, at once or
+    /// to their last piece.
     Went(u64, u64),
+    /// So many pieces of heaps went over links since the last such step.
+    Pieces(u64),
     /// So many frames of each of these kinds went over links since the last such step, and no
     /// others.
     Sent(&'static [(Kind, usize)]),
@@ -48,25 +54,41 @@ pub enum Step {
 }
 
 /// Plays the steps at so many sites, which have done nothing. Their logs have at most so many bytes
-/// each.
+/// each. They give each other heaps in pieces.
 pub fn play<R: Wait + Abort>(rt: &R, alloc: Global, sites: u8, log: u64, steps: &[Step]) {
-    let plans = plans(rt, alloc, sites, log);
-    let mut opened = open_all(alloc, &plans).expect(rt, "sites");
-    let stations = seat_all(alloc, &mut opened, &plans).expect(rt, "stations");
-    let mut world = World::new(alloc, stations, sites);
+    play_at(rt, alloc, &plans(rt, alloc, sites, log, Some(PIECE)), steps);
+}
+
+/// The same where the sites know no pieces.
+pub fn play_whole<R: Wait + Abort>(rt: &R, alloc: Global, sites: u8, log: u64, steps: &[Step]) {
+    play_at(rt, alloc, &plans(rt, alloc, sites, log, None), steps);
+}
+
+/// Plays the steps at these sites, which have the numbers from 0 on.
+fn play_at<R: Wait + Abort>(rt: &R, alloc: Global, plans: &[SitePlan], steps: &[Step]) {
+    let mut opened = open_all(alloc, plans).expect(rt, "sites");
+    let stations = seat_all(alloc, &mut opened, plans).expect(rt, "stations");
+    let mut world = World::new(alloc, stations, plans.len() as u8);
     for (at, step) in steps.iter().enumerate() {
         assert!(rt; does(rt, alloc, &mut world, *step), "step {at}, from 0 on");
     }
 }
 
 /// What so many sites are to be, with the numbers from 0 on.
-fn plans(rt: &impl Abort, alloc: Global, sites: u8, log: u64) -> Vec<SitePlan> {
+fn plans(
+    rt: &impl Abort,
+    alloc: Global,
+    sites: u8,
+    log: u64,
+    piece: Option<usize>,
+) -> Vec<SitePlan> {
     let mut plans = Vec::new(alloc);
     for site in 0..sites {
         let plan = SitePlan {
             number: number(rt, site),
             window: WINDOW,
             log,
+            piece,
         };
         plans.push(plan).expect(rt, "memory");
     }
@@ -87,6 +109,7 @@ fn does<R: Wait + Abort>(rt: &R, alloc: Global, world: &mut World<'_>, step: Ste
         Step::Tick(count) => pass(rt, alloc, world, count, false),
         Step::Beats(count) => pass(rt, alloc, world, count, true),
         Step::Went(operations, heaps) => return world.traffic.take_went(operations, heaps),
+        Step::Pieces(pieces) => return world.traffic.take_pieces(pieces),
         Step::Sent(frames) => return world.traffic.take_frames(frames),
         Step::Same(members) => return are_same(rt, alloc, world, members),
         Step::Differ(one, other) => return !world.is_same(rt, alloc, one, other),

@@ -10,13 +10,15 @@ pub enum Kind {
     Ops,
     /// A whole heap.
     State,
+    /// Some members of a heap.
+    Piece,
     /// Whom the sender has links to, and what it asks for.
     Routes,
     /// What the sender has of a heap.
     At,
     /// The receiver lacks what the log has no more.
     Behind,
-    /// The sender asks for a whole heap.
+    /// The sender asks for a heap, or for the rest of it.
     Fetch,
     /// Something else.
     Other,
@@ -27,9 +29,11 @@ pub enum Kind {
 pub struct Traffic {
     /// What each frame was, in the order in which they went.
     frames: Vec<Kind>,
-    /// How many operations went, and how many whole heaps.
+    /// How many operations went, and how many heaps, at once or to their last piece.
     operations: u64,
     heaps: u64,
+    /// How many pieces of heaps went.
+    pieces: u64,
 }
 
 impl Kind {
@@ -42,6 +46,7 @@ impl Kind {
             Some(7) => Kind::At,
             Some(8) => Kind::Behind,
             Some(9) => Kind::Fetch,
+            Some(10) => Kind::Piece,
             _ => Kind::Other,
         }
     }
@@ -60,6 +65,11 @@ fn operations_in(bytes: &[u8]) -> u64 {
     }
 }
 
+/// Whether no piece follows this one: behind kind, life and number both its places are 0.
+fn is_last(bytes: &[u8]) -> bool {
+    bytes.iter().skip(13).take(16).all(|byte| *byte == 0)
+}
+
 impl Traffic {
     /// Nothing went.
     pub fn none(alloc: Global) -> Traffic {
@@ -67,6 +77,7 @@ impl Traffic {
             frames: Vec::new(alloc),
             operations: 0,
             heaps: 0,
+            pieces: 0,
         }
     }
 
@@ -75,10 +86,20 @@ impl Traffic {
         let kind = Kind::of(bytes);
         self.frames.push(kind).expect(rt, "memory");
         self.operations = self.operations.saturating_add(operations_in(bytes));
-        self.heaps = self.heaps.saturating_add(u64::from(kind == Kind::State));
+        let ends = kind == Kind::State || (kind == Kind::Piece && is_last(bytes));
+        self.heaps = self.heaps.saturating_add(u64::from(ends));
+        let pieces = u64::from(kind == Kind::Piece);
+        self.pieces = self.pieces.saturating_add(pieces);
     }
 
-    /// Whether so many operations went, and so many whole heaps, since this was asked last.
+    /// Whether so many pieces of heaps went since this was asked last.
+    pub fn take_pieces(&mut self, pieces: u64) -> bool {
+        let went = self.pieces == pieces;
+        self.pieces = 0;
+        went
+    }
+
+    /// Whether so many operations went, and so many heaps, since this was asked last.
     pub fn take_went(&mut self, operations: u64, heaps: u64) -> bool {
         let went = self.operations == operations && self.heaps == heaps;
         self.operations = 0;

@@ -282,7 +282,7 @@ pub fn break_twice<R: Clock>(rt: &R, alloc: Global, listener: &TcpListener) -> R
     if !first_soon && !then_soon {
         return Err("a Have comes late".into());
     }
-    let said = range_greeting(1, 0, 2);
+    let said = range_greeting(1, 0, 3);
     if heard.get(..14) == said.get(..14) && heard.get(59) == Some(&5) {
         return Ok(());
     }

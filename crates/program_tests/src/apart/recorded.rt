@@ -1,12 +1,13 @@
 //! Conversations of two sites, as they were recorded between programs of each version of the links:
-//! site 5 dialled site 1, both of two heaps, under the rule HIGH and without a secret. Site 1 had put
-//! `a` so often that its heap 0 goes whole. Then site 5 put `b` by 4, and site 1 added 2 to that, and
-//! put `c` by 7 and `d` by 8. `b` and `d` are of heap 1.
+//! site 5 dialled site 1, both of two heaps, under the rule HIGH and without a secret. Site 1 had
+//! put `a` so often that its heap 0 is fetched: it goes at once, or in one piece. Then site 5 put `b`
+//! by 4, and site 1 added 2 to that, and put `c` by 7 and `d` by 8. `b` and `d` are of heap 1.
 //!
 //! A change of frames adds one here, which `bench/recorded.py` prints.
 
 pub mod version_1;
 pub mod version_2;
+pub mod version_3;
 
 use super::clients::is_answered;
 use super::places::connect;
