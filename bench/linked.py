@@ -26,7 +26,7 @@ PATIENCE, PAUSE = 60, 0.002
 BATCH, FLIGHT = 1000, 32
 # The names of kinds of frames.
 NAMES = {1: "Have", 2: "Ops", 3: "State", 4: "Have", 5: "Have", 6: "Routes", 7: "At", 8: "Behind", 9: "Fetch", 10: "Piece", 11: "Batch"}
-STATE = 3
+STATE, PIECE = 3, 10
 KINDS = set(NAMES)
 
 
@@ -95,6 +95,9 @@ class Counters:
         counts = {kind: int(self.since(other, f"frames.{kind}")) for kind in sorted(kinds)}
         return {kind: count for kind, count in counts.items() if count}
 
+    def largest(self):
+        """The bytes of the largest frame that went so far, 0 where none went."""
+        return max((value for (_, _, what), value in self.values.items() if what.startswith("largest.")), default=0)
 
     def are_known(self):
         """Whether all bytes were a greeting of sites and frames of known kinds."""

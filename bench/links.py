@@ -6,7 +6,8 @@ that delays and counts what they carry. Sites have 4 heaps and 2 workers, keys 1
              3 sites are written to at rates from 100 to 100,000 a second in all
     fresh    milliseconds from a write at one site until it can be read at another one, at rest and beside writers
     away     a link is cut for 10 seconds beside writers: seconds after it is back until all made before is at both sites, and by what
-    join     an empty site comes: seconds until it has all, what went for it, and the longest call of a client at the old site meanwhile
+    join     an empty site comes: seconds until it has all, what went for it, the longest call of a client at either site meanwhile, and
+             the processor time of the busiest thread of each
     catch    operations a second that a site takes which was cut off while they were made
     cost     processor time of sending an operation: of the process of the site that is written to, with peers and without
     slow     how much the memory of a site grows whose peer takes nothing, or next to nothing, beside a writer
@@ -34,13 +35,15 @@ import linked
 import links_tried
 import served
 from apart import Client
-from linked import KEY, NAMES, STATE, Idle, Replicated, Sites
+from linked import KEY, NAMES, PIECE, STATE, Idle, Replicated, Sites
 
 MIB = 1 << 20
 # The most memory that a site may take in the row `large` before the row is given up.
 MOST_MEMORY = 2048 * MIB
 # A site whose peer takes nothing may keep this much for it: a log, and what is under way.
 MOST_KEPT = 65 * MIB
+# The most bytes that a frame may have where heaps go in pieces.
+MOST_PIECE = 3 * MIB
 
 
 class Sizes:
@@ -55,6 +58,8 @@ class Sizes:
         self.fresh = [(0.0005, 0, 0), (0.05, 10000, 0)] if is_quick else [
             (delay, rate, members) for delay in self.delays for members in (0, 1000000) for rate in (0, 10000, 50000)]
         self.members = 100000 if is_quick else 1000000
+        # More operations than the logs reach back, so that heaps are sent.
+        self.joined = 1000000
         self.away = 2 if is_quick else 10
         self.backlog = 100000 if is_quick else 500000
         self.slow = 3 if is_quick else 600 if is_long else 60
@@ -230,32 +235,48 @@ def measure_away(bench):
 # join
 
 def join_of(group, members, rate, sizes):
+    """What an empty server takes to have all that the first one has. Clients that write call both meanwhile, but for a replica."""
     group.fill(members)
-    with Idle() as idle, group.write(rate, 1000, members, servers=[0]) as writer, group.calls() as calls:
+    with Idle() as idle, contextlib.ExitStack() as held:
+        writer = held.enter_context(group.write(rate, 1000, members, servers=[0]))
+        calls = [held.enter_context(group.calls(0))]
         time.sleep(1)
-        mark, before = group.mark([0]), group.counted()
+        mark, before, busy = group.mark([0]), group.counted(), group.busy_by_thread(0)
         begin = time.monotonic()
         group.start(1)
+        if 1 in group.writable:
+            calls.append(held.enter_context(group.calls(1, b"other:0002")))
         took = group.seconds_until(mark, sizes.patience, [1])
         seconds = None if took is None else time.monotonic() - begin
         after = group.counted()
-        longest = calls.stop()["longest_ms"]
+        spent = [busiest(group.busy_by_thread(0), busy), busiest(group.busy_by_thread(1), {})]
+        longest = [each.stop()["longest_ms"] for each in calls]
         writer.stop()
-    return {"seconds": seconds, "longest": longest, "states": after.since(before, f"frames.{STATE}"),
-            "state_bytes": after.since(before, f"bytes.{STATE}"),
-            "bytes": after.since(before, "bytes"), "frames": after.frames_since(before), "idle": idle.share,
+    return {"seconds": seconds, "longest": longest, "busiest": spent, "states": after.since(before, f"frames.{STATE}"),
+            "pieces": after.since(before, f"frames.{PIECE}"), "piece_bytes": after.since(before, f"bytes.{PIECE}"),
+            "largest": after.largest(), "bytes": after.since(before, "bytes"), "frames": after.frames_since(before), "idle": idle.share,
             "is_alike": group.are_alike(sizes.patience)}
 
 
+def busiest(after, before):
+    """The most seconds that a thread was busy in between."""
+    return max(seconds - before.get(thread, 0.0) for thread, seconds in after.items())
+
+
 def measure_join(bench):
-    members = bench.sizes.members
+    members = bench.sizes.joined
     ours, theirs = bench.both(lambda group: join_of(group, members, 10000, bench.sizes), 2, 0.0005, start=1)
     case = f"2 sites, 0.5 ms, 10,000/s, {members:,} members" + ("" if ours["is_alike"] else ", not alike in the end")
     idle = (ours["idle"], theirs["idle"])
     bench.report.add("join", case, "s until it has all", ours["seconds"], theirs["seconds"], most=3, idle=idle)
-    bench.report.add("join", case, "longest call, ms", ours["longest"], theirs["longest"], most=20, idle=idle)
-    bench.report.add("join", case, "State frames", ours["states"], idle=idle, digits=0)
-    bench.report.add("join", case, "MB in State frames", ours["state_bytes"] / 1e6, idle=idle)
+    bench.report.add("join", case, "longest call at the old site, ms", ours["longest"][0], theirs["longest"][0], most=20, idle=idle)
+    bench.report.add("join", case, "longest call at the new one, ms", ours["longest"][1], most=20, idle=idle)
+    for place, name in enumerate(("old site", "new one")):
+        bench.report.add("join", case, f"s of the busiest thread of the {name}", ours["busiest"][place], theirs["busiest"][place], idle=idle)
+    bench.report.add("join", case, "State frames", ours["states"], most=0, idle=idle, digits=0)
+    bench.report.add("join", case, "pieces", ours["pieces"], idle=idle, digits=0)
+    bench.report.add("join", case, "MB in pieces", ours["piece_bytes"] / 1e6, idle=idle)
+    bench.report.add("join", case, "MB of the largest frame", ours["largest"] / 1e6, most=MOST_PIECE / 1e6, idle=idle)
     bench.report.add("join", case, "MB in all", ours["bytes"] / 1e6, theirs["bytes"] / 1e6, idle=idle)
     bench.report.add("join", case, "frames", frames_told(ours["frames"]), idle=idle)
 

@@ -74,7 +74,7 @@ OPENLY = b"zq-peer\n" + bytes([1, 3, 4, 0, 0]) + framed(b"\x05have", ops(3, 200)
 BY_SECRET = (b"zq-peer\n" + bytes([0, 1, 2, 3, 4, 0]) + b"r" * 16 + b"t" * 8 + b"c" * 32 + b"\x01" + b"n" * 16 + b"a" * 32
              + framed(b"\x07at", ops(5, 90), b"\x07at again", b"\x02"))
 WANTED = {"out": {"operations": 70003, "unread": 0, "frames.5": 1, "frames.2": 2, "frames.3": 1, "frames.1": 1, "bytes.3": 100005,
-                  "bytes.2": 4 + 205 + 4 + 5, "bytes": len(OPENLY)},
+                  "largest.3": 100005, "largest.2": 4 + 205, "bytes.2": 4 + 205 + 4 + 5, "bytes": len(OPENLY)},
           "back": {"operations": 5, "unread": 0, "frames.7": 2, "frames.2": 2, "bytes.7": 7 + 13, "bytes": len(BY_SECRET)}}
 
 

@@ -15,9 +15,9 @@
 //   count             says its counters: a line for each, of the pair, its direction and name, and a number; then a full stop
 //
 // Each other line is answered by `done`. Direction `out` is from who dialled, `back` to it. Counters of a direction: `bytes`;
-// `unread`, those of them that are no greeting and no frame; `operations`; `frames.K` and `bytes.K`, of frames of kind K,
-// with the four bytes of their length. Counters of a pair, in direction `link`: `accepted`; `open`; `since`, the time at
-// which the latest one that was carried on was accepted.
+// `unread`, those of them that are no greeting and no frame; `operations`; `frames.K`, `bytes.K` and `largest.K`, of frames
+// of kind K, with the four bytes of their length. Counters of a pair, in direction `link`: `accepted`; `open`; `since`, the
+// time at which the latest one that was carried on was accepted.
 // Status 3 where the words are wrong.
 #define _GNU_SOURCE
 #define PROGRAM "relay"
@@ -35,7 +35,7 @@
 #define ANSWER 32
 
 struct counters {
-    uint64_t bytes, unread, operations, frames[KINDS], frame_bytes[KINDS];
+    uint64_t bytes, unread, operations, frames[KINDS], frame_bytes[KINDS], largest[KINDS];
 };
 
 enum stage { GREETING, OLD_WORDS, NEW_WORDS, RUN, LENGTH, HEAD, LOST };
@@ -104,8 +104,10 @@ static void begin_frames(struct reader *it, int has_secret) {
 
 static void end_head(struct reader *it, struct counters *counters) {
     unsigned kind = it->head[0];
+    uint64_t size = 4 + (uint64_t)it->length;
     counters->frames[kind]++;
-    counters->frame_bytes[kind] += 4 + (uint64_t)it->length;
+    counters->frame_bytes[kind] += size;
+    if (counters->largest[kind] < size) counters->largest[kind] = size;
     if (kind == 2 && it->held == 5) counters->operations += number_at(it->head + 1);
     // (at most 4,096: a number of two bytes, of seven bits each, the lowest first)
     if (kind == 11 && it->held == 5) counters->operations += (it->head[3] & 127) + (it->head[3] & 128 ? (it->head[4] & 127) << 7 : 0);
@@ -306,6 +308,7 @@ static void print_counters(void) {
                 if (!it->frames[kind]) continue;
                 printf("%zu %s frames.%d %lu\n%zu %s bytes.%d %lu\n", at, way, kind, it->frames[kind], at, way, kind,
                        it->frame_bytes[kind]);
+                printf("%zu %s largest.%d %lu\n", at, way, kind, it->largest[kind]);
             }
         }
     }
