@@ -9,3 +9,4 @@ pub mod Mailboxes
 pub mod Memory
 pub mod Announced
 pub mod Limits
+pub mod Rewriting

@@ -8,6 +8,7 @@ use crate::admitting::Admitting;
 use crate::counting::Counting;
 use crate::inboxes::Inboxes;
 use crate::notifier::Ticks;
+use crate::rewriting::Rewriting;
 use crate::ticking::Ticking;
 use std::sync::Wait;
 use std::time::Clock;
@@ -17,18 +18,19 @@ use zq_spread::Draws;
 
 /// A server of the pass's site, with these draws, which answers behind the site's gate, where it
 /// has one, and tells of each answer by a Tick in the site's mailbox, where it has one. Commands
-/// that the site does not admit are refused, and do not wait. All answers are counted, where there
-/// are counters.
+/// that the site does not admit are refused, and do not wait. Requests of a site of its own process
+/// are rewritten before. All answers are counted, where there are counters.
 pub fn answerer_of<'b, 'a, R: Wait + Clock>(
     rt: &'b R,
     own: &'b mut SitePass<'a>,
     draws: Draws,
     inboxes: Inboxes<'b>,
     counters: Option<&'b WorkerCounters>,
-) -> Counting<'b, Admitting<'b, Ticking<Passing<'b, 'a, R>, Ticks<'b, R>>>>
-    ensures server { let server = result.answerer.answerer.answerer in
+) -> Counting<'b, Rewriting<Admitting<'b, Ticking<Passing<'b, 'a, R>, Ticks<'b, R>>>>>
+    ensures server { let server = result.answerer.answerer.answerer.answerer in
         passed_by server.own.now server.draws ≡ passed_by own.old draws }
-    ensures mailbox { option_copied result.answerer.answerer.notifier.mailbox
+    ensures mailbox { option_copied
+        result.answerer.answerer.answerer.notifier.mailbox
         ≡ inbox_of inboxes.entry own.old.site.now.number }
 {
     let mailbox = inboxes.of(own.site.number());
@@ -39,6 +41,10 @@ pub fn answerer_of<'b, 'a, R: Wait + Clock>(
     let answerer = Admitting {
         answerer,
         admission: inboxes.admission(),
+    };
+    let answerer = Rewriting {
+        answerer,
+        rewrites: inboxes.rewrites(),
     };
     Counting { answerer, counters }
 }

@@ -46,6 +46,14 @@ impl<'a> Inboxes<'a> {
         }
     }
 
+    /// Whether requests are rewritten: those of a site of its own process are.
+    pub(crate) fn rewrites(self) -> bool {
+        match self {
+            Inboxes::Each(_) => false,
+            Inboxes::One(_, _, _, _) => true,
+        }
+    }
+
     /// What counts commands, where something does.
     pub(crate) fn counters(self) -> Option<&'a Counters> {
         match self {

@@ -24,6 +24,7 @@ mod memory_guard;
 mod notifier;
 mod plans;
 mod ports;
+mod rewriting;
 mod running;
 mod serving;
 mod threads;

@@ -1,0 +1,15 @@
+pub mod Numerals
+pub mod Points
+pub mod Values
+pub mod Sides
+pub mod BoundValues
+pub mod Written
+pub mod Kept
+pub mod Limits
+pub mod OlderNames
+pub mod Splitting
+pub mod Places
+pub mod Copies
+pub mod Capped
+pub mod Refusing
+pub mod Others

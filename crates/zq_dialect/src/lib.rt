@@ -1,0 +1,26 @@
+//! Requests as other clients of Redis send them, rewritten word by word into requests that
+//! `zq_words` reads: older names of commands, and numbers in other spellings.
+//!
+//! The definitions are in `specs/`. The functions that do nothing stand for laws of them.
+#![tactic(auto)]
+
+mod bounds;
+mod building;
+mod digits;
+mod ends;
+mod flags;
+mod laws;
+mod name;
+mod number;
+mod older;
+mod plain;
+mod rewriting;
+mod rounded;
+mod scores;
+mod word;
+
+pub use laws::{bounds_take_the_same, older_names, other_names, values_stay};
+pub use rewriting::rewritten;
+
+#[cfg(test)]
+mod tests;

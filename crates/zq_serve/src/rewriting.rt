@@ -1,0 +1,37 @@
+//! What answers requests as the commands that they stand for.
+
+ghost use Rattle.std.specs.Prelude.{◌≡◌, ◌⊎◌};
+ghost use Rattle.zq_serve.specs.Rewriting.{IsAnsweredAs};
+
+use std::alloc::Global;
+use zq_dialect::rewritten;
+use zq_resp::{Reply, Request};
+use zq_session::Answers;
+
+/// Answers a request as the answerer inside answers the one that is read in its place: commands by
+/// older names, and numbers in other spellings. What is refused there changes nothing, and the
+/// answerer inside is not asked. Where nothing is rewritten each request is read as it came.
+#[derive(Drop)]
+pub struct Rewriting<A: Answers> {
+    pub(crate) answerer: A,
+    pub(crate) rewrites: bool,
+}
+
+impl<A: Answers> Answers for Rewriting<A> {
+    ghost answers = { λ old words reply new. (new.rewrites ≡ old.rewrites)
+        × IsAnsweredAs A.answers old.rewrites old.answerer words reply new.answerer };
+
+    ghost others = { λ old new.
+        A.others old.answerer new.answerer ⊎ (new.answerer ≡ old.answerer) };
+
+    fn answer(&mut self, alloc: Global, request: &Request) -> Reply {
+        if !self.rewrites {
+            return self.answerer.answer(alloc, request);
+        }
+        match rewritten(alloc, request) {
+            Ok(None) => self.answerer.answer(alloc, request),
+            Ok(Some(other)) => self.answerer.answer(alloc, &other),
+            Err(refused) => refused.reply(),
+        }
+    }
+}
