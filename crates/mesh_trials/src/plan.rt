@@ -15,6 +15,13 @@ const LOGS: [u64; 5] = [300, 500, 1_000, 3_000, 30_000];
 /// How many members of a heap go at once.
 const PIECES: [usize; 4] = [1, 2, 3, 7];
 
+/// How many calls clients make before a link is up, and of how many of a hundred steps: in one half
+/// of the worlds all of them while links come and go, and in the other most of them before, so that
+/// heaps go in pieces while frames are lost and links are cut.
+const AT_LINKS: (usize, usize) = (0, 30);
+
+const BEFORE_LINKS: (usize, usize) = (60, 6);
+
 /// A world has at most so many sites.
 const MOST_SITES: usize = 5;
 
@@ -28,6 +35,10 @@ pub struct Plan {
     pub links: Vec<(usize, usize)>,
     /// How many steps are drawn.
     pub steps: usize,
+    /// How many calls clients make before a link is up.
+    pub before: usize,
+    /// How many of a hundred steps are calls of clients.
+    pub asks: usize,
     /// Whether links that are up lose frames, double them, and let some overtake others.
     pub is_hostile: bool,
     /// Whether a site may die.
@@ -45,10 +56,17 @@ impl Plan {
         let count = 2 + draws.below(MOST_SITES - 1);
         let sites = drawn_sites(alloc, draws, count)?;
         let links = drawn_links(alloc, draws, count)?;
+        let (before, asks) = if draws.hits(2) {
+            AT_LINKS
+        } else {
+            BEFORE_LINKS
+        };
         Ok(Plan {
             sites,
             links,
             steps: 100 + draws.below(301),
+            before,
+            asks,
             is_hostile: draws.hits(2),
             is_deadly: draws.hits(3),
             is_busy: draws.hits(10),

@@ -9,6 +9,9 @@ use std::sync::Wait;
 impl World<'_> {
     /// Does so many drawn steps as the plan says.
     pub(crate) fn run<R: Wait>(&mut self, rt: &R, alloc: Global) -> Result<(), Wrong> {
+        for _call in 0..self.plan.before {
+            self.step_ask(rt, alloc)?;
+        }
         for way in 0..self.ways.len() {
             if self.draws.hits(2) {
                 self.raise(rt, alloc, way)?;
@@ -22,9 +25,12 @@ impl World<'_> {
 
     /// Does a drawn step.
     fn step<R: Wait>(&mut self, rt: &R, alloc: Global) -> Result<(), Wrong> {
-        match self.draws.below(100) {
-            0..=29 => self.step_ask(rt, alloc),
-            30..=61 => self.step_deliver(rt, alloc),
+        let number = self.draws.below(100);
+        if number < self.plan.asks {
+            return self.step_ask(rt, alloc);
+        }
+        match number {
+            0..=61 => self.step_deliver(rt, alloc),
             62..=83 => self.step_push(rt, alloc),
             84..=88 => {
                 let place = self.drawn_site();
