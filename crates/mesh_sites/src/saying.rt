@@ -88,7 +88,7 @@ impl Saying {
             Saying::Fetch => fetch(alloc, None)?,
             Saying::FetchOn(known) => fetch(alloc, Some(resume_of(site, *known)))?,
             Saying::Have(known) => have(alloc, peer, vector_of(site, *known))?,
-            Saying::Piece(known) => piece(alloc, &vector_of(site, *known))?,
+            Saying::Piece(known) => piece(alloc, vector_of(site, *known))?,
             Saying::Ops(numbers) => ops(alloc, site, numbers)?,
         };
         Ok(bytes)
@@ -143,8 +143,8 @@ fn have(alloc: Global, from: SiteNo, vector: Vector) -> Result<Vec<u8>, AllocErr
     write_frame(alloc, &Frame::Have(have))
 }
 
-fn piece(alloc: Global, vector: &Vector) -> Result<Vec<u8>, AllocError> {
-    let part = Shard::of_vector(alloc, 0, HEAPS, Rule::High, vector, Seeded::new(0));
+fn piece(alloc: Global, vector: Vector) -> Result<Vec<u8>, AllocError> {
+    let part = Shard::of_vector(alloc, 0, HEAPS, Rule::High, &vector, Seeded::new(0));
     let piece = Piece {
         life: 1,
         number: 0,
