@@ -3,7 +3,7 @@
 ghost use Rattle.std.specs.Prelude.{◌≡◌};
 ghost use Rattle.zq_node.specs.Node.{IsNode};
 ghost use Rattle.zq_replica.specs.Fence.{IsSteady};
-ghost use Rattle.zq_replica.specs.Gathered.{gathered_of};
+ghost use Rattle.zq_replica.specs.Gathered.{is_awaited};
 ghost use Rattle.zq_replica.specs.Nodes.{Shows};
 
 use crate::parcels::Parcels;
@@ -130,7 +130,9 @@ impl Replica<'_> {
     }
 
     /// Whether this heap is being fetched from this peer.
-    pub(crate) fn is_awaited(&self, peer: SiteNo, heap: u8) -> bool {
+    pub(crate) fn is_awaited(&self, peer: SiteNo, heap: u8) -> bool
+        ensures { result ≡ is_awaited peer heap self.now }
+    {
         match &self.catching {
             Some(catching) => catching.from == peer && catching.heap == heap,
             None => false,
@@ -139,8 +141,7 @@ impl Replica<'_> {
 
     /// Something of the heap that is fetched came: it is waited for as long as before.
     pub(crate) fn wait_on(&mut self)
-        ensures steady { IsSteady self.old self.new }
-        ensures gathered { gathered_of self.new ≡ gathered_of self.old }
+        ensures { IsSteady self.old self.new }
     {
         if let Some(catching) = &mut self.catching {
             catching.left = MOST_BEATS;
