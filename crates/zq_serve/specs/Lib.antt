@@ -8,5 +8,6 @@ pub mod Ports
 pub mod Mailboxes
 pub mod Memory
 pub mod Announced
+pub mod Commits
 pub mod Limits
 pub mod Rewriting

@@ -37,7 +37,13 @@ impl Worker<'_, '_> {
         }
         let Worker { own, port, poller } = self;
         let counters = own_counters(inboxes);
-        let watch = Warner::new(log, own.site.number(), inboxes.counters(), counters);
+        let watch = Warner::new(
+            log,
+            own.site.number(),
+            inboxes.counters(),
+            counters,
+            inboxes.durable(),
+        );
         let mut answerer = answerer_of(log, own, Draws::new(seed), inboxes, counters);
         poller.run(log, alloc, port, &mut answerer, &watch);
     }

@@ -2,6 +2,7 @@
 use Rattle.zq_settings.proofs.Meant.{IsCommon, common_since, common_from, known_since, known_from}
 use Rattle.zq_settings.proofs.MeantAccept.{accept_from, accept_since}
 use Rattle.zq_settings.proofs.MeantAdminKeys.{admin_keys_from, admin_keys_since}
+use Rattle.zq_settings.proofs.MeantData.{data_keys_from, data_keys_since}
 use Rattle.zq_settings.proofs.MeantAddresses.{address_at_since, address_at_from, bind_since, bind_from, secret_since, secret_from}
 use Rattle.zq_settings.proofs.MeantLogLevel.{log_level_from, log_level_since}
 use Rattle.zq_settings.proofs.MeantNumbers.{number_since, number_from, required_since, required_from, rule_since, rule_from}
@@ -13,6 +14,7 @@ use Rattle.std.specs.Option.{is_some}
 use Rattle.std.specs.declared.net.ip_addr.IpAddr.{IpAddr}
 use Rattle.std.specs.declared.net.socket_addr.SocketAddr.{SocketAddr}
 use Rattle.toml.specs.Data.{Members}
+use Rattle.zq_settings.specs.DataKeys.{data_keys_of}
 use Rattle.zq_settings.specs.Keys.{is_known}
 use Rattle.zq_settings.specs.Settings.{◌>>=◌, common_of, known_keys, log_level_of, required_of, rule_of, site_of}
 use Rattle.zq_settings.specs.Site.{accept_of, address_at, admin_keys_of, alone_of, bind_of, drain_of, if_given, link_backlog_of, max_memory_of, peers_of, secret_of, site_seed_of, site_settings_of}
@@ -34,6 +36,7 @@ later_of table site port bind secret listen peers =
     accept_of (value_at key.Accept table) >>= (λ accept.
     admin_keys_of table >>= (λ admin.
     drain_of (value_at key.Drain table) >>= (λ drain.
+    data_keys_of table >>= (λ disk.
     log_level_of (value_at key.LogLevel table) >>= (λ log_level.
     max_memory_of (value_at key.MaxMemory table) >>= (λ max_memory.
     site_seed_of site (value_at key.Seed table) >>= (λ seed.
@@ -54,11 +57,12 @@ later_of table site port bind secret listen peers =
       accept = accept;
       admin = admin;
       drain = drain;
+      disk = disk;
       log_level = log_level;
       max_memory = max_memory;
       seed = seed;
       secret = secret;
-    })))))))))))
+    }))))))))))))
 
 later_since : (table : Members) (site port : ℕ) (bind : IpAddr) (secret : Option (List ℕ)) (listen : SocketAddr) (peers : List Peer) (settings : SiteSettings)
     → All (λ name. is_known form.Site name ≡ true) (names_in table) → IsRequired 0 63 (value_at key.Site table) site → IsRequired 1 65535 (value_at key.Port table) port
@@ -71,11 +75,12 @@ later_since table site port bind secret listen peers settings known is_site is_p
     let (accept, accept_read, h4) = both_ok (accept_of (value_at key.Accept table)) _ settings h3 in
     let (admin, admin_read, h5) = both_ok (admin_keys_of table) _ settings h4 in
     let (drain, drain_read, h6) = both_ok (drain_of (value_at key.Drain table)) _ settings h5 in
-    let (log_level, log_level_read, h7) = both_ok (log_level_of (value_at key.LogLevel table)) _ settings h6 in
-    let (max_memory, max_memory_read, h8) = both_ok (max_memory_of (value_at key.MaxMemory table)) _ settings h7 in
-    let (seed, seed_read, h9) = both_ok (site_seed_of site (value_at key.Seed table)) _ settings h8 in
-    let (rule, rule_read, h10) = both_ok (rule_of (value_at key.Rule table)) _ settings h9 in
-    let whole : record { site = site; port = port; bind = bind; listen = listen; peers = peers; heaps = common.heaps; rule = rule; workers = if_given common.workers (value_at key.Workers table); connections = common.connections; limits = common.limits; link_backlog = link_backlog; alone = alone; accept = accept; admin = admin; drain = drain; log_level = log_level; max_memory = max_memory; seed = seed; secret = secret } ≡ settings = ok_same _ settings _ _ refl refl h10 in
+    let (disk, disk_read, h7) = both_ok (data_keys_of table) _ settings h6 in
+    let (log_level, log_level_read, h8) = both_ok (log_level_of (value_at key.LogLevel table)) _ settings h7 in
+    let (max_memory, max_memory_read, h9) = both_ok (max_memory_of (value_at key.MaxMemory table)) _ settings h8 in
+    let (seed, seed_read, h10) = both_ok (site_seed_of site (value_at key.Seed table)) _ settings h9 in
+    let (rule, rule_read, h11) = both_ok (rule_of (value_at key.Rule table)) _ settings h10 in
+    let whole : record { site = site; port = port; bind = bind; listen = listen; peers = peers; heaps = common.heaps; rule = rule; workers = if_given common.workers (value_at key.Workers table); connections = common.connections; limits = common.limits; link_backlog = link_backlog; alone = alone; accept = accept; admin = admin; drain = drain; disk = disk; log_level = log_level; max_memory = max_memory; seed = seed; secret = secret } ≡ settings = ok_same _ settings _ _ refl refl h11 in
     let is = common_since table common common_read in
     rw (← whole) (record {
       known = known;
@@ -94,6 +99,7 @@ later_since table site port bind secret listen peers settings known is_site is_p
       accept = accept_since accept _ accept_read;
       admin = admin_keys_since table admin admin_read;
       drain = number_since _ 0 1000000 10 drain _ drain_read;
+      disk = data_keys_since table disk disk_read;
       log_level = log_level_since log_level _ log_level_read;
       max_memory = number_since _ 0 1099511627776 0 max_memory _ max_memory_read;
       seed = number_since _ 0 9223372036854775807 (site + 1) seed _ seed_read;
@@ -131,6 +137,7 @@ site_settings_from table settings is =
       accept_from settings.accept _ is.accept,
       admin_keys_from table settings.admin is.admin,
       number_from key.Drain 0 1000000 10 settings.drain _ is.drain,
+      data_keys_from table settings.disk is.disk,
       log_level_from settings.log_level _ is.log_level,
       number_from key.MaxMemory 0 1099511627776 0 settings.max_memory _ is.max_memory,
       number_from key.Seed 0 9223372036854775807 (settings.site + 1) settings.seed _ is.seed,

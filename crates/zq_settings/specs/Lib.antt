@@ -1,5 +1,6 @@
 pub mod Accepting
 pub mod AdminKeys
+pub mod DataKeys
 pub mod LogLevels
 pub mod Numbers
 pub mod Keys

@@ -9,6 +9,8 @@ mod admin;
 mod admin_port;
 mod admin_token;
 mod common;
+mod data_keys;
+mod data_path;
 mod entries;
 mod fault;
 mod form;
@@ -28,6 +30,7 @@ mod peers;
 mod ports;
 mod read;
 mod secret;
+mod sync_mode;
 mod table;
 mod unknown;
 mod values;
@@ -36,6 +39,7 @@ mod within;
 
 pub use accept::Accept;
 pub use admin_token::AdminToken;
+pub use data_path::DataPath;
 pub use fault::SettingsFault;
 pub use form::Form;
 pub use host_name::HostName;
@@ -48,9 +52,10 @@ pub use peers::{MOST_PEERS, Peers};
 pub use ports::{MOST_PORTS, Port, Ports};
 pub use read::{settings, site_settings};
 pub use secret::{LEAST_SECRET, Secret};
+pub use sync_mode::SyncMode;
 pub use values::{
-    AdminSettings, BacklogSize, ClientCount, ClientLimits, ConnectionCount, HeapCount, MemorySize,
-    OutputSize, Seconds, Seed, Settings, SiteSettings, WorkerCount,
+    AdminSettings, BacklogSize, ClientCount, ClientLimits, ConnectionCount, DiskSettings,
+    HeapCount, MemorySize, OutputSize, Seconds, Seed, Settings, SiteSettings, WorkerCount,
 };
 pub use why::Why;
 pub use within::Within;

@@ -63,6 +63,8 @@ pub fn settings(alloc: Global, text: &str) -> Result<Settings, SettingsFault>
 /// | `admin_token` | what requests there have to say: a text of 16 to 256 bytes of ASCII, each of which can be seen | nothing |
 /// | `admin_bind` | the IP address at which that port is in the place of the loopback address | there is none |
 /// | `drain` | 0 to 1000000 | 10 |
+/// | `data` | the folder in which the site keeps its log, a text of 1 to 3072 bytes with no byte 0 | it keeps nothing |
+/// | `sync` | `"always"` or `"soon"` | `"always"` |
 /// | `max_memory` | 0 to 1099511627776, where 0 is no bound | 0 |
 /// | `seed` | 0 to 9223372036854775807 | the site's number and 1 |
 /// | `heaps`, `connections`, `clients`, `timeout`, `write_timeout`, `output`, `log_level`, `rule` | as of [`settings`] | as of [`settings`] |

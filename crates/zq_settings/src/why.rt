@@ -18,7 +18,7 @@ use zq_dots::SiteNo;
 /// `workers`, `connections`, `clients`, `timeout`, `write_timeout`, `output`, `log_level`, `seed`
 /// and `rule`, in this order. Of one site they are `site`, `port`, `bind`, `secret`, `listen`,
 /// `peers`, and then `heaps` and the others, with `link_backlog`, `alone`, `accept`, `admin`,
-/// `admin_token`, `admin_bind` and `drain` after `output`, and `max_memory` after `log_level`. The entries of `peers` come one by
+/// `admin_token`, `admin_bind`, `drain`, `data` and `sync` after `output`, and `max_memory` after `log_level`. The entries of `peers` come one by
 /// one: that it is a table, that it has no other keys, then the rules of its `site` and of its
 /// `address`.
 #[derive(Debug, Drop)]

@@ -2,8 +2,10 @@
 
 use crate::serving::{log_of, start_lines};
 use std::alloc::{AllocError, Global};
+use std::fs::File;
 use std::net::{Net, TcpListener, TcpStream};
 use std::random::RandomSource;
+use std::rt::Files;
 use std::sync::{Arc, Wait};
 use std::thread;
 use std::thread::Threads;
@@ -26,6 +28,7 @@ pub fn serve_in_thread<R>(
 ) -> Result<(), ServeFault>
 where
     R: Memory
+        + Files<File = File>
         + Net<Listener = TcpListener, Stream = TcpStream>
         + RandomSource
         + Clock
@@ -59,6 +62,7 @@ fn serve_here<R>(
 ) -> Result<(), ServeFault>
 where
     R: Memory
+        + Files<File = File>
         + Net<Listener = TcpListener, Stream = TcpStream>
         + RandomSource
         + Clock

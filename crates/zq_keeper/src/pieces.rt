@@ -1,0 +1,86 @@
+//! How pieces and seals are judged, by the rules by which they are taken when the log is read
+//! again.
+
+ghost use Rattle.std.specs.Prelude.{OnErr, OnOk, ◌≡◌, ◌≢◌, ◌⊎◌};
+ghost use Rattle.zq_keeper.specs.Pieces as spec;
+ghost use Rattle.zq_recovery.specs.Step.{is_end as is_last};
+
+use crate::outline::Outline;
+use zq_links::{Piece, Spot};
+use zq_recovery::{Identity, Refusal};
+use zq_stage::PieceFault;
+
+/// Notes a piece in the outline of its heap.
+pub(crate) fn note_piece(
+    identity: &Identity,
+    outlines: &mut [Outline],
+    piece: &Piece,
+) -> Result<(), Refusal>
+    ensures noted { OnOk result
+        (spec.Comes identity.now piece.now outlines.old outlines.new) }
+{
+    let place = piece.part.heap() as usize;
+    if place >= outlines.len() || piece.part.heaps() != identity.heaps {
+        return Err(Refusal::WrongHeap);
+    }
+    if piece.part.rule() != identity.rule {
+        return Err(Refusal::Piece(PieceFault::WrongRule));
+    }
+    note_in(&mut outlines[place], piece)
+}
+
+/// Notes a piece: the first of a stream, or the next one.
+fn note_in(outline: &mut Outline, piece: &Piece) -> Result<(), Refusal>
+    ensures noted { OnOk result
+        (spec.Begins piece.now outline.old outline.new
+        ⊎ spec.GoesOn piece.now outline.old outline.new) }
+{
+    if piece.number == 0 {
+        begin(outline, piece)
+    } else {
+        go_on(outline, piece)
+    }
+}
+
+/// Notes the first piece of a stream.
+fn begin(outline: &mut Outline, piece: &Piece) -> Result<(), Refusal>
+    requires { piece.now.number ≡ 0 }
+    ensures begins { OnOk result (spec.Begins piece.now outline.old outline.new) }
+{
+    if !piece.part.vector().covers(&outline.vector) {
+        return Err(Refusal::Piece(PieceFault::WrongVector));
+    }
+    *outline = Outline {
+        vector: *piece.part.vector(),
+        life: piece.life,
+        next: 1,
+        whole: is_end(&piece.next),
+    };
+    Ok(())
+}
+
+/// Notes the next piece of a stream.
+fn go_on(outline: &mut Outline, piece: &Piece) -> Result<(), Refusal>
+    requires { piece.now.number ≢ 0 }
+    ensures goes_on { OnOk result (spec.GoesOn piece.now outline.old outline.new) }
+{
+    if outline.life != piece.life {
+        return Err(Refusal::Piece(PieceFault::WrongLife));
+    }
+    if outline.next != piece.number || piece.number == u32::MAX {
+        return Err(Refusal::Piece(PieceFault::WrongNumber));
+    }
+    if &outline.vector != piece.part.vector() {
+        return Err(Refusal::Piece(PieceFault::WrongVector));
+    }
+    outline.next = piece.number + 1;
+    outline.whole = outline.whole || is_end(&piece.next);
+    Ok(())
+}
+
+/// Whether nothing is left at the spot.
+fn is_end(spot: &Spot) -> bool
+    ensures { result ≡ is_last spot.now }
+{
+    spot.key == 0 && spot.member == 0
+}
