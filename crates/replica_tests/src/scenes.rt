@@ -56,19 +56,28 @@ pub enum Step {
 /// Plays the steps at so many sites, which have done nothing. Their logs have at most so many bytes
 /// each. They give each other heaps in pieces.
 pub fn play<R: Wait + Abort>(rt: &R, alloc: Global, sites: u8, log: u64, steps: &[Step]) {
-    play_at(rt, alloc, &plans(rt, alloc, sites, log, Some(PIECE)), steps);
+    play_at(rt, alloc, sites, log, Some(PIECE), steps);
 }
 
 /// The same where the sites know no pieces.
 pub fn play_whole<R: Wait + Abort>(rt: &R, alloc: Global, sites: u8, log: u64, steps: &[Step]) {
-    play_at(rt, alloc, &plans(rt, alloc, sites, log, None), steps);
+    play_at(rt, alloc, sites, log, None, steps);
 }
 
-/// Plays the steps at these sites, which have the numbers from 0 on.
-fn play_at<R: Wait + Abort>(rt: &R, alloc: Global, plans: &[SitePlan], steps: &[Step]) {
-    let mut opened = open_all(alloc, plans).expect(rt, "sites");
-    let stations = seat_all(alloc, &mut opened, plans).expect(rt, "stations");
-    let mut world = World::new(alloc, stations, plans.len() as u8);
+/// Plays the steps at so many sites, which give each other so many members of a heap at once, or
+/// know no pieces.
+fn play_at<R: Wait + Abort>(
+    rt: &R,
+    alloc: Global,
+    sites: u8,
+    log: u64,
+    piece: Option<usize>,
+    steps: &[Step],
+) {
+    let plans = plans(rt, alloc, sites, log, piece);
+    let mut opened = open_all(alloc, &plans).expect(rt, "sites");
+    let stations = seat_all(alloc, &mut opened, &plans).expect(rt, "stations");
+    let mut world = World::new(alloc, stations, sites);
     for (at, step) in steps.iter().enumerate() {
         assert!(rt; does(rt, alloc, &mut world, *step), "step {at}, from 0 on");
     }
