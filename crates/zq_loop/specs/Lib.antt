@@ -1,3 +1,4 @@
+pub mod Attending
 pub mod Socket
 pub mod Client
 pub mod Turns

@@ -27,7 +27,7 @@ impl<A: Answers> Answers for Counting<'_, A> {
 }
 
 /// Counts an answer, where there are counters.
-fn count(counters: Option<&WorkerCounters>, words: &[Vec<u8>], reply: &Reply) {
+pub(crate) fn count(counters: Option<&WorkerCounters>, words: &[Vec<u8>], reply: &Reply) {
     if let Some(counters) = counters {
         counters.count(named(words), is_error(reply));
     }

@@ -2,6 +2,7 @@
 
 use crate::answerer::answerer_of;
 use crate::inboxes::Inboxes;
+use crate::knowing::Knowing;
 use crate::warning::Warner;
 use log::Log;
 use std::alloc::Global;
@@ -38,8 +39,15 @@ impl Worker<'_, '_> {
         let Worker { own, port, poller } = self;
         let counters = own_counters(inboxes);
         let watch = Warner::new(log, own.site.number(), inboxes.counters(), counters);
-        let mut answerer = answerer_of(log, own, Draws::new(seed), inboxes, counters);
-        poller.run(log, alloc, port, &mut answerer, &watch);
+        let knowing = Knowing {
+            answerer: answerer_of(log, own, Draws::new(seed), inboxes, counters),
+            rt: log,
+            desk: inboxes.desk(),
+            port,
+            counters: inboxes.counters(),
+            own_counters: counters,
+        };
+        knowing.serve(alloc, poller, &watch);
     }
 }
 

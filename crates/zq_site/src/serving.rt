@@ -22,6 +22,7 @@ use crate::opening::draw_run;
 use crate::peer_links::{dialers_of, open_peer_links, others_of};
 use crate::peer_listener::PeerListener;
 use crate::post::Post;
+use crate::profile::profile_of;
 use crate::running::{Seeds, acceptors, run_site};
 use crate::shared::Shared;
 use crate::warning_log::note_of;
@@ -38,7 +39,7 @@ use zq_peers::{Link, Mailbox};
 use zq_posheap::Seeded;
 use zq_replica::Logs;
 use zq_serve::{
-    Admission, Gate, Linker, Memory, ServeFault, SiteThreads, draw_hasher, limits_of, listen,
+    Admission, Desk, Gate, Linker, Memory, ServeFault, SiteThreads, draw_hasher, limits_of, listen,
     most_clients, most_waiting, open_port, plan_of, warn_few,
 };
 use zq_session::{LentSite, close_sites, end_loan, lend_sites, open_sites};
@@ -202,6 +203,7 @@ where
     let hiring = Hiring::new(alloc, acceptors(dialers.len()));
     let waits = settings.alone.value() > 0 && !link.others.is_empty();
     let admission = Admission::new(settings.site, waits);
+    let desk = Desk::new(log, profile_of(settings));
     let shared = Shared {
         alloc,
         settings,
@@ -209,6 +211,7 @@ where
         peer_links: &peer_links,
         dialers: &dialers,
         admission: &admission,
+        desk: &desk,
         hiring: &hiring,
         mailbox: &mailbox,
         logs: &logs,
