@@ -1,6 +1,7 @@
 //! Sites and their passes.
 
 mod asking;
+mod calls;
 mod commands;
 mod crowd;
 mod cutting;

@@ -21,3 +21,12 @@ pub mod ScoreBounds
 pub mod ReadFrom
 pub mod Begun
 pub mod Stood
+pub mod Dropped
+pub mod FoundPairs
+pub mod CutPairs
+pub mod ScoreLists
+pub mod CountedKeys
+pub mod OneByOne
+pub mod Slices
+pub mod Ended
+pub mod LeftmostKeys

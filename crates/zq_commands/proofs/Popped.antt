@@ -69,7 +69,7 @@ shown_next : (xs : Queue) (x : Scored) → shown_parts (xs ++ x ∷ []) ≡ show
 shown_next [] x = refl
 shown_next (y ∷ xs) x = ap (λ ws. map bulk (parts_of_pair true y) ++ ws) (shown_next xs x)
 
-shown_bytes : (q : Queue) → array_bytes (shown_parts q) ≡ bytes_of (pairs_reply true q)
+pub shown_bytes : (q : Queue) → array_bytes (shown_parts q) ≡ bytes_of (pairs_reply true q)
 shown_bytes q = ap (λ n. 42 ∷ line (decimal n) ++ joined (shown_parts q)) (length-map (flat_map (parts_of_pair true) q) bulk)
 
 module _ (site stamp : ℕ) (key : List ℕ) where

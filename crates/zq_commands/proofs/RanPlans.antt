@@ -32,7 +32,7 @@ after_front [] rest x = refl
 after_front (y ∷ front) rest x = after_front front rest x
 
 -- why a move that takes memory alone was not made
-why_made : (site : ℕ) (books : List Book) (move : Move) (cut : Stopped) → (cut ≡ Worn → IsWhy site (Some move) books Number) → (cut ≡ NoMemory → IsWhy site (Some move) books Number → ⊥) →
+pub why_made : (site : ℕ) (books : List Book) (move : Move) (cut : Stopped) → (cut ≡ Worn → IsWhy site (Some move) books Number) → (cut ≡ NoMemory → IsWhy site (Some move) books Number → ⊥) →
     IsWhyOf ForMoves site (Some move) books (want_of cut)
 why_made site books move Worn worn memory = worn refl
 why_made site books move NoMemory worn memory = memory refl
@@ -45,7 +45,7 @@ module _ {X : Type 0} (f : Queues → X → Part) (site stamp : ℕ) (xs : List 
       whole all.0 (is ∙ ap (λ n. bytes_of (count_reply n)) all.1)
 
   -- the move that was to come next
-  next_move : (i : ℕ) (x : X) (move : Move) → StandsAfter f site stamp xs i s t counted done → slice_get xs i ≡ Some x → (f (queues_in t) x).moves ≡ move ∷ [] →
+  pub next_move : (i : ℕ) (x : X) (move : Move) → StandsAfter f site stamp xs i s t counted done → slice_get xs i ≡ Some x → (f (queues_in t) x).moves ≡ move ∷ [] →
       slice_get (moves_in_turn f xs (queues_in s)) done ≡ Some move
   next_move i x move here at is =
       let front = moves_in_turn f (take i xs) (queues_in s) in
@@ -85,7 +85,7 @@ pub raise_let : (flags : Flags) (key member : Word) (old : Option ℤ) (incremen
 raise_let flags key member old increment passes = cond-true (lets flags old (sum_of old increment)) (raise key member old increment) (reading NullBulk) passes
 
 -- a plan that only reads, whole or without its reply for want of memory
-reading_ran : (site stamp : ℕ) (is_long : Bool) (counted : ℕ) (reply : Reply) (cut : ℕ → Want → Reply) (lent : Lending) (bytes : Word) (short : Bool) → cut 0 Memory ≡ cut_error 0 Memory →
+pub reading_ran : (site stamp : ℕ) (is_long : Bool) (counted : ℕ) (reply : Reply) (cut : ℕ → Want → Reply) (lent : Lending) (bytes : Word) (short : Bool) → cut 0 Memory ≡ cut_error 0 Memory →
     IsReadAs (ForReply is_long counted) reply bytes short → EndsOver site stamp (ForReply is_long counted) (reading reply) cut lent lent bytes short
 reading_ran site stamp is_long counted reply cut lent bytes short error (inl says) = whole refl says
 reading_ran site stamp is_long counted reply cut lent bytes short error (inr (lacks, says, told)) = part 0 Memory (omega arith) refl lacks (says ∙ sym (ap bytes_of error)) (λ _. told)

@@ -51,7 +51,7 @@ take_taken (suc n) (suc m) k (x ∷ xs) least =
 
 -- ---- what is kept of a list, and how many
 
-all_pass : (p : Scored → Bool) (q : Queue) → ((y : Scored) → IsIn y q → p y ≡ true) → filter p q ≡ q
+pub all_pass : (p : Scored → Bool) (q : Queue) → ((y : Scored) → IsIn y q → p y ≡ true) → filter p q ≡ q
 all_pass p [] all = refl
 all_pass p (x ∷ q) all = cond-true (p x) (x ∷ filter p q) (filter p q) (all x (inl refl)) ∙ ap (λ r. x ∷ r) (all_pass p q (λ y here. all y (inr here)))
 

@@ -15,3 +15,6 @@ pub mod VecBooks
 pub mod RecordedBooks
 pub mod SiteBooks
 pub mod Beginning
+pub mod Dropping
+pub mod Ends
+pub mod Calls

@@ -27,12 +27,23 @@ pub fn make_index<B: Books>(books: &mut B, alloc: Global, kind: &Kind)
 }
 
 /// Makes an index of a key in each of the books.
-fn index_all<B: Books>(books: &mut B, alloc: Global, key: &[u8])
+pub fn index_all<B: Books>(books: &mut B, alloc: Global, key: &[u8])
     requires { IsLending (B.lent books.old) }
     ensures same { B.lent books.new ≡ B.lent books.old }
     ensures keeps { B.keeps books.old books.new }
 {
     for place in 0..books.len() {
         books.index(alloc, place, key);
+    }
+}
+
+/// Makes an index of each of the keys in each of the books.
+pub fn index_each<B: Books>(books: &mut B, alloc: Global, keys: &[Vec<u8>])
+    requires { IsLending (B.lent books.old) }
+    ensures same { B.lent books.new ≡ B.lent books.old }
+    ensures keeps { B.keeps books.old books.new }
+{
+    for key in keys {
+        index_all(books, alloc, key);
     }
 }

@@ -1,24 +1,31 @@
 //! What commands do to the books that are lent to them, and what they answer.
 #![tactic(auto)]
 
+mod asked;
 mod beginning;
 mod books;
 mod call;
 mod cleared;
+mod copied;
 mod del;
+mod dropping;
+mod each;
 mod first_of_key;
 mod first_pair;
 mod indexing;
+mod keys_there;
 mod made;
 mod making;
 mod merging;
 mod one_book;
 mod pairs;
 mod places;
+mod pop_leftmost;
 mod ran;
 mod range_section;
 mod range_start;
 mod reading;
+mod remove_range;
 mod replies;
 mod running;
 mod scores;
@@ -29,11 +36,15 @@ mod vec_books;
 mod zadd;
 mod zadd_flags;
 mod zincrby;
+mod zmscore;
+mod zpopmax;
 mod zpopmin;
 mod zrange;
 mod zrem;
 
+pub use asked::run_call;
 pub use books::Books;
+pub use each::run_each;
 pub use indexing::MOST_SCANNED;
 pub use one_book::make_in;
 pub use ran::Ran;
@@ -41,4 +52,4 @@ pub use replies::{cut_reply, message_reply};
 pub use running::{read_told, run, run_told};
 pub use site_books::SiteBooks;
 pub use stopped::Stopped;
-pub use zq_words::{Command, Heaps, Refused};
+pub use zq_words::{Command, Heaps, Refused, SiteCall};

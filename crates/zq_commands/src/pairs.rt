@@ -34,7 +34,7 @@ pub fn pairs_reply<O: Outcome>(
     }
 }
 
-fn copy_parts(
+pub fn copy_parts(
     alloc: Global,
     pairs: &[(i128, &[u8])],
     from: usize,
@@ -55,7 +55,7 @@ fn copy_parts(
 
 /// Puts a pair behind the parts. Where there is no memory for all of it, its member may stand
 /// there.
-fn push_pair(
+pub fn push_pair(
     alloc: Global,
     parts: &mut Vec<Reply>,
     pair: &(i128, &[u8]),
@@ -74,7 +74,7 @@ fn push_pair(
     Ok(())
 }
 
-fn push_part(parts: &mut Vec<Reply>, part: Reply) -> Result<(), AllocError>
+pub fn push_part(parts: &mut Vec<Reply>, part: Reply) -> Result<(), AllocError>
     requires { IsTrue (is_writable part) }
     ensures parts { OnOk result (map reply_bytes parts.new.items ≡ map reply_bytes parts.old.items
         ++ reply_bytes part ∷ []) }

@@ -27,6 +27,14 @@ pub struct Section {
     pub to: usize,
 }
 
+/// All pairs. First pairs are read within its bounds, and its places count for nothing there.
+pub const WHOLE: Section = Section {
+    min: LOWEST,
+    max: HIGHEST,
+    from: 0,
+    to: 0,
+};
+
 impl Section {
     /// What a range takes of a queue of this size.
     pub fn of_range(range: &Range, size: u64) -> Section

@@ -58,7 +58,7 @@ pub fn read_range<B: Books, O: Outcome>(
 }
 
 /// The pairs of a section behind so many that are not, where so many are within its bounds.
-fn section_pairs<'a, B: Books>(
+pub fn section_pairs<'a, B: Books>(
     books: &'a B,
     alloc: Global,
     key: &[u8],
@@ -95,7 +95,7 @@ fn section_pairs<'a, B: Books>(
 
 /// The first so many pairs within the bounds of a section, from where reading starts. No book gives
 /// more than so many.
-fn first_pairs<'a, B: Books>(
+pub fn first_pairs<'a, B: Books>(
     books: &'a B,
     alloc: Global,
     key: &[u8],

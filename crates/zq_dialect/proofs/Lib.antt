@@ -13,3 +13,5 @@ pub mod Copies
 pub mod Capped
 pub mod Refusing
 pub mod Others
+pub mod CallLimits
+pub mod FurtherNames

@@ -130,6 +130,7 @@ plain_as name.Zcount words each = ends_as (ends_of true false) words each
 plain_as name.Zrange words each = ends_as (asked_ends (drop 3 words)) words each
 plain_as (name.Older ends) words each = ends_as ends words each
 plain_as name.Unlink words each = record { count = refl; each = each }
+plain_as name.Zremrangebyscore words each = ends_as (ends_of true false) words each
 
 named : (word : Word) (words : List Word) → IsWord word → All IsWord words → 1 + length words ≤ 65536 → IsRequest (word ∷ words)
 named word words short each few = record { some = omega arith; limits = record { count = omega arith; each = All-cons IsWord word words short each } }
@@ -190,6 +191,7 @@ said_request name.Zcount word words new short each few e = is_request _ new (nam
 said_request name.Zrange word words new short each few e = is_request _ new (named word words short each (omega arith)) e
 said_request (name.Older ends) word words new short each few e = older_request ends words new each few e
 said_request name.Unlink word words new short each few e = is_request _ new (named (codes "DEL") words (omega arith) each (omega arith)) e
+said_request name.Zremrangebyscore word words new short each few e = is_request _ new (named word words short each (omega arith)) e
 
 saying_request : (known : Option Name) (word : Word) (words new : List Word) → IsWord word → All IsWord words → length words ≤ 65535 → saying known word words ≡ Ok new → IsRequest new
 saying_request None word words new short each few e = is_request _ new (named word words short each (omega arith)) e

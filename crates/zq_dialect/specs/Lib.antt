@@ -4,4 +4,7 @@ pub mod Spelled
 pub mod Names
 pub mod Said
 pub mod Rewrites
+pub mod Further
+pub mod Asked
 pub mod Laws
+pub mod FurtherLaws

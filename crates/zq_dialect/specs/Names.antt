@@ -17,7 +17,8 @@ names =
     ∷ (codes "ZREVRANGE", name.Older (ends_of false true))
     ∷ (codes "ZRANGEBYSCORE", name.Older (ends_of true false))
     ∷ (codes "ZREVRANGEBYSCORE", name.Older (ends_of true true))
-    ∷ (codes "UNLINK", name.Unlink) ∷ []
+    ∷ (codes "UNLINK", name.Unlink)
+    ∷ (codes "ZREMRANGEBYSCORE", name.Zremrangebyscore) ∷ []
 
 abbrev pub name_of : Word → Option Name
 name_of word = option_map (λ row. row.1) (find (λ row. is word row.0) names)

@@ -55,6 +55,7 @@ plain name.Zcount words = plain_ends (ends_of true false) words
 plain name.Zrange words = plain_ends (asked_ends (drop 3 words)) words
 plain (name.Older ends) words = plain_ends ends words
 plain name.Unlink words = words
+plain name.Zremrangebyscore words = plain_ends (ends_of true false) words
 
 -- what an older name of ZRANGE says by itself
 abbrev pub is_own : Word → Bool

@@ -18,8 +18,8 @@ pub struct NewBound {
 }
 
 /// The bound that stands for this text at the least or the greatest end of a range, and `None`
-/// where the text stays: it has the form of a bound already, or is no number, or its number is out of
-/// range. A bound that is no whole number becomes the next whole one inside the range.
+/// where the text stays: it has the form of a bound already, or is no number, or its number is out
+/// of range. A bound that is no whole number becomes the next whole one inside the range.
 pub fn find_bound(is_least: bool, text: &[u8]) -> Option<NewBound>
     ensures { result ≡ new_bound is_least text.now }
 {

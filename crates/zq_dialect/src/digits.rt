@@ -63,7 +63,7 @@ pub fn has_only_digits(text: &[u8]) -> bool
     text.iter().all(|byte| byte.is_ascii_digit())
 }
 
-fn are_zeros(text: &[u8]) -> bool
+pub fn are_zeros(text: &[u8]) -> bool
     ensures { result ≡ are_all is_zero text.now }
 {
     !text.is_empty() && has_only_zeros(text)

@@ -1,4 +1,4 @@
-//! The names of commands whose words may be rewritten.
+//! The names of requests whose words may be rewritten.
 
 ghost use Rattle.std.specs.Prelude.{◌≡◌};
 ghost use Rattle.zq_dialect.specs.Names.{name_of};
@@ -15,9 +15,10 @@ pub enum Name {
     /// An older name of ZRANGE: ZREVRANGE, ZRANGEBYSCORE or ZREVRANGEBYSCORE.
     Older(Ends),
     Unlink,
+    Zremrangebyscore,
 }
 
-/// The command of this name, in any ASCII case, and `None` for other names.
+/// The request of this name, in any ASCII case, and `None` for other names.
 pub fn find_name(word: &[u8]) -> Option<Name>
     ensures { result ≡ name_of word.now }
 {
@@ -37,6 +38,8 @@ pub fn find_name(word: &[u8]) -> Option<Name>
         Some(older(true, true))
     } else if is_word(word, b"UNLINK") {
         Some(Name::Unlink)
+    } else if is_word(word, b"ZREMRANGEBYSCORE") {
+        Some(Name::Zremrangebyscore)
     } else {
         None
     }

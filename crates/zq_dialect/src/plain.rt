@@ -170,7 +170,7 @@ fn is_rewritten(by_score: bool, is_least: bool, text: &[u8]) -> bool
     by_score && find_bound(is_least, text).is_some()
 }
 
-/// The ends of ZCOUNT.
+/// The ends of ZCOUNT and ZREMRANGEBYSCORE.
 pub fn counted_ends() -> Ends
     ensures { result ≡ ends_of true false }
 {

@@ -70,7 +70,9 @@ fn rewrite_named(
     match name {
         Name::Zadd => rewrite_zadd(alloc, word, words),
         Name::Zincrby => rewrite_zincrby(alloc, word, words),
-        Name::Zcount => rewrite_ends(alloc, word, words, counted_ends()),
+        Name::Zcount | Name::Zremrangebyscore => {
+            rewrite_ends(alloc, word, words, counted_ends())
+        }
         Name::Zrange => rewrite_ends(alloc, word, words, ranged_ends(words)),
         Name::Older(ends) => Ok(Some(rewrite_older(alloc, words, ends)?)),
         Name::Unlink => Ok(Some(rename(alloc, b"DEL", words)?)),

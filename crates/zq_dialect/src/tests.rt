@@ -2,12 +2,13 @@
 //! sorted sets that stand here.
 
 mod found;
+mod further;
 mod numbers;
 mod ranges;
 mod traps;
 
-use crate::rewritten;
-use found::write_answer;
+use crate::{read_call, rewritten};
+use found::{write_answer, write_call};
 use std::alloc::Global;
 use std::process::Abort;
 use std::test::Fail;
@@ -23,6 +24,8 @@ const SCORE: &str = "-ERR score is not a whole number in range\r\n";
 const WHOLE: &str = "-ERR value is not an integer\r\n";
 
 const BOUND: &str = "-ERR min or max is not a bound\r\n";
+
+const NEGATIVE: &str = "-ERR count is negative\r\n";
 
 /// The request of a line's words.
 fn request(alloc: Global, line: &str) -> Result<Request, Fail> {
@@ -48,6 +51,11 @@ fn answer(alloc: Global, request: &Request) -> Result<Vec<u8>, Fail> {
     let mut out = Vec::new(alloc);
     match Command::read(alloc, request) {
         Ok(command) => write_answer(&mut out, command.kind())?,
+        Err(Refused::Unknown) => match read_call(request) {
+            Ok(Some(call)) => write_call(&mut out, &call)?,
+            Ok(None) => write_reply(&mut out, &Refused::Unknown.reply())?,
+            Err(refused) => write_reply(&mut out, &refused.reply())?,
+        },
         Err(refused) => write_reply(&mut out, &refused.reply())?,
     }
     Ok(out)

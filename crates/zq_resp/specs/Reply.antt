@@ -3,7 +3,7 @@ use Rattle.std.specs.Prelude.{◌++◌, List, ℕ, ℤ, Option, None, Some, [], 
 use Rattle.std.specs.Fmt.{signed_decimal}
 use Rattle.std.specs.List.{list_all, list_any}
 use Rattle.zq_resp.specs.declared.reply.Reply.{Reply}
-use Rattle.zq_resp.specs.declared.reply.Reply.TheOpen.{Reply-F, Simple, Error, Integer, Bulk, Number, NullBulk, Array, Pair}
+use Rattle.zq_resp.specs.declared.reply.Reply.TheOpen.{Reply-F, Simple, Error, Integer, Bulk, Number, NullBulk, NullArray, Array, Pair}
 use Rattle.zq_resp.specs.declared.reply.Reply.TheFolds.{fold-Reply}
 
 -- a text and the end of its line
@@ -27,7 +27,7 @@ abbrev pub pair : List ℕ → ℤ → List ℕ
 pair text number = 42 ∷ line (decimal 2) ++ joined (bulk text ∷ bulk (signed_decimal number) ∷ [])
 
 -- the bytes of a reply, from those of its parts: `+`, `-`, `:`, `$` or `*` first, and `$-1` for the
--- null bulk
+-- null bulk, `*-1` for the null array
 abbrev pub bytes_from_parts : Reply-F (List ℕ) → List ℕ
 bytes_from_parts (Simple text) = 43 ∷ line text.now
 bytes_from_parts (Error text after) = 45 ∷ line (text.now ++ after_text after)
@@ -35,6 +35,7 @@ bytes_from_parts (Integer number) = 58 ∷ line (signed_decimal number)
 bytes_from_parts (Bulk bytes) = bulk bytes.items
 bytes_from_parts (Number number) = bulk (signed_decimal number)
 bytes_from_parts NullBulk = codes "$-1\r\n"
+bytes_from_parts NullArray = codes "*-1\r\n"
 bytes_from_parts (Array parts) = 42 ∷ line (decimal (length parts.items)) ++ joined parts.items
 bytes_from_parts (Pair text number) = pair text.items number
 

@@ -31,6 +31,8 @@ pub enum Reply {
     /// The number's digits as a bulk string. It takes no memory of its own.
     Number(i128),
     NullBulk,
+    /// An array that is not there.
+    NullArray,
     Array(Vec<Reply>),
     /// An array of two bulk strings: a text, and a number's digits. It takes no memory for a list.
     Pair(Text, i128),
@@ -68,6 +70,7 @@ fn append_reply(out: &mut Vec<u8>, reply: &Reply) -> Result<(), AllocError>
         Reply::Bulk(text) => append_bulk(out, text.as_slice()),
         Reply::Number(number) => append_digits(out, *number),
         Reply::NullBulk => append_line(out, b'$', b"-1"),
+        Reply::NullArray => append_line(out, b'*', b"-1"),
         Reply::Array(parts) => {
             append_number(out, b'*', parts.len())?;
             append_all(out, parts)

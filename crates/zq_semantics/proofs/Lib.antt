@@ -11,3 +11,5 @@ pub mod SiteBooks
 pub mod Questions
 pub mod NearBooks
 pub mod FewMembers
+pub mod Dropping
+pub mod ReadingRuns

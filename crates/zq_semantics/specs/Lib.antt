@@ -9,3 +9,4 @@ pub mod Doing
 pub mod Events
 pub mod Runs
 pub mod Books
+pub mod Procedures

@@ -14,8 +14,17 @@ pub data Reply : Type 0 where
   Integer : (number : ℤ) → Reply
   Bulk : (bytes : Word) → Reply
   NullBulk : Reply
+  -- an array that is not there
+  NullArray : Reply
   -- an array of bulk strings
   Bulks : (parts : List Word) → Reply
+  -- an array of numbers as texts, with the null bulk for each that is not there
+  Scores : (scores : List (Option ℤ)) → Reply
+
+-- a number as a text, and the null bulk for none
+abbrev pub score_bytes : Option ℤ → Word
+score_bytes None = codes "$-1\r\n"
+score_bytes (Some score) = bulk (signed_decimal score)
 
 abbrev pub bytes_of : Reply → Word
 bytes_of (Simple text) = 43 ∷ line text
@@ -23,7 +32,10 @@ bytes_of (Error text after) = 45 ∷ line (text ++ after_text after)
 bytes_of (Integer number) = 58 ∷ line (signed_decimal number)
 bytes_of (Bulk bytes) = bulk bytes
 bytes_of NullBulk = codes "$-1\r\n"
+bytes_of NullArray = codes "*-1\r\n"
 bytes_of (Bulks parts) = 42 ∷ line (decimal (length parts)) ++ joined (map bulk parts)
+bytes_of (Scores scores) =
+    42 ∷ line (decimal (length scores)) ++ joined (map score_bytes scores)
 
 -- a score as a text
 abbrev pub number_text : ℤ → Reply

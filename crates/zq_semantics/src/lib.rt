@@ -11,6 +11,7 @@ mod books;
 mod examples;
 mod heaps;
 mod joins;
+mod procedures;
 mod sets;
 
 pub use answers::{asking, converging, counting, reading};
@@ -18,4 +19,5 @@ pub use books::{doing, drawing, holding, recording};
 pub use examples::{answering, planning, slicing};
 pub use heaps::narrowing;
 pub use joins::meeting;
+pub use procedures::{answering_each, calling, reading_each, removing};
 pub use sets::{gathering, telling};

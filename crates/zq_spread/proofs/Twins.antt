@@ -14,9 +14,10 @@ use Rattle.zq_model.specs.Rule.{Rule}
 use Rattle.zq_model.specs.Sets.{LAST}
 use Rattle.zq_model.specs.Lent.{books_after, is_home, made, made_in, operation_in, queues_of}
 use Rattle.zq_model.specs.Moves.{Move, Queues}
-use Rattle.zq_semantics.specs.Plan.{Plan, plan_of}
+use Rattle.zq_semantics.specs.Plan.{Plan}
+use Rattle.zq_semantics.specs.Procedures.{Procedure, RunsAll, RunsProcedure, procedure_of}
 use Rattle.zq_semantics.specs.Replies.{Reply}
-use Rattle.zq_semantics.specs.Run.{ForCopies, ForMoves, ForReply, IsRun, IsWhyOf, LAST_COUNT, MayLack, Memory, Number, Runs, Takes, Want, cut_reply, is_worn, part, takes_of, whole}
+use Rattle.zq_semantics.specs.Run.{ForCopies, ForMoves, ForReply, IsRun, IsWhyOf, LAST_COUNT, MayLack, Memory, Number, Runs, Takes, Want, is_worn, part, whole}
 use Rattle.zq_words.specs.Command.{Command}
 use Rattle.zq_words.specs.Words.{Word}
 
@@ -139,21 +140,37 @@ why_twins takes site (Some move) Number us vs xs ys are why = sym (same_any site
 
 -- ---- runs
 
-runs_twins : (site stamp : ℕ) (takes : Takes) (plan : Plan) (cut : ℕ → Want → Reply) (us vs new : List Book) (reply : Word) → AreTwins us vs us vs → Runs site stamp takes plan cut us new reply →
-    (left : List Book) × Runs site stamp takes plan cut vs left reply × AreTwins us vs new left
-runs_twins site stamp takes plan cut us vs new reply are (whole is answer) =
-    let left = books_after site stamp plan.moves vs in
-    let twins : AreTwins us vs new left = subst (λ n. AreTwins us vs n left) (sym is) (after_twins site stamp plan.moves us vs us vs are) in
+runs_twins : (site stamp : ℕ) (takes : Takes) (plan : Plan) (cut : ℕ → Want → Reply) (us vs xs ys new : List Book) (reply : Word) → AreTwins us vs xs ys → Runs site stamp takes plan cut xs new reply →
+    (left : List Book) × Runs site stamp takes plan cut ys left reply × AreTwins us vs new left
+runs_twins site stamp takes plan cut us vs xs ys new reply are (whole is answer) =
+    let left = books_after site stamp plan.moves ys in
+    let twins : AreTwins us vs new left = subst (λ n. AreTwins us vs n left) (sym is) (after_twins site stamp plan.moves us vs xs ys are) in
     (left, whole refl answer, twins)
-runs_twins site stamp takes plan cut us vs new reply are (part k want most is why answer) =
-    let left = books_after site stamp (take k plan.moves) vs in
-    let twins : AreTwins us vs new left = subst (λ n. AreTwins us vs n left) (sym is) (after_twins site stamp (take k plan.moves) us vs us vs are) in
+runs_twins site stamp takes plan cut us vs xs ys new reply are (part k want most is why answer) =
+    let left = books_after site stamp (take k plan.moves) ys in
+    let twins : AreTwins us vs new left = subst (λ n. AreTwins us vs n left) (sym is) (after_twins site stamp (take k plan.moves) us vs xs ys are) in
     (left, part k want most refl (why_twins takes site (slice_get plan.moves k) want us vs new left twins why) answer, twins)
 
--- a command that ran over books runs over those that are like them
+-- a procedure that ran over books runs over those that are like them
+procedure_twins : (rule : Rule) (site stamp : ℕ) (p : Procedure) (us vs xs ys new : List Book) (reply : Word) → AreTwins us vs xs ys → RunsProcedure rule site stamp p xs new reply →
+    (left : List Book) × RunsProcedure rule site stamp p ys left reply × AreTwins us vs new left
+procedure_twins rule site stamp p us vs xs ys new reply are ran =
+    let same = same_queues rule us vs xs ys are in
+    runs_twins site stamp (p.takes (queues_of rule ys)) (p.plan (queues_of rule ys)) (p.cut (queues_of rule ys)) us vs xs ys new reply are
+    (subst (λ (q : Queues). Runs site stamp (p.takes q) (p.plan q) (p.cut q) xs new reply) same ran)
+
+-- so does a command
 pub run_twins : (rule : Rule) (site stamp : ℕ) (command : Command) (us vs new : List Book) (reply : Word) → AreTwins us vs us vs → IsRun rule site stamp command us new reply →
     (left : List Book) × IsRun rule site stamp command vs left reply × AreTwins us vs new left
-run_twins rule site stamp command us vs new reply are ran =
-    let same = same_queues rule us vs us vs are in
-    runs_twins site stamp (takes_of command (queues_of rule vs)) (plan_of command (queues_of rule vs)) (cut_reply command (queues_of rule vs)) us vs new reply are
-    (subst (λ (q : Queues). Runs site stamp (takes_of command q) (plan_of command q) (cut_reply command q) us new reply) same ran)
+run_twins rule site stamp command us vs new reply are ran = procedure_twins rule site stamp (procedure_of command) us vs us vs new reply are ran
+
+-- and so do procedures, one after the other
+pub each_twins : (rule : Rule) (site stamp : ℕ) (ps : List Procedure) (us vs xs ys new : List Book) (replies : List Word) → AreTwins us vs xs ys → RunsAll rule site stamp ps xs new replies →
+    (left : List Book) × RunsAll rule site stamp ps ys left replies × AreTwins us vs new left
+each_twins rule site stamp [] us vs xs ys new [] are ran = (ys, refl, subst (λ n. AreTwins us vs n ys) (sym ran) are)
+each_twins rule site stamp [] us vs xs ys new (reply ∷ replies) are ran = absurd ran
+each_twins rule site stamp (p ∷ ps) us vs xs ys new [] are ran = absurd ran
+each_twins rule site stamp (p ∷ ps) us vs xs ys new (reply ∷ replies) are ran =
+    let first = procedure_twins rule site stamp p us vs xs ys ran.0 reply are ran.1 in
+    let rest = each_twins rule site stamp ps us vs ran.0 first.0 new replies first.2 ran.2 in
+    (rest.0, (first.0, first.1, rest.1), rest.2)

@@ -10,14 +10,16 @@ use Rattle.zq_model.specs.Reach.{IsWorked}
 use Rattle.zq_model.specs.Bounded.{IsBounded}
 use Rattle.zq_model.specs.Sets.{IsIn}
 use Rattle.zq_model.specs.Lent.{AreLent}
+use Rattle.zq_semantics.specs.Procedures.{Procedure, RunsAll}
 use Rattle.zq_semantics.specs.Run.{IsRun}
 use Rattle.zq_spread.proofs.Commanded.{appended}
 use Rattle.zq_spread.proofs.ManyHeaps.{seen_same, steps_same, turns_same}
 use Rattle.zq_spread.proofs.LeftAsGiven.{worked_once}
-use Rattle.zq_spread.proofs.Twins.{AreTwins, begun_twin, run_twins}
-use Rattle.zq_spread.specs.Calls.{AreWorkedIn, greatest_stamp, heaps_of}
+use Rattle.zq_spread.proofs.Twins.{AreTwins, begun_twin, each_twins, run_twins}
+use Rattle.zq_spread.specs.Calls.{AreWorkedIn, IsCall, greatest_stamp, heaps_of}
 use Rattle.zq_spread.specs.Commanded.{AreAppended}
-use Rattle.zq_spread.specs.Dispatch.{HasHeldEach, IsCommandOver}
+use Rattle.zq_spread.specs.Dispatch.{DoesCommand, HasHeldEach, IsCommandOver}
+use Rattle.zq_spread.specs.Each.{AreCalled, DoesEach}
 use Rattle.zq_spread.specs.Passes.{IsSlotAt, seen_at, steps_at}
 use Rattle.zq_spread.specs.HeapSlots.{IsWorkedOn}
 use Rattle.zq_spread.specs.Several.{AreBegunAt, AreBooksAt, AreHeapsOf, AreHeldOn, HasEndedIn, IsBegunAt, IsHeldOn, IsSameOutside, MayEndIn, books_of}
@@ -208,15 +210,15 @@ module _ (site : Site) (before : Pass) (stamp : ℕ) where
         λ k is. elim is [ inl same ↦ subst (λ j. HasHeldOnce before after j) same (entry turn.0 x ended.0.left, turn.1) | inr here ↦ rest.2 k here ],
       )
 
-  -- so it is a call
-  pub called_over : (command : Command) (reply : Word) (mid after : Pass) (heaps : List ℕ) (olds news : List (Held LockedHeap)) (found : List LockedHeap) → AreBegunAt site before stamp heaps olds found →
+  -- so it is a call, of whatever was done with these steps
+  call_over : (Does : List Book → List (List Step) → Type 0) (mid after : Pass) (heaps : List ℕ) (olds news : List (Held LockedHeap)) (found : List LockedHeap) → AreBegunAt site before stamp heaps olds found →
       (on : AreHeldOn olds news) → ((b : Book) → IsIn b (books_of news) → b.stamp ≤ stamp) → after.stamp ≡ stamp → IsSameOutside heaps before mid → HasEndedIn mid after heaps news →
       ((k : ℕ) → (IsIn k heaps → ⊥) → (seen_at after k ≡ seen_at mid k) × (steps_at after k ≡ steps_at mid k) × (turns_at after k ≡ turns_at mid k)) → stamp ≡ max before.stamp (greatest_stamp found) + 1 →
-      IsRun (rule_of site.rule) site.number stamp command (books_of olds) (books_of news) reply → IsCommandOver site command reply before after heaps found
-  called_over command reply mid after heaps olds news found are on low dated outside ended others next ran =
+      Does (map (λ (x : LockedHeap). x.book) found) (steps_each olds news on) →
+      (call : IsCall Does before after heaps) × (call.found ≡ found) × HasHeldEach before after heaps
+  call_over Does mid after heaps olds news found are on low dated outside ended others next done =
       let steps = λ (k : ℕ). steps_same heaps before mid k outside in
-      let each = ended_each mid after heaps olds news found are on low dated steps ended in
-      let other = run_twins (rule_of site.rule) site.number stamp command (books_of olds) (map (λ (x : LockedHeap). x.book) found) (books_of news) reply (begun_twins heaps olds found are) ran in (
+      let each = ended_each mid after heaps olds news found are on low dated steps ended in (
         record {
           found = found;
           left = each.0;
@@ -224,12 +226,39 @@ module _ (site : Site) (before : Pass) (stamp : ℕ) where
           next = dated ∙ next;
           worked = each.1;
           others = λ k out. let stays = others k out in (stays.0 ∙ seen_same heaps before mid k outside out, stays.1 ∙ steps k, stays.2 ∙ turns_same heaps before mid k outside out);
-          done = record {
-            left = other.0;
-            ran = subst (λ n. IsRun (rule_of site.rule) site.number n command (map (λ (x : LockedHeap). x.book) found) other.0 reply) (sym dated) other.1;
-            appended = appended_each heaps olds news found other.0 are on other.2;
-          };
+          done = done;
         },
         refl,
         each.2,
       )
+
+  -- of a command
+  pub called_over : (command : Command) (reply : Word) (mid after : Pass) (heaps : List ℕ) (olds news : List (Held LockedHeap)) (found : List LockedHeap) → AreBegunAt site before stamp heaps olds found →
+      (on : AreHeldOn olds news) → ((b : Book) → IsIn b (books_of news) → b.stamp ≤ stamp) → after.stamp ≡ stamp → IsSameOutside heaps before mid → HasEndedIn mid after heaps news →
+      ((k : ℕ) → (IsIn k heaps → ⊥) → (seen_at after k ≡ seen_at mid k) × (steps_at after k ≡ steps_at mid k) × (turns_at after k ≡ turns_at mid k)) → stamp ≡ max before.stamp (greatest_stamp found) + 1 →
+      IsRun (rule_of site.rule) site.number stamp command (books_of olds) (books_of news) reply → IsCommandOver site command reply before after heaps found
+  called_over command reply mid after heaps olds news found are on low dated outside ended others next ran =
+      let books = map (λ (x : LockedHeap). x.book) found in
+      let other = run_twins (rule_of site.rule) site.number stamp command (books_of olds) books (books_of news) reply (begun_twins heaps olds found are) ran in
+      call_over (DoesCommand site after.stamp command reply) mid after heaps olds news found are on low dated outside ended others next
+      (record {
+        left = other.0;
+        ran = subst (λ n. IsRun (rule_of site.rule) site.number n command books other.0 reply) (sym dated) other.1;
+        appended = appended_each heaps olds news found other.0 are on other.2;
+      })
+
+  -- and of several procedures
+  pub each_over : (ps : List Procedure) (replies : List Word) (mid after : Pass) (heaps : List ℕ) (olds news : List (Held LockedHeap)) (found : List LockedHeap) → AreBegunAt site before stamp heaps olds found →
+      (on : AreHeldOn olds news) → ((b : Book) → IsIn b (books_of news) → b.stamp ≤ stamp) → after.stamp ≡ stamp → IsSameOutside heaps before mid → HasEndedIn mid after heaps news →
+      ((k : ℕ) → (IsIn k heaps → ⊥) → (seen_at after k ≡ seen_at mid k) × (steps_at after k ≡ steps_at mid k) × (turns_at after k ≡ turns_at mid k)) → stamp ≡ max before.stamp (greatest_stamp found) + 1 →
+      RunsAll (rule_of site.rule) site.number stamp ps (books_of olds) (books_of news) replies → AreCalled site ps replies before after heaps
+  each_over ps replies mid after heaps olds news found are on low dated outside ended others next ran =
+      let books = map (λ (x : LockedHeap). x.book) found in
+      let other = each_twins (rule_of site.rule) site.number stamp ps (books_of olds) books (books_of olds) books (books_of news) replies (begun_twins heaps olds found are) ran in
+      let call = call_over (DoesEach site after.stamp ps replies) mid after heaps olds news found are on low dated outside ended others next
+      (record {
+        left = other.0;
+        ran = subst (λ n. RunsAll (rule_of site.rule) site.number n ps books other.0 replies) (sym dated) other.1;
+        appended = appended_each heaps olds news found other.0 are on other.2;
+      }) in
+      (call.0, call.2)

@@ -15,3 +15,4 @@ pub mod Meetings
 pub mod Dispatch
 pub mod Several
 pub mod Worn
+pub mod Each

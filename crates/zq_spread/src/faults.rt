@@ -54,6 +54,15 @@ impl From<TryFault> for HoldFault {
     }
 }
 
+/// Why nothing of what a site was asked at once was done.
+#[derive(Clone, Copy, Debug, PartialEq, Eq)]
+pub enum EachFault {
+    /// A heap's lock or the stamp is at its last value.
+    Worn,
+    /// A growth was refused.
+    NoMemory,
+}
+
 /// Another thread holds a heap of the call or waits for it, or did so just now.
 #[derive(Clone, Copy, Debug, PartialEq, Eq)]
 pub struct Busy;

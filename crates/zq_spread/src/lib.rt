@@ -9,6 +9,7 @@ mod calling_all;
 mod dispatching;
 mod drawing;
 mod draws;
+mod each;
 mod empty_slot;
 mod faults;
 mod heap_slot;
@@ -39,7 +40,7 @@ mod trying_all;
 mod working;
 
 pub use draws::Draws;
-pub use faults::{Busy, HoldFault, ReadFault, SiteFault};
+pub use faults::{Busy, EachFault, HoldFault, ReadFault, SiteFault};
 pub use holdings::Holding;
 pub use pass::Pass;
 pub use site::Site;

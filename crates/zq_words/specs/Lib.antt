@@ -7,3 +7,4 @@ pub mod Refused
 pub mod Shown
 pub mod Limits
 pub mod Heaps
+pub mod Calls

@@ -1,8 +1,8 @@
-//! What commands find in sorted sets: words with spaces between.
+//! What requests find in sorted sets: words with spaces between.
 
 use itoa::Buffer;
 use std::alloc::AllocError;
-use zq_words::{Bound, Kind, Limit, Pair, Range, Window};
+use zq_words::{Bound, Kind, Limit, Pair, Range, SiteCall, Window};
 
 const LETTERS: [(&[u8], i64); 5] = [(b"z", -4), (b"a", 1), (b"b", 2), (b"bb", 2), (b"c", 3)];
 
@@ -43,6 +43,24 @@ pub fn write_answer(out: &mut Vec<u8>, kind: &Kind) -> Result<(), AllocError> {
         Kind::Zscore { member, .. } => write_word(out, member),
         Kind::Del { keys } => write_words(out, keys),
         _ => write_word(out, b"another command"),
+    }
+}
+
+/// The members of the range that is removed, or what a further request was given.
+pub fn write_call(out: &mut Vec<u8>, call: &SiteCall) -> Result<(), AllocError> {
+    match call {
+        SiteCall::Scores { key, members } => {
+            write_word(out, key)?;
+            write_words(out, members)
+        }
+        SiteCall::Exist { keys } => write_words(out, keys),
+        SiteCall::TypeOf { key } => write_word(out, key),
+        SiteCall::PopLast { key, count } => {
+            write_word(out, key)?;
+            write_word(out, Buffer::new().format(*count).as_bytes())
+        }
+        SiteCall::RemoveRange { key, range } => write_range(out, queue(key), range, false, false),
+        _ => write_word(out, b"another call"),
     }
 }
 

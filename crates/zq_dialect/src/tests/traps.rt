@@ -1,13 +1,13 @@
 //! What stays as it is, and what memory is asked for.
 
 use super::request;
-use crate::rewritten;
+use crate::{read_call, rewritten};
 use std::alloc::Global;
 use std::process::Abort;
 use std::test::Fail;
 use zq_resp::Request;
 
-const KEPT: [&str; 14] = [
+const KEPT: [&str; 21] = [
     "PING",
     "SAVE",
     "ZADD n:q 5 a",
@@ -22,9 +22,16 @@ const KEPT: [&str; 14] = [
     "ZPOPMIN q 1e0",
     "DEL 1e0",
     "ZRANK q 1e0",
+    "ZMSCORE q 1e0",
+    "EXISTS 1e0",
+    "TYPE 1e0",
+    "ZPOPMAX q 1e0",
+    "ZREMRANGEBYRANK q 1e0 2e0",
+    "ZREMRANGEBYSCORE q 1e0",
+    "ZREMRANGEBYSCORE q (1 -inf",
 ];
 
-const CHANGED: [(&str, &str); 13] = [
+const CHANGED: [(&str, &str); 15] = [
     ("zrevrange", "ZRANGE"),
     ("ZRANGEBYSCORE q 1e0", "ZRANGE q 1e0"),
     ("ZRevRange q 1e0 2", "ZRANGE q 1e0 2 REV"),
@@ -44,6 +51,11 @@ const CHANGED: [(&str, &str); 13] = [
     ("ZADD q 1e0 a 1", "ZADD q 1 a 1"),
     ("ZINCRBY q 0.00001e5 a", "ZINCRBY q 1 a"),
     ("UnLink 1e0", "DEL 1e0"),
+    (
+        "zremrangebyscore q 1.5 (2e0 1e0",
+        "zremrangebyscore q 2 (2 1e0",
+    ),
+    ("ZREMRANGEBYSCORE q (-.5 -.5", "ZREMRANGEBYSCORE q 0 -1"),
 ];
 
 fn is_same(a: &Request, b: &Request) -> bool {
@@ -79,4 +91,24 @@ fn what_is_read_stays(rt: HostRuntime) -> Result<(), Fail> {
 #[test]
 fn words_are_written_in_place_of_others(rt: HostRuntime) -> Result<(), Fail> {
     each_is_changed(&rt, rt.alloc(), &CHANGED)
+}
+
+/// Names of commands, and others that name no further request.
+const NOT_FURTHER: [&str; 6] = [
+    "PING",
+    "ZPOPMIN q",
+    "DEL",
+    "SAVE",
+    "BZPOPMIN q 0",
+    "ZMSCORES q a",
+];
+
+#[test]
+fn other_names_ask_nothing(rt: HostRuntime) -> Result<(), Fail> {
+    let alloc = rt.alloc();
+    for line in NOT_FURTHER {
+        let request = request(alloc, line)?;
+        assert!(rt; matches!(read_call(&request), Ok(None)), "at {line}");
+    }
+    Ok(())
 }

@@ -1,29 +1,15 @@
-use Rattle.std.proofs.Common.{[], Bor, List, Some, ap, arith, drop, flat_map, get_or, length, map, pos, refl, slice_get, suc, sym, take, zero, ◌++◌, ◌+◌, ◌-◌, ◌<◌, ◌∙◌, ◌∷◌, ◌≡◌, ◌≤◌, ℕ, ℤ}
+use Rattle.std.proofs.Common.{[], Bor, List, ap, arith, flat_map, get_or, length, map, pos, sym, ◌++◌, ◌<◌, ◌∙◌, ◌∷◌, ◌≡◌, ◌≤◌, ℕ, ℤ}
 use Rattle.std.proofs.lemmas.Grind.{flat_map-append}
 use Rattle.std.proofs.lemmas.List.{append-nil, map-append}
 use Rattle.std.proofs.lemmas.Option.{slice_get-get_or, slice_get-map}
 use Rattle.std.specs.Option.{option_map}
 use Rattle.std.specs.Prelude.{slice_range}
-use Rattle.zq_commands.proofs.InTurn.{take_next}
+use Rattle.zq_commands.proofs.Slices.{range_next}
 use Rattle.zq_commands.specs.FirstPairs.{lent_pair}
 use Rattle.zq_semantics.specs.Replies as plan
 use Rattle.zq_resp.specs.Reply.{bulk}
 use Rattle.zq_words.specs.Words.{Word}
 use Rattle.zq_commands.proofs.pairs.copy_parts.Goals as goal
-
-get_rest : {X : Type 0} (xs : List X) (from i : ℕ) → from ≤ i → slice_get (drop from xs) (i - from) ≡ slice_get xs i
-get_rest xs zero i low = let same : i - 0 ≡ i = omega arith in ap (slice_get xs) same
-get_rest [] (suc from) zero low = absurd (omega (arith, low))
-get_rest [] (suc from) (suc i) low = refl
-get_rest (x ∷ xs) (suc from) zero low = absurd (omega (arith, low))
-get_rest (x ∷ xs) (suc from) (suc i) low =
-    let same : suc i - suc from ≡ i - from = omega arith in ap (slice_get (drop from xs)) same ∙ get_rest xs from i (omega (arith, low))
-
--- one more of a part of a list
-range_next : {X : Type 0} (xs : List X) (from i : ℕ) (x : X) → from ≤ i → slice_get xs i ≡ Some x → slice_range xs from (i + 1) ≡ slice_range xs from i ++ x ∷ []
-range_next xs from i x low at =
-    let wide : i + 1 - from ≡ (i - from) + 1 = omega (arith, low) in
-    ap (λ n. take n (drop from xs)) wide ∙ take_next (drop from xs) (i - from) x (get_rest xs from i low ∙ at)
 
 shown_more : {X : Type 0} (f : X → List Word) (xs : List X) (x : X) → map bulk (flat_map f xs) ++ map bulk (f x) ≡ map bulk (flat_map f (xs ++ x ∷ []))
 shown_more f xs x = sym (ap (map bulk) (flat_map-append f xs (x ∷ []) ∙ ap (λ r. flat_map f xs ++ r) (append-nil (f x))) ∙ map-append bulk (flat_map f xs) (f x))

@@ -1,4 +1,4 @@
-use Rattle.std.proofs.Common.{Err, List, Some, [], ap, arith, length, map, pos, slice_get, slice_index_or, subst, true, ◌<◌, ◌∙◌, ◌≡◌, ℕ, ℤ}
+use Rattle.std.proofs.Common.{Err, List, Some, [], ap, arith, length, map, pos, slice_get, slice_index_or, subst, ◌<◌, ◌∙◌, ◌≡◌, ℕ, ℤ}
 use Rattle.std.proofs.lemmas.List.{length-map}
 use Rattle.std.proofs.lemmas.List.Elements.{All-get_or}
 use Rattle.std.proofs.lemmas.Option.{get_or_from_slice_get, slice_get-get_or, slice_get-map}

@@ -3,12 +3,12 @@ use Rattle.zq_commands.proofs.InTurn.{StandsAfter}
 use Rattle.zq_commands.specs.Lending.{HasBook, IsDated, IsLending}
 use Rattle.zq_semantics.specs.Plan.{zrem_part}
 use Rattle.zq_words.specs.Words.{views}
-use Rattle.zq_commands.proofs.zrem.drop_members.Given as goal
+use Rattle.zq_commands.proofs.dropping.drop_each.Given as goal
 
 abbrev pub invariant-loop-member : goal.invariant-loop-member
 invariant-loop-member g l = record {
-  stands : StandsAfter (zrem_part l.key) l.call.site l.call.stamp (views l.members) l.member-index (g.B.Books.lent l.initial.books) (g.B.Books.lent l.books) l.removed l.removed;
-  few : l.removed ≤ l.member-index;
+  stands : StandsAfter (zrem_part l.key) l.call.site l.call.stamp (views l.members) l.member-index (g.B.Books.lent l.initial.books) (g.B.Books.lent l.books) l.done l.done;
+  few : l.done ≤ l.member-index;
   keeps : g.B.Books.keeps l.initial.books l.books;
   dated : IsDated l.call.stamp (g.B.Books.lent l.books);
   lent : IsLending (g.B.Books.lent l.books);
