@@ -57,7 +57,7 @@ module _ (rule : Rule) (K site : ℕ) (W : List Operation) (two : 2 ≤ K) (worl
   pub reads : AreScoresMeant → (S : List Operation) (books : Books) (before : List Note) (n : Note) (after : List Note) → AreImagesOf rule K W S books →
       IsOneThread rule K site books (before ++ n ∷ after) → AreOfWorld W (before ++ n ∷ after) → IsReadOff rule K site (gathered W before S) n
   reads meant S books [] n after are is of =
-      read_off meant rule K W S books (world_part K S W are.within world) are site n.stamp n.asked n.heaps n.answer n.steps (omega (arith, two)) is.0.does
+      read_off meant rule K W S books (world_part K S W are.within world) are site n.stamp n.asked n.heaps n.answer n.steps (omega (arith, two)) is.0.steps is.0.does
   reads meant S books (b ∷ before) n after are is of =
       reads meant (gathered W (b ∷ []) S) (left_by b books) before n after (grows S books b (before ++ n ∷ after) are is.0 of) is.1 of.1
 

@@ -7,6 +7,8 @@ pub mod HeldOnce
 pub mod MovedSteps
 pub mod SaidCommands
 pub mod HomeMoves
+pub mod EachRun
+pub mod EachOff
 pub mod ReadOff
 pub mod Histories
 pub mod PutAndRead

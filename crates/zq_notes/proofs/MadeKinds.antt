@@ -1,4 +1,4 @@
--- What calls make: a command the operations of its moves, and any other call none.
+-- What calls make: a command, and several things at once, the operations of the moves, and any other call none.
 
 use Rattle.std.proofs.Common.{Err, Ok, ap, inl, inr, refl, subst, sym, ◌∙◌}
 use Rattle.std.specs.Prelude.{List, [], false, if◌then◌else◌, map, slice_index, slice_set, true, ℕ, ◌+◌, ◌++◌, ◌==◌, ◌∷◌, ◌≡◌, ◌⊎◌}
@@ -12,7 +12,7 @@ use Rattle.zq_model.specs.Rule.{Rule}
 use Rattle.zq_model.specs.Sets.{Early, Known, New, Taken, taken_of, vector_of}
 use Rattle.zq_model.specs.Moves.{Move}
 use Rattle.zq_notes.proofs.MadeWorlds.{AllMade, AllMadeIn}
-use Rattle.zq_notes.specs.Notes.{Answer, Asked, Copied, Handed, HandedAll, Joined, Portioned, Replied, Shown, TakenOver, ToCopy, ToDrain, ToMerge, ToPortion, ToRun, ToShow, ToTake, ToTakeAll, ToTakeOver, ToTell, Told}
+use Rattle.zq_notes.specs.Notes.{Answer, Asked, Copied, Handed, HandedAll, Joined, Portioned, Replied, RepliedEach, Shown, TakenOver, ToCopy, ToDrain, ToMerge, ToPortion, ToRun, ToRunEach, ToShow, ToTake, ToTakeAll, ToTakeOver, ToTell, Told}
 use Rattle.zq_notes.specs.Readings.{IsAnswerOf, MayHandOn, heap_as, moved_in}
 use Rattle.zq_notes.specs.Sites.{made_in, made_in_all}
 use Rattle.zq_shard.specs.Shard.{HeapImage}
@@ -64,6 +64,8 @@ pub kinds : (rule : Rule) (K site : ℕ) (S : List Operation) (asked : Asked) (s
     AllMadeIn site steps ⊎ MakeNone steps
 kinds rule K site S (ToRun command w1 w2) stamp heaps (Replied reply) steps is =
     inl (subst (AllMadeIn site) (sym is.2) (all_moved_in K site stamp is.0 (vector_of S) heaps))
+kinds rule K site S (ToRunEach calls) stamp heaps (RepliedEach replies) steps is =
+    inl (subst (AllMadeIn site) (sym is.3) (all_moved_in K site stamp is.0 (vector_of S) heaps))
 kinds rule K site S (ToTake op) stamp heaps (Handed (Ok taken)) steps is =
     inr (subst MakeNone (sym is.1) (none_taken (taken_of (vector_of S op.operation.heap) op.operation) stamp op.operation))
 kinds rule K site S (ToTake op) stamp heaps (Handed (Err fault)) steps is = inr (none_of steps is.2)

@@ -4,6 +4,7 @@ use Rattle.std.proofs.Common.{ap, inl, inr, subst, sym, ◌∙◌}
 use Rattle.std.proofs.lemmas.Option.{same_Some}
 use Rattle.std.specs.Prelude.{Err, IfOk, List, Ok, Result, [], map, refl, ℕ, ◌∷◌, ◌≡◌, ◌⊎◌}
 use Rattle.zq_dots.specs.Placed.{Placed}
+use Rattle.zq_commands.specs.Calls.{procedures}
 use Rattle.zq_dots.specs.Rule.{rule_of}
 use Rattle.zq_model.specs.Books.{Book, Step}
 use Rattle.zq_model.specs.Reach.{begun, worked as done_by}
@@ -14,8 +15,9 @@ use Rattle.zq_journal.specs.declared.since.Since.{Since}
 use Rattle.zq_model.specs.Heaps.{heap_of}
 use Rattle.zq_notes.specs.Calls.{HasNote, HeldNone, HeldNoneIn}
 use Rattle.zq_notes.specs.Does.{AreHeapsFor, Does, IsOfHeaps, IsTold}
-use Rattle.zq_notes.specs.Notes.{Answer, Asked, Copied, Handed, HandedAll, Joined, Portioned, Replied, Shown, TakenOver, ToCopy, ToDrain, ToMerge, ToPortion, ToRun, ToShow, ToTake, ToTakeAll, ToTakeOver, ToTell, Told}
+use Rattle.zq_notes.specs.Notes.{Answer, Asked, Copied, Handed, HandedAll, Joined, Portioned, Replied, RepliedEach, Shown, TakenOver, ToCopy, ToDrain, ToMerge, ToPortion, ToRun, ToRunEach, ToShow, ToTake, ToTakeAll, ToTakeOver, ToTell, Told}
 use Rattle.zq_semantics.specs.Doing.{drawn}
+use Rattle.zq_semantics.specs.Procedures.{procedure}
 use Rattle.zq_shard.specs.Shard.{HeapImage}
 use Rattle.zq_shard.specs.declared.spot.Spot.{Spot}
 use Rattle.zq_shard.specs.declared.taken.Taken.{Taken}
@@ -23,6 +25,7 @@ use Rattle.zq_spread.specs.Answers.{IsAsked, IsCopied, IsDrained, IsMerged, IsPo
 use Rattle.zq_spread.specs.Batches.{IsTakenAll}
 use Rattle.zq_spread.specs.Calls.{AreWorkedIn, HasSeenBook, IsCall, IsLikeSite, IsOfSite, heaps_of}
 use Rattle.zq_spread.specs.Dispatch.{DoesCommand, DoesNear, IsCalled, IsCalledIn, IsCommand, all_heaps}
+use Rattle.zq_spread.specs.Each.{AreAnswered, DoesEach}
 use Rattle.zq_spread.specs.declared.faults.ReadFault.{ReadFault}
 use Rattle.zq_spread.specs.declared.faults.ReadFault.TheVariants as unread
 use Rattle.zq_spread.specs.declared.locked_heap.LockedHeap.{LockedHeap}
@@ -31,11 +34,13 @@ use Rattle.zq_spread.specs.declared.site.Site.{Site}
 use Rattle.zq_spread.specs.declared.taken_all.TakenAll.{TakenAll}
 use Rattle.zq_stage.specs.declared.portion.Portion.{Portion}
 use Rattle.zq_stage.specs.declared.portion.PortionLimits.{PortionLimits}
+use Rattle.zq_words.specs.Calls.{call_shown}
 use Rattle.zq_words.specs.Command.{Command}
 use Rattle.zq_words.specs.Heaps as named
 use Rattle.zq_words.specs.Words.{Word}
 use Rattle.zq_words.specs.declared.heaps.Heaps.{Heaps}
 use Rattle.zq_words.specs.declared.heaps.Heaps.TheVariants.{All, Near, NoHeap, One}
+use Rattle.zq_words.specs.declared.site_call.SiteCall.{SiteCall}
 
 module _ (site : Site) (p : ℕ) (before after : Pass) where
   abbrev does : Asked → List ℕ → Answer → List Book → List (List Step) → Type 0
@@ -141,6 +146,18 @@ module _ (site : Site) (p : ℕ) (before after : Pass) where
         done = (refl, told_of vector heap result call saw);
       } in
       noted (does (ToTell heap vector) (heap ∷ []) (Told result)) (ToTell heap vector) (heap ∷ []) (Told result) (λ found steps is. is) whole
+
+  -- ---- several things at once
+
+  pub calls_each : (calls : List SiteCall) (replies : List Word) → IsCall (DoesEach site after.stamp (procedures calls) replies) before after (all_heaps site) →
+      HasNote site p before after (ToRunEach (map call_shown calls)) (RepliedEach replies)
+  calls_each calls replies call =
+      noted (DoesEach site after.stamp (procedures calls) replies) (ToRunEach (map call_shown calls)) (all_heaps site) (RepliedEach replies)
+      (λ found steps is. (refl, subst (λ ps. AreAnswered (rule_of site.rule) site.number after.stamp ps replies found steps) (shown calls) is)) call
+    where
+      shown : (cs : List SiteCall) → procedures cs ≡ map procedure (map call_shown cs)
+      shown [] = refl
+      shown (c ∷ cs) = ap (λ ps. procedure (call_shown c) ∷ ps) (shown cs)
 
   -- ---- commands
 

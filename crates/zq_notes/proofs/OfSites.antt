@@ -215,7 +215,7 @@ module _ (limits : ℕ → TailLimits) (rule : Rule) (K : ℕ) where
 
         read : IsAnswerOf rule K e.site had note.asked note.stamp note.heaps note.answer note.steps
         read =
-            read_off meant rule K (made_of before) had (books_at limits rule K e.site before) part (stands.images e.site) e.site note.stamp note.asked note.heaps note.answer note.steps (omega (arith, two)) note_over.does
+            read_off meant rule K (made_of before) had (books_at limits rule K e.site before) part (stands.images e.site) e.site note.stamp note.asked note.heaps note.answer note.steps (omega (arith, two)) note_over.steps note_over.does
 
         made_world : IsWorld K made_now × ((o : Operation) → IsMadeInAll o note.steps → o.site ≡ e.site)
         made_world = elim (kinds rule K e.site had note.asked note.stamp note.heaps note.answer note.steps read) [

@@ -1,8 +1,7 @@
 -- What calls answer over the images of a set is read off the set.
 
 use Rattle.std.proofs.Common.{None, Option, Some, [], ap, arith, inl, inr, subst, sym, true≢false, ◌∙◌}
-use Rattle.std.proofs.lemmas.Option.{slice_get_within}
-use Rattle.std.specs.Prelude.{Bool, Err, List, Ok, Result, false, length, map, not, refl, slice_get, slice_index, take, true, ℕ, ℤ, ◌+◌, ◌-◌, ◌<◌, ◌∷◌, ◌↔◌, ◌≡◌, ◌≤◌}
+use Rattle.std.specs.Prelude.{Bool, Err, List, Ok, Result, false, length, map, not, refl, slice_index, take, true, ℕ, ℤ, ◌+◌, ◌-◌, ◌<◌, ◌∷◌, ◌↔◌, ◌≡◌, ◌≤◌}
 use Rattle.zq_dots.specs.Placed.{Placed}
 use Rattle.zq_model.specs.Books.{Book, Step, operations_of}
 use Rattle.zq_model.specs.Reach.{begun}
@@ -39,17 +38,21 @@ use Rattle.zq_model.specs.Moves.{Move, Queues, score_in}
 use Rattle.zq_notes.specs.Does.{AreHeapsFor, Does, IsTold}
 use Rattle.zq_notes.proofs.Tails.{in_tail_set, tail_begun}
 use Rattle.zq_notes.specs.Gathered.{AreImagesOf, HasTailOf}
-use Rattle.zq_notes.specs.Notes.{Answer, Asked, Books, Copied, Handed, HandedAll, Joined, Portioned, Replied, Shown, TakenOver, ToCopy, ToDrain, ToMerge, ToPortion, ToRun, ToShow, ToTake, ToTakeAll, ToTakeOver, ToTell, Told}
+use Rattle.zq_notes.specs.Notes.{Answer, Asked, Books, Copied, Handed, HandedAll, Joined, Portioned, Replied, RepliedEach, Shown, TakenOver, ToCopy, ToDrain, ToMerge, ToPortion, ToRun, ToRunEach, ToShow, ToTake, ToTakeAll, ToTakeOver, ToTell, Told}
+use Rattle.zq_notes.proofs.EachOff.{IsAt, legal_from, runs_off}
+use Rattle.zq_notes.proofs.EachRun.{AreRunsFrom, cut_at, each_from}
 use Rattle.zq_notes.proofs.HomeMoves.{at_home}
 use Rattle.zq_notes.proofs.MovedSteps.{moves_are}
-use Rattle.zq_notes.specs.Readings.{AreFirstLacked, AreLacked, IsAnswerOf, IsCutAt, IsOrShort, IsRunOf, IsRunOff, IsRunOver, MayHandOn, cut_off, heap_as, in_full, is_list, moved_in, over_all, over_drawn}
+use Rattle.zq_notes.specs.Readings.{AreFirstLacked, AreLacked, IsAnswerOf, IsCutAt, IsOrShort, IsRunEachOff, IsRunOf, IsRunOff, IsRunOver, MayHandOn, cut_off, heap_as, in_full, is_list, moved_in, over_all, over_drawn}
+use Rattle.zq_notes.specs.Thread.{AreOwnIn}
 use Rattle.zq_semantics.proofs.FewMembers.{few_members}
 use Rattle.zq_semantics.proofs.Lifted.{cut_same, not_popping, takes_same}
 use Rattle.zq_semantics.proofs.Narrow.{plans_same}
 use Rattle.zq_semantics.specs.Doing.{drawn}
 use Rattle.zq_semantics.specs.Plan.{Plan, plan_of}
+use Rattle.zq_semantics.specs.Procedures.{Procedure, procedure}
 use Rattle.zq_semantics.specs.Replies.{bytes_of}
-use Rattle.zq_semantics.specs.Run.{ForCopies, ForMoves, ForReply, IsReadShort, IsRun, IsWhy, IsWhyOf, MayLack, Memory, Number, Takes, Want, cut_error, cut_pop, part, popped_of, takes_of, whole}
+use Rattle.zq_semantics.specs.Run.{ForReply, IsReadShort, IsRun, MayLack, Memory, Number, Takes, cut_error, cut_pop, part, popped_of, takes_of, whole}
 use Rattle.zq_semantics.specs.Reading.{heaps_in, is_reading, queues_over}
 use Rattle.zq_shard.specs.Shard.{HeapImage}
 use Rattle.zq_shard.specs.declared.spot.Spot.{Spot}
@@ -59,8 +62,9 @@ use Rattle.zq_stage.specs.declared.portion.Portion.{Portion}
 use Rattle.zq_stage.specs.declared.portion.PortionLimits.{PortionLimits}
 use Rattle.zq_spread.specs.Answers.{AreHandings, IsCopied, IsDrained, IsFirstSince, IsMerged, IsPortioned, IsShown, IsSince, IsTaken, IsTakenOver, unhanded_of}
 use Rattle.zq_spread.specs.Batches.{IsTakenAll, IsTakenSoFar}
-use Rattle.zq_spread.specs.Commanded.{IsAnswered}
+use Rattle.zq_spread.specs.Commanded.{AreAppended, IsAnswered}
 use Rattle.zq_spread.specs.Dispatch.{HasNear}
+use Rattle.zq_spread.specs.Each.{AreAnswered}
 use Rattle.zq_spread.specs.declared.faults.ReadFault.{ReadFault}
 use Rattle.zq_spread.specs.declared.faults.ReadFault.TheVariants as unread
 use Rattle.zq_spread.specs.declared.taken_all.TakenAll.{TakenAll}
@@ -76,22 +80,6 @@ use Rattle.zq_words.specs.declared.heaps.Heaps.TheVariants.{All, Near, NoHeap, O
 not_false : (b : Bool) → false ≡ not b → b ≡ true
 not_false true is = refl
 not_false false is = absurd (true≢false (sym is))
-
--- where there is a next move
-there_is : (k : ℕ) (moves : List Move) (P : Option Move → Type 0) → (P None → ⊥) → P (slice_get moves k) → k < length moves
-there_is k moves P none is =
-    elim (slice_get moves k) as (λ o. slice_get moves k ≡ o → P o → k < length moves) [
-      | Some move ↦ λ at _. slice_get_within moves k move at
-      | None ↦ λ _ why. absurd (none why)
-    ] refl is
-
--- where a run was cut
-cut_at : (takes : Takes) (site k : ℕ) (moves : List Move) (books : List Book) (want : Want) → k ≤ length moves → IsWhyOf takes site (slice_get moves k) books want →
-    IsCutAt want takes k (length moves)
-cut_at takes site k moves books Number few why = there_is k moves (λ o. IsWhy site o books Number) (λ none. none) why
-cut_at (ForReply is_long counted) site k moves books Memory few why = (few, why)
-cut_at ForMoves site k moves books Memory few why = there_is k moves (λ o. MayLack ForMoves site o books) (λ none. none) why
-cut_at ForCopies site k moves books Memory few why = there_is k moves (λ o. MayLack ForCopies site o books) (λ none. none) why
 
 -- what a run comes to
 pub ran_over : (rule : Rule) (site stamp : ℕ) (command : Command) (old new : List Book) (reply : Word) → IsRun rule site stamp command old new reply →
@@ -203,6 +191,16 @@ module _ (named : AreScoresMeant) (rule : Rule) (K : ℕ) (W S : List Operation)
 
   -- ---- each kind of call
 
+  -- the steps of moves, by the vectors of the set
+  moved_over : (site stamp : ℕ) (moves : List Move) (heaps : List ℕ) (left : List Book) (steps : List (List Step)) → left ≡ books_after site stamp moves (map books heaps) → AreAppended left (map books heaps) steps →
+      steps ≡ map (λ h. moved_in K site stamp h moves (vector_of S h)) heaps
+  moved_over site stamp moves heaps left steps led appended =
+      moves_are site stamp K moves heaps books left steps (λ h. (are.each h).heaps) (λ h. (are.each h).heap) led appended ∙ vectors heaps
+    where
+      vectors : (hs : List ℕ) → map (λ h. moved_in K site stamp h moves (books h).state.vector) hs ≡ map (λ h. moved_in K site stamp h moves (vector_of S h)) hs
+      vectors [] = refl
+      vectors (h ∷ hs) = let rest = vectors hs in λ i. moved_in K site stamp h moves (vector_at h i) ∷ rest i
+
   -- the moves that a command made, over the queues of the heaps that it held
   pub run_found : (site stamp : ℕ) (command : Command) (heaps : List ℕ) (reply : Word) (steps : List (List Step)) → IsAnswered rule site stamp command reply (map books heaps) steps →
       (moves : List Move) × IsRunOver (queues_over rule S heaps) command moves reply × (steps ≡ map (λ h. moved_in K site stamp h moves (vector_of S h)) heaps)
@@ -210,12 +208,8 @@ module _ (named : AreScoresMeant) (rule : Rule) (K : ℕ) (W S : List Operation)
       let ran = ran_over rule site stamp command (map books heaps) is.left reply is.ran in (
         ran.0,
         subst (λ (q : Queues). IsRunOver q command ran.0 reply) (queues_are heaps) ran.1,
-        moves_are site stamp K ran.0 heaps books is.left steps (λ h. (are.each h).heaps) (λ h. (are.each h).heap) ran.2 is.appended ∙ vectors ran.0 heaps,
+        moved_over site stamp ran.0 heaps is.left steps ran.2 is.appended,
       )
-    where
-      vectors : (moves : List Move) (hs : List ℕ) → map (λ h. moved_in K site stamp h moves (books h).state.vector) hs ≡ map (λ h. moved_in K site stamp h moves (vector_of S h)) hs
-      vectors moves [] = refl
-      vectors moves (h ∷ hs) = let rest = vectors moves hs in λ i. moved_in K site stamp h moves (vector_at h i) ∷ rest i
 
   run_off : (site stamp : ℕ) (command : Command) (w1 w2 : ℕ) (heaps : List ℕ) (reply : Word) (steps : List (List Step)) → 0 < K →
       AreHeapsFor (heaps_of command K) rule K command w1 w2 heaps (map books heaps) → IsAnswered rule site stamp command reply (map books heaps) steps →
@@ -226,6 +220,21 @@ module _ (named : AreScoresMeant) (rule : Rule) (K : ℕ) (W S : List Operation)
         runs command w1 w2 found.0 reply heaps some (heaps_of command K) refl held found.1,
         found.2,
         λ m i. at_home rule K S world some heaps m command w1 w2 (map books heaps) found.0 reply (heaps_of command K) refl held found.1 i,
+      )
+
+  run_each_off : (site stamp : ℕ) (ps : List Procedure) (heaps : List ℕ) (replies : List Word) (steps : List (List Step)) → 0 < K → AreOwnIn stamp books heaps steps → heaps ≡ heaps_in K →
+      AreAnswered rule site stamp ps replies (map books heaps) steps → IsRunEachOff rule K site S ps stamp heaps replies steps
+  run_each_off site stamp ps heaps replies steps some own all is =
+      let ran = each_from rule site stamp ps (map books heaps) is.left replies is.ran in
+      let same : steps ≡ map (λ h. moved_in K site stamp h ran.0 (vector_of S h)) heaps = moved_over site stamp ran.0 heaps is.left steps ran.2 is.appended in
+      let at : IsAt rule K site stamp some S books =
+      record { world = world; closed = are.closed; heap = λ h. (are.each h).heap; heaps = λ h. (are.each h).heaps; state = λ h. (are.each h).state } in
+      let legal = legal_from rule K site stamp some S books ran.0 at
+      (subst (λ hs. AreOwnIn stamp books hs (map (λ h. moved_in K site stamp h ran.0 (vector_of S h)) hs)) all (subst (AreOwnIn stamp books heaps) same own)) in (
+        ran.0,
+        runs_off rule K site stamp some ps S books ran.0 replies at legal (subst (λ hs. AreRunsFrom rule site stamp ps (map books hs) ran.0 replies) all ran.1),
+        all,
+        same,
       )
 
   take_off : (site stamp : ℕ) (op : Placed) (heaps : List ℕ) (result : Result Taken TakeFault) (steps : List (List Step)) → IsTaken stamp op result (map books (op.operation.heap ∷ [])) steps →
@@ -378,28 +387,29 @@ module _ (named : AreScoresMeant) (rule : Rule) (K : ℕ) (W S : List Operation)
   drain_off site stamp heap vector most heaps result (ss ∷ more ∷ steps) is = absurd is
 
   -- the answer to what was asked, and the steps, over the books of its heaps
-  pub read_off : (site stamp : ℕ) (asked : Asked) (heaps : List ℕ) (answer : Answer) (steps : List (List Step)) → 0 < K → Does rule K site stamp asked heaps answer (map books heaps) steps →
+  pub read_off : (site stamp : ℕ) (asked : Asked) (heaps : List ℕ) (answer : Answer) (steps : List (List Step)) → 0 < K → AreOwnIn stamp books heaps steps → Does rule K site stamp asked heaps answer (map books heaps) steps →
       IsAnswerOf rule K site S asked stamp heaps answer steps
-  read_off site stamp (ToRun command w1 w2) heaps (Replied reply) steps some is = run_off site stamp command w1 w2 heaps reply steps some is.0 is.1
-  read_off site stamp (ToTake op) heaps (Handed result) steps some is =
+  read_off site stamp (ToRun command w1 w2) heaps (Replied reply) steps some own is = run_off site stamp command w1 w2 heaps reply steps some is.0 is.1
+  read_off site stamp (ToRunEach calls) heaps (RepliedEach replies) steps some own is = run_each_off site stamp (map procedure calls) heaps replies steps some own is.0 is.1
+  read_off site stamp (ToTake op) heaps (Handed result) steps some own is =
       take_off site stamp op heaps result steps (subst (λ hs. IsTaken stamp op result (map books hs) steps) is.0 is.1)
-  read_off site stamp (ToTakeAll heap ops) heaps (HandedAll answer) steps some is =
+  read_off site stamp (ToTakeAll heap ops) heaps (HandedAll answer) steps some own is =
       take_all_off site stamp heap ops heaps answer steps (subst (λ hs. IsTakenAll stamp ops answer (map books hs) steps) is.0 is.1)
-  read_off site stamp (ToMerge other) heaps (Joined result) steps some is =
+  read_off site stamp (ToMerge other) heaps (Joined result) steps some own is =
       merge_off site stamp other heaps result steps (subst (λ hs. IsMerged stamp other result (map books hs) steps) is.0 is.1)
-  read_off site stamp (ToTakeOver other) heaps (TakenOver result) steps some is =
+  read_off site stamp (ToTakeOver other) heaps (TakenOver result) steps some own is =
       take_over_off site stamp other heaps result steps (subst (λ hs. IsTakenOver stamp other result (map books hs) steps) is.0 is.1)
-  read_off site stamp (ToShow heap) heaps (Shown vector) steps some is =
+  read_off site stamp (ToShow heap) heaps (Shown vector) steps some own is =
       show_off site stamp heap heaps vector steps (subst (λ hs. IsShown vector (map books hs) steps) is.0 is.1)
-  read_off site stamp (ToCopy heap) heaps (Copied result) steps some is =
+  read_off site stamp (ToCopy heap) heaps (Copied result) steps some own is =
       copy_off site stamp heap heaps result steps (subst (λ hs. IsCopied result (map books hs) steps) is.0 is.1)
-  read_off site stamp (ToPortion heap spot limits) heaps (Portioned result) steps some is =
+  read_off site stamp (ToPortion heap spot limits) heaps (Portioned result) steps some own is =
       portion_off site stamp heap spot limits heaps result steps (subst (λ hs. IsPortioned spot limits result (map books hs) steps) is.0 is.1)
-  read_off site stamp (ToTell heap vector) heaps (Told result) steps some is =
+  read_off site stamp (ToTell heap vector) heaps (Told result) steps some own is =
       tell_off site stamp heap vector heaps result steps (subst (λ hs. IsTold stamp vector result (map books hs) steps) is.0 is.1)
-  read_off site stamp (ToDrain heap vector most) heaps (Told result) steps some is =
+  read_off site stamp (ToDrain heap vector most) heaps (Told result) steps some own is =
       drain_off site stamp heap vector most heaps result steps (subst (λ hs. IsDrained stamp vector most result (map books hs) steps) is.0 is.1)
-  read_off site stamp asked heaps answer steps some is = absurd is
+  read_off site stamp asked heaps answer steps some own is = absurd is
 
 -- ---- commands that only read
 

@@ -1,20 +1,22 @@
 -- What calls answer and do, over the books that they find in the heaps that they hold.
 
 use Rattle.std.specs.List.{range_with_len}
-use Rattle.std.specs.Prelude.{List, Result, [], ℕ, ◌∷◌, ◌≡◌, ◌⊎◌}
+use Rattle.std.specs.Prelude.{List, Result, [], map, ℕ, ◌∷◌, ◌≡◌, ◌⊎◌}
 use Rattle.zq_dots.specs.Placed.{Placed}
 use Rattle.zq_model.specs.Books.{Book, Step}
 use Rattle.zq_model.specs.Reach.{begun}
 use Rattle.zq_journal.specs.declared.since.Since.{Since}
 use Rattle.zq_model.specs.Heaps.{heap_of}
 use Rattle.zq_model.specs.Rule.{Rule}
-use Rattle.zq_notes.specs.Notes.{Answer, Asked, Copied, Handed, HandedAll, Joined, Portioned, Replied, Shown, TakenOver, ToCopy, ToDrain, ToMerge, ToPortion, ToRun, ToShow, ToTake, ToTakeAll, ToTakeOver, ToTell, Told}
+use Rattle.zq_notes.specs.Notes.{Answer, Asked, Copied, Handed, HandedAll, Joined, Portioned, Replied, RepliedEach, Shown, TakenOver, ToCopy, ToDrain, ToMerge, ToPortion, ToRun, ToRunEach, ToShow, ToTake, ToTakeAll, ToTakeOver, ToTell, Told}
 use Rattle.zq_semantics.specs.Doing.{drawn}
+use Rattle.zq_semantics.specs.Procedures.{procedure}
 use Rattle.zq_shard.specs.Shard.{HeapImage}
 use Rattle.zq_spread.specs.Answers.{IsCopied, IsDrained, IsMerged, IsPortioned, IsShown, IsSince, IsTaken, IsTakenOver, read_of}
 use Rattle.zq_spread.specs.Batches.{IsTakenAll}
 use Rattle.zq_spread.specs.Commanded.{IsAnswered}
 use Rattle.zq_spread.specs.Dispatch.{HasNear}
+use Rattle.zq_spread.specs.Each.{AreAnswered}
 use Rattle.zq_spread.specs.declared.faults.ReadFault.{ReadFault}
 use Rattle.zq_words.specs.Command.{Command}
 use Rattle.zq_words.specs.Heaps as named
@@ -55,6 +57,9 @@ abbrev pub Does : Rule → ℕ → ℕ → ℕ → Asked → List ℕ → Answer
 Does rule K site stamp (ToRun command w1 w2) heaps (Replied reply) found steps =
     AreHeapsFor (named.heaps_of command K) rule K command w1 w2 heaps found
     × IsAnswered rule site stamp command reply found steps
+Does rule K site stamp (ToRunEach calls) heaps (RepliedEach replies) found steps =
+    (heaps ≡ range_with_len 0 K)
+    × AreAnswered rule site stamp (map procedure calls) replies found steps
 Does rule K site stamp (ToTake op) heaps (Handed result) found steps =
     (heaps ≡ op.operation.heap ∷ []) × IsTaken stamp op result found steps × IsOfHeaps K op
 Does rule K site stamp (ToTakeAll heap ops) heaps (HandedAll answer) found steps =

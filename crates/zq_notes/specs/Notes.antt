@@ -14,6 +14,7 @@ use Rattle.zq_stage.specs.declared.portion.Portion.{Portion}
 use Rattle.zq_stage.specs.declared.portion.PortionLimits.{PortionLimits}
 use Rattle.zq_spread.specs.declared.faults.ReadFault.{ReadFault}
 use Rattle.zq_spread.specs.declared.taken_all.TakenAll.{TakenAll}
+use Rattle.zq_words.specs.Calls.{Call}
 use Rattle.zq_words.specs.Command.{Command}
 use Rattle.zq_words.specs.Words.{Word}
 
@@ -21,6 +22,8 @@ use Rattle.zq_words.specs.Words.{Word}
 pub data Asked : Type 0 where
   -- to run a command, with two words drawn for it
   ToRun : (command : Command) → (w1 w2 : ℕ) → Asked
+  -- to run several things that a site can be asked, one after the other
+  ToRunEach : (calls : List Call) → Asked
   -- to take an operation of another site
   ToTake : (op : Placed) → Asked
   -- to take operations of other sites in a heap, one after the other
@@ -43,6 +46,7 @@ pub data Asked : Type 0 where
 -- and what it answers
 pub data Answer : Type 0 where
   Replied : (reply : Word) → Answer
+  RepliedEach : (replies : List Word) → Answer
   Handed : (result : Result Taken TakeFault) → Answer
   HandedAll : (answer : TakenAll) → Answer
   Joined : (result : Result (Unit {0}) MergeFault) → Answer

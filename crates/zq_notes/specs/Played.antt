@@ -38,7 +38,8 @@ pub data IsAskedAs (rule : Rule) (K : ℕ) (S : List Operation) (w1 w2 : ℕ) (h
 
 -- what a call of the site s was asked and answered is this event of the run, which came so far: the
 -- same command with the same drawn words, and the same reply; the same operation, taken alike; the
--- image of the same heap that the other site had at that moment, or that both have together
+-- image of the same heap that the other site had at that moment, or that both have together. What
+-- asks several things at once is no event
 abbrev pub IsPlayedAs : Rule → ℕ → Run → ℕ → List ℕ → Asked → Answer → runs.Event → Type 0
 IsPlayedAs rule K r s heaps (ToRun command w1 w2) (Replied reply) (Do site words v1 v2) =
     (site ≡ s) × (v1 ≡ w1) × (v2 ≡ w2)

@@ -1,6 +1,6 @@
 -- What calls answer and do, read off the set of operations that the site had before them.
 
-use Rattle.std.specs.Prelude.{Bool, Err, List, Ok, Result, [], false, if◌then◌else◌, length, map, slice_index, slice_set, take, true, ℕ, ◌+◌, ◌<◌, ◌==◌, ◌∷◌, ◌≡◌, ◌≤◌, ◌⊎◌}
+use Rattle.std.specs.Prelude.{Bool, Err, List, Ok, Result, [], false, if◌then◌else◌, length, map, slice_index, slice_set, take, true, ℕ, ◌+◌, ◌++◌, ◌<◌, ◌==◌, ◌∷◌, ◌≡◌, ◌≤◌, ◌⊎◌}
 use Rattle.zq_dots.specs.Placed.{Placed}
 use Rattle.zq_model.specs.Books as book
 use Rattle.zq_model.specs.Books.{Made, Step}
@@ -22,9 +22,10 @@ use Rattle.zq_model.specs.Rule.{Rule}
 use Rattle.zq_model.specs.Sets.{AreSame, IsIn, New, covers, in_heap, taken_of, vector_of}
 use Rattle.zq_model.specs.Tail.{lacking}
 use Rattle.zq_model.specs.Moves.{Move, Queues}
-use Rattle.zq_notes.specs.Notes.{Answer, Asked, Copied, Handed, HandedAll, Joined, Note, Portioned, Replied, Shown, TakenOver, ToCopy, ToDrain, ToMerge, ToPortion, ToRun, ToShow, ToTake, ToTakeAll, ToTakeOver, ToTell, Told}
+use Rattle.zq_notes.specs.Notes.{Answer, Asked, Copied, Handed, HandedAll, Joined, Note, Portioned, Replied, RepliedEach, Shown, TakenOver, ToCopy, ToDrain, ToMerge, ToPortion, ToRun, ToRunEach, ToShow, ToTake, ToTakeAll, ToTakeOver, ToTell, Told}
 use Rattle.zq_semantics.specs.Doing.{drawn}
 use Rattle.zq_semantics.specs.Plan.{is_there, plan_of}
+use Rattle.zq_semantics.specs.Procedures.{Procedure, answered_over, procedure}
 use Rattle.zq_semantics.specs.Ranges.{ranged, turned_if}
 use Rattle.zq_semantics.specs.Replies.{bytes_of}
 use Rattle.zq_semantics.specs.Run.{ForReply, IsReadShort, Memory, Number, Takes, Want, cut_error, cut_reply, takes_of}
@@ -73,6 +74,37 @@ pub data IsRunOf (rule : Rule) (K : ℕ) (S : List Operation) (w1 w2 : ℕ) (com
       IsRunOver (queues_over rule S (drawn K w1 w2)) command moves reply →
       IsRunOf rule K S w1 w2 command moves reply
 
+-- what a procedure comes to over these queues, as a command does
+pub data IsProcedureOver (queues : Queues) (p : Procedure) (moves : List Move)
+    (reply : Word) : Type 0 where
+  all_of : moves ≡ (p.plan queues).moves → reply ≡ bytes_of (p.plan queues).reply →
+      IsProcedureOver queues p moves reply
+  part_of : (k : ℕ) → (want : Want) →
+      IsCutAt want (p.takes queues) k (length (p.plan queues).moves) →
+      moves ≡ take k (p.plan queues).moves → reply ≡ bytes_of (p.cut queues k want) →
+      IsProcedureOver queues p moves reply
+
+-- what a site of this number makes of a move, where it has this set, of K heaps
+abbrev pub operation_off : ℕ → ℕ → List Operation → Move → Operation
+operation_off K site S move = operation_over (heap_of move.key move.member K)
+    (vector_of S (heap_of move.key move.member K)) site move.key move.member move.act
+
+-- the set with what the site makes of these moves, one after the other
+abbrev pub with_moves : ℕ → ℕ → List Move → List Operation → List Operation
+with_moves K site [] S = S
+with_moves K site (move ∷ moves) S = with_moves K site moves (operation_off K site S move ∷ S)
+
+-- procedures, one after the other, at a site of this number: the first over the queues of this set,
+-- and each next one over those of the set with what those before it made. The moves are those of all
+abbrev pub AreRunsOf : Rule → ℕ → ℕ → List Operation → List Procedure → List Move → List Word →
+    Type 0
+AreRunsOf rule K site S [] moves [] = moves ≡ []
+AreRunsOf rule K site S (p ∷ ps) moves (reply ∷ replies) = (first : List Move)
+    × (later : List Move) × (moves ≡ first ++ later)
+    × IsProcedureOver (queues_over rule S (heaps_in K)) p first reply
+    × AreRunsOf rule K site (with_moves K site first S) ps later replies
+AreRunsOf rule K site S ps moves replies = ⊥
+
 -- the steps of these moves in the heap h, of K, whose vector is v: each of its moves is the site's
 -- next operation there
 abbrev pub moved_in : ℕ → ℕ → ℕ → ℕ → List Move → List ℕ → List Step
@@ -115,6 +147,14 @@ IsRunOff rule K site S command w1 w2 stamp heaps reply steps =
     (moves : List Move) × IsRunOf rule K S w1 w2 command moves reply
     × (steps ≡ map (λ h. moved_in K site stamp h moves (vector_of S h)) heaps)
     × ((m : Move) → IsIn m moves → IsIn (heap_of m.key m.member K) heaps)
+
+-- several things that a site of this number was asked, in all heaps: the steps are those of all their
+-- moves in each
+abbrev pub IsRunEachOff : Rule → ℕ → ℕ → List Operation → List Procedure → ℕ → List ℕ →
+    List Word → List (List Step) → Type 0
+IsRunEachOff rule K site S ps stamp heaps replies steps = (moves : List Move)
+    × AreRunsOf rule K site S ps moves replies × (heaps ≡ heaps_in K)
+    × (steps ≡ map (λ h. moved_in K site stamp h moves (vector_of S h)) heaps)
 
 -- an operation of another site; one that is new may be refused, since the book counts no further or
 -- there was no memory, and no other
@@ -200,6 +240,8 @@ abbrev pub IsAnswerOf : Rule → ℕ → ℕ → List Operation → Asked → �
     List (List Step) → Type 0
 IsAnswerOf rule K site S (ToRun command w1 w2) stamp heaps (Replied reply) steps =
     IsRunOff rule K site S command w1 w2 stamp heaps reply steps
+IsAnswerOf rule K site S (ToRunEach calls) stamp heaps (RepliedEach replies) steps =
+    IsRunEachOff rule K site S (map procedure calls) stamp heaps replies steps
 IsAnswerOf rule K site S (ToTake op) stamp heaps (Handed result) steps =
     IsTakenOff S op stamp result steps
 IsAnswerOf rule K site S (ToTakeAll heap ops) stamp heaps (HandedAll answer) steps =
@@ -233,3 +275,11 @@ is_list queues reading = false
 abbrev pub IsOrShort : Bool → Word → Word → Type 0
 IsOrShort is_list answer reply = (reply ≡ answer)
     ⊎ ((is_list ≡ true) × (reply ≡ bytes_of (cut_error 0 Memory)))
+
+-- each of these procedures is answered what the queues answer, or, where it is cut at once, that
+-- there was no memory for it
+abbrev pub AreAnswersOver : Queues → List Procedure → List Word → Type 0
+AreAnswersOver queues [] [] = Unit {0}
+AreAnswersOver queues (p ∷ ps) (reply ∷ replies) = ((reply ≡ answered_over queues p)
+    ⊎ (reply ≡ bytes_of (p.cut queues 0 Memory))) × AreAnswersOver queues ps replies
+AreAnswersOver queues ps replies = ⊥

@@ -8,7 +8,7 @@ use Rattle.zq_model.specs.Rule.{Rule}
 use Rattle.zq_model.specs.Sets.{IsIn, SITES}
 use Rattle.zq_model.specs.Lent.{queues_of}
 use Rattle.zq_model.specs.Moves.{Queues}
-use Rattle.zq_notes.specs.Notes.{Answer, Asked, Handed, Joined, Replied, TakenOver, ToMerge, ToRun, ToTake, ToTakeAll, ToTakeOver}
+use Rattle.zq_notes.specs.Notes.{Answer, Asked, Handed, Joined, Replied, TakenOver, ToMerge, ToRun, ToRunEach, ToTake, ToTakeAll, ToTakeOver}
 use Rattle.zq_notes.specs.Sites.{Event, books_at, made_of}
 use Rattle.zq_semantics.specs.Plan.{plan_of}
 use Rattle.zq_semantics.specs.Replies.{bytes_of}
@@ -45,10 +45,11 @@ IsUncut rule (ToTakeOver other) (TakenOver (Err fault)) found steps = ⊥
 IsUncut rule asked answer found steps = Unit {0}
 
 -- what a call was asked is there: a request has such a command, the operation was made before, or
--- each of the list, and the heap is one of K
+-- each of the list, and the heap is one of K. No event of a run asks several things at once
 abbrev pub IsThere : ℕ → List Event → Asked → Type 0
 IsThere K before (ToRun command w1 w2) =
     (words : List Word) × IsRequest words × (command_of words ≡ Ok command)
+IsThere K before (ToRunEach calls) = ⊥
 IsThere K before (ToTake op) = IsIn op.operation (made_of before)
 IsThere K before (ToTakeAll heap ops) = (op : Placed) → IsIn op ops →
     IsIn op.operation (made_of before)

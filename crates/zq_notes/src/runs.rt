@@ -18,12 +18,12 @@ use zq_model::naming;
 /// of a list is as many takes, answered New or Known.
 /// After each of them the sites have what the run's sites have.
 ///
-/// Beside that it is asked that each command is that of a request's words, each operation that is
-/// handed over was made before, each heap that is merged is one of K, the sites are those below a
-/// number of at most 64, and there are fewer steps than the last stamp: then no stamp and no count
-/// of the run comes to its last value, so it is the same whether worn stamps are judged over the
-/// heaps that a call holds and its pass, as sites do, or over all heaps of the site, as the run
-/// does.
+/// Beside that it is asked that no call asks several things at once, each command is that of a
+/// request's words, each operation that is handed over was made before, each heap that is merged is
+/// one of K, the sites are those below a number of at most 64, and there are fewer steps than the
+/// last stamp: then no stamp and no count of the run comes to its last value, so it is the same
+/// whether worn stamps are judged over the heaps that a call holds and its pass, as sites do, or
+/// over all heaps of the site, as the run does.
 ///
 /// A ZPOPNEAR that held all heaps, though one of the two that it drew has a member by then, is the
 /// run's ZPOPMIN with count 1.

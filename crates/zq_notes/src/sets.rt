@@ -11,10 +11,11 @@ ghost use Rattle.zq_model.specs.Moves.{Move};
 ghost use Rattle.zq_notes.specs.Calls.{AreCallsFrom, Call, notes_of};
 ghost use Rattle.zq_notes.specs.Gathered.{AreImagesOf, AreOfWorld, gathered};
 ghost use Rattle.zq_notes.specs.Notes.{Books, Note};
-ghost use Rattle.zq_notes.specs.Readings.{IsOrShort, IsReadOff, IsRunOf, is_list};
+ghost use Rattle.zq_notes.specs.Readings.{AreAnswersOver, AreRunsOf, IsOrShort, IsReadOff, IsRunOf, is_list};
 ghost use Rattle.zq_notes.specs.Sites.{empty_books};
 ghost use Rattle.zq_notes.specs.Thread.{IsOneThread, left_by_all};
 ghost use Rattle.zq_semantics.specs.Plan.{plan_of};
+ghost use Rattle.zq_semantics.specs.Procedures.{AreReading, Procedure};
 ghost use Rattle.zq_semantics.specs.Replies.{bytes_of};
 ghost use Rattle.zq_semantics.specs.Reading.{answer_of, heaps_in, is_reading, queues_over};
 ghost use Rattle.zq_spread.specs.Calls.{heaps_of};
@@ -40,8 +41,10 @@ pub fn gathering_notes()
 /// Then each call's answer and steps are read off the operations that were gathered before it: a
 /// command's by the queues that they mean. A command that only reads is answered what the set
 /// answers, or, where that is a list with something in it, that there is no memory; and equal sets
-/// answer alike. So it is for the calls of a site's threads, each of which found in its heaps what
-/// those before it left there.
+/// answer alike. Of several things that are asked at once the first is read off the set, and each
+/// next one off the set with what those before it made; those that only read make nothing, and each
+/// is answered what the queues answer, or that there is no memory. So it is for the calls of a
+/// site's threads, each of which found in its heaps what those before it left there.
 pub fn reading_notes()
     ensures reads { (rule : Rules) (K site : ℕ) (W : List Operation) → 2 ≤ K → IsWorld K W →
         (S : List Operation) (opening : Books) (before : List Note) (n : Note) (after : List Note) →
@@ -65,6 +68,10 @@ pub fn reading_notes()
         IsRunOf rule K S w1 w2 command moves reply →
         IsOrShort (is_list (queues_over rule S (heaps_in K)) (Ok command))
         (bytes_of (plan_of command (queues_over rule S (heaps_in K))).reply) reply }
+    ensures asks_each { (rule : Rules) (K site : ℕ) (S : List Operation) (ps : List Procedure)
+        (moves : List Move) (replies : List Word) → AreReading ps →
+        AreRunsOf rule K site S ps moves replies →
+        (moves ≡ []) × AreAnswersOver (queues_over rule S (heaps_in K)) ps replies }
     ensures alike { (rule : Rules) (K : ℕ) (W S T : List Operation) → IsWorld K W →
         ((o : Operation) → IsIn o S → IsIn o W) → AreSame S T →
         queues_over rule S (heaps_in K) ≡ queues_over rule T (heaps_in K) }

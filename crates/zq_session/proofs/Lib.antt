@@ -16,3 +16,5 @@ pub mod PlainBooks
 pub mod MadeAndLent
 mod OfSets
 pub mod InHistory
+pub mod FurtherAnswers
+pub mod FurtherHistory

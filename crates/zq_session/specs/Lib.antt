@@ -11,6 +11,8 @@ pub mod Meaning
 pub mod Piped
 pub mod Refusals
 pub mod Passing
+pub mod Calling
 pub mod PassFacts
 pub mod Calls
+pub mod FurtherCalls
 pub mod LentSites

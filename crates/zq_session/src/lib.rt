@@ -3,8 +3,10 @@
 
 mod along;
 mod answering;
+mod calling;
 mod connection;
 mod ends;
+mod further;
 mod gathering;
 mod histories;
 mod lending;
@@ -21,8 +23,10 @@ mod stream;
 mod transfer;
 
 pub use along::keeping;
+pub use calling::Calling;
 pub use connection::Connection;
 pub use ends::Ends;
+pub use further::calling_meaning;
 pub use histories::passing_meaning;
 pub use lending::{close_sites, end_loan, lend_sites, open_sites};
 pub use lent_site::LentSite;

@@ -2,7 +2,9 @@
 
 ghost use Rattle.std.specs.Prelude.{IsTrue, ◌≡◌};
 ghost use Rattle.zq_resp.specs.Reply.{is_writable, reply_bytes};
+ghost use Rattle.zq_session.specs.Calling.{IsAskedOf};
 ghost use Rattle.zq_session.specs.Passing.{IsPassedOn, draws_after, passed_by, words_for};
+ghost use Rattle.zq_words.specs.Calls.{IsCallWithinLimits, call_shown};
 
 use crate::serving::Answers;
 use crate::site_pass::SitePass;
@@ -10,7 +12,7 @@ use std::alloc::Global;
 use std::sync::Wait;
 use zq_resp::{Reply, Request};
 use zq_spread::Draws;
-use zq_words::{Command, Kind};
+use zq_words::{Command, Kind, SiteCall};
 
 /// A server of a site, which answers requests by one pass. Other threads may work at the site at
 /// the same time, each by a pass of its own, so a request may wait for another thread.
@@ -33,13 +35,24 @@ impl<'b, 'a, R: Wait> Passing<'b, 'a, R> {
     }
 
     /// The reply to a command, by a call of the site.
-    fn run(&mut self, alloc: Global, command: &Command) -> Reply
+    pub(crate) fn run(&mut self, alloc: Global, command: &Command) -> Reply
         ensures ran { IsPassedOn (passed_by self.old.own.now self.old.draws) command.now
             (passed_by self.new.own.now self.new.draws) (reply_bytes result) }
         ensures writable { IsTrue (is_writable result) }
     {
         let words = draw(&mut self.draws, command);
         self.own.call(self.rt, alloc, command, words)
+    }
+
+    /// The reply to what is asked alone, by a call of the site in all heaps.
+    pub(crate) fn ask(&mut self, alloc: Global, asked: SiteCall) -> Reply
+        requires { IsCallWithinLimits (call_shown asked) }
+        ensures asked { IsAskedOf (passed_by self.old.own.now self.old.draws)
+            (call_shown asked.entry) (passed_by self.new.own.now self.new.draws)
+            (reply_bytes result) }
+        ensures writable { IsTrue (is_writable result) }
+    {
+        self.own.ask(self.rt, alloc, asked)
     }
 }
 

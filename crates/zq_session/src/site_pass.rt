@@ -1,13 +1,15 @@
 //! A pass with its site.
 
+ghost use Rattle.std.specs.Prelude.{[], length, ◌∷◌, ◌≡◌};
 ghost use Rattle.zq_session.specs.PassFacts.{pass_fact};
 ghost use Rattle.zq_spread.specs.Passes.{IsPassOf};
 
 use std::alloc::Global;
 use std::sync::Wait;
+use zq_commands::{Stopped, cut_reply};
 use zq_resp::Reply;
-use zq_spread::{Pass, Site};
-use zq_words::Command;
+use zq_spread::{EachFault, Pass, Site};
+use zq_words::{Command, SiteCall};
 
 /// One of a site's passes, with the site.
 #[derive(Drop)]
@@ -20,8 +22,10 @@ pub struct SitePass<'a> {
 impl<'a> SitePass<'a> {
     ghost use Rattle.std.specs.Prelude.{IsTrue, Some, ◌≡◌};
     ghost use Rattle.zq_resp.specs.Reply.{is_writable, reply_bytes};
+    ghost use Rattle.zq_session.specs.Calling.{IsAsked};
     ghost use Rattle.zq_session.specs.LentSites.{IsBack};
     ghost use Rattle.zq_spread.specs.Dispatch.{IsCalled};
+    ghost use Rattle.zq_words.specs.Calls.{IsCallWithinLimits, call_shown};
 
     /// A pass that the site was made with.
     pub fn new(site: &'a Site, pass: Pass) -> SitePass<'a>
@@ -55,5 +59,37 @@ impl<'a> SitePass<'a> {
     {
         let (w1, w2) = words;
         self.site.call(rt, alloc, &mut self.pass, command, w1, w2)
+    }
+
+    /// Asks the site one thing, as [`Site::call_each`] says of several.
+    pub fn ask<R: Wait>(&mut self, rt: &R, alloc: Global, asked: SiteCall) -> Reply
+        requires { IsCallWithinLimits (call_shown asked) }
+        ensures site { self.new.site.now ≡ self.old.site.now }
+        ensures asked { IsAsked self.old.site.now (call_shown asked.entry) (reply_bytes result)
+            self.old.pass self.new.pass }
+        ensures writable { IsTrue (is_writable result) }
+    {
+        let mut replies = Vec::new(alloc);
+        let calls = [asked];
+        match self
+            .site
+            .call_each(rt, alloc, &mut self.pass, &calls, &mut replies)
+        {
+            Ok(()) => only(replies),
+            Err(EachFault::Worn) => cut_reply(Stopped::Worn, 0),
+            Err(EachFault::NoMemory) => cut_reply(Stopped::NoMemory, 0),
+        }
+    }
+}
+
+/// The only one of the replies.
+fn only(replies: Vec<Reply>) -> Reply
+    requires { length replies.items ≡ 1 }
+    ensures { replies.items ≡ result ∷ [] }
+{
+    let mut replies = replies;
+    match replies.pop() {
+        Some(reply) => reply,
+        None => unreachable!(),
     }
 }

@@ -1,8 +1,11 @@
-use Rattle.zq_notes.proofs.Noted.{calls, copies, drains, merges, portions, shows, takes, takes_all, takes_over, tells}
+use Rattle.zq_notes.proofs.Noted.{calls, calls_each, copies, drains, merges, portions, shows, takes, takes_all, takes_over, tells}
 use Rattle.zq_notes.proofs.calls.noting.Goals as goal
 
 pub returns-clause-calls : goal.returns-clause-calls
 returns-clause-calls c = calls
+
+pub returns-clause-calls_each : goal.returns-clause-calls_each
+returns-clause-calls_each c = calls_each
 
 pub returns-clause-takes : goal.returns-clause-takes
 returns-clause-takes c = takes

@@ -1,5 +1,6 @@
 use Rattle.std.proofs.Common.{arith}
 use Rattle.zq_model.proofs.MeantQueues.{queue_is, whole_queue_is}
+use Rattle.zq_notes.proofs.EachRun.{reads_each}
 use Rattle.zq_notes.proofs.Histories.{agree, alike, reads, serves, stays}
 use Rattle.zq_notes.proofs.ReadOff.{reads_so}
 use Rattle.zq_notes.proofs.sets.reading_notes.Goals as goal
@@ -18,6 +19,9 @@ returns-clause-drawn c rule K S heaps world key = queue_is rule K S key heaps wo
 
 pub returns-clause-asks : goal.returns-clause-asks
 returns-clause-asks c = reads_so
+
+pub returns-clause-asks_each : goal.returns-clause-asks_each
+returns-clause-asks_each c = reads_each
 
 pub returns-clause-stays : goal.returns-clause-stays
 returns-clause-stays c = stays
