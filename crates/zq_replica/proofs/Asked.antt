@@ -1,7 +1,7 @@
 -- Asking a site what it has, one time after the other.
 
 use Rattle.std.proofs.Common.{inl, inr, refl, ◌∙◌}
-use Rattle.std.specs.Prelude.{Err, IfErr, List, Ok, OnOk, Option, Result, ℕ}
+use Rattle.std.specs.Prelude.{Err, IfErr, List, Ok, OnOk, Result, ℕ}
 use Rattle.zq_dots.specs.Placed.{Placed}
 use Rattle.zq_links.specs.Batch.{IsOneOf}
 use Rattle.zq_links.specs.Frame.{frame_of}
@@ -11,7 +11,7 @@ use Rattle.zq_node.specs.declared.faults.NodeFault.{NodeFault}
 use Rattle.zq_node.specs.declared.node.Node.{Node}
 use Rattle.zq_replica.specs.Brought.{IsBrought}
 use Rattle.zq_replica.specs.Nodes.{Heard, Hears, IsGiven, IsOpsOf, Shows}
-use Rattle.zq_replica.specs.declared.gathering.Gathering.{Gathering}
+use Rattle.zq_replica.specs.declared.replica.Replica.{Replica}
 
 -- nothing was asked
 pub not_asked : (a : Node) → Shows a a
@@ -72,7 +72,8 @@ given_after frame a b n first (inl shows) = inl (asked_again a b n first shows)
 given_after frame a b n first (inr heard) = inr (asked_before frame a b n first heard)
 
 -- what a frame brings is what its bytes bring
-pub brought_by : (before : Option Gathering) (frame : code.Frame) (bytes : List ℕ) (old new : Node) →
-    IsOneOf (frame_of frame) bytes → IsGiven frame old new → IsBrought before bytes old new
-brought_by before frame bytes old new of (inl shows) = inl shows
-brought_by before frame bytes old new of (inr heard) = inr (inl (frame, of, heard))
+pub brought_by : (peer : ℕ) (was : Replica) (frame : code.Frame) (bytes : List ℕ)
+    (old new : Node) → IsOneOf (frame_of frame) bytes → IsGiven frame old new →
+    IsBrought peer was bytes old new
+brought_by peer was frame bytes old new of (inl shows) = inl shows
+brought_by peer was frame bytes old new of (inr heard) = inr (inl (frame, of, heard))

@@ -5,3 +5,5 @@ pub mod Untold
 pub mod Grown
 pub mod Replaced
 pub mod Tried
+pub mod Fed
+pub mod Gathers

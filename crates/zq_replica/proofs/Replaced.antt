@@ -1,7 +1,6 @@
 -- A heap that came in pieces and took the place of a site's own.
 
-use Rattle.std.proofs.Common.{Bool, List, None, Option, Some, false, inl, inr, refl, subst, sym, true, zero, ℕ, ⊎_elim, ◌≡◌}
-use Rattle.std.specs.Prelude.{Err, IfOk, Ok, OnOk, Result}
+use Rattle.std.proofs.Common.{Bool, List, None, Option, Some, ap, false, inl, inr, refl, subst, sym, true, zero, ℕ, ⊎_elim, ◌∙◌, ◌≡◌}
 use Rattle.zq_links.specs.Pieces.{piece_bytes}
 use Rattle.zq_links.specs.declared.frame.Frame.TheVariants as heard
 use Rattle.zq_links.specs.declared.piece.Piece.{Piece}
@@ -9,11 +8,10 @@ use Rattle.zq_node.specs.declared.node.Node.{Node}
 use Rattle.zq_replica.proofs.Asked.{asked_again, not_asked}
 use Rattle.zq_replica.specs.Brought.{IsBrought, IsCompleted}
 use Rattle.zq_replica.specs.Fence.{IsJudged}
-use Rattle.zq_replica.specs.Gathered.{AreTried, HasReplaced, IsAdded, IsFinished, IsNextOf, IsSettled, IsWholeIn, WereStopped}
+use Rattle.zq_replica.specs.Gathered.{AreTried, HasReplaced, IsAdded, IsBegun, IsFinished, IsGatheringPiece, IsNextOf, IsSettled, IsWholeIn, WereStopped, is_awaited, is_whole}
 use Rattle.zq_replica.specs.Nodes.{IsGiven, Shows}
 use Rattle.zq_replica.specs.declared.gathering.Gathering.{Gathering}
 use Rattle.zq_replica.specs.declared.replica.Replica.{Replica}
-use Rattle.zq_replica.specs.declared.gathering.Stray.{Stray}
 use Rattle.zq_shard.specs.Shard.{HeapImage}
 use Rattle.zq_stage.specs.Piece.{IsNextPiece}
 use Rattle.zq_transfer.specs.Transfer.{Received, after_part, begun_by}
@@ -70,44 +68,57 @@ replaced_after s a b c first r = record {
 }
 
 -- the piece was the next one
-pub added_next : (r : Result Bool Stray) (g h : Gathering) (before after : Option Gathering)
-    (p : Piece) → before ≡ Some g → after ≡ Some h →
-    OnOk r (IsNextPiece g.receiving.staged p.life p.number p.part) →
-    OnOk r (h.receiving ≡ after_part p g.receiving) →
-    IfOk r (λ added. added ≡ true → IsAdded before p after)
-added_next (Ok x) g h before after p was now next taken = λ yes.
-    (h, now, subst (λ (o : Option Gathering). IsNextOf o p h.receiving) (sym was) (inr (next, taken)))
-added_next (Err e) g h before after p was now next taken = tt
+pub added_next : (peer : ℕ) (p : Piece) (was : Replica) (g h : Gathering)
+    (after : Option Gathering) → is_awaited peer p.part.heap was ≡ true →
+    was.gathering ≡ Some g → after ≡ Some h → g.from ≡ peer → h.from ≡ g.from →
+    IsNextPiece g.receiving.staged p.life p.number p.part →
+    h.receiving ≡ after_part p g.receiving → IsAdded peer was p after
+added_next peer p was g h after awaited before is from same next taken =
+    (h, awaited, is, same ∙ from, subst (λ (o : Option Gathering). IsNextOf peer o p h.receiving) (sym before) (inr (from, next, taken)))
 
 -- or it was the first one
-pub begun_next : (before : Option Gathering) (p : Piece) (r : Received) → p.number ≡ 0 →
-    r ≡ begun_by p → IsNextOf before p r
-begun_next None p r first is = (first, is)
-begun_next (Some g) p r first is = inl (first, is)
+begun_next : (peer : ℕ) (before : Option Gathering) (p : Piece) (r : Received) → p.number ≡ 0 →
+    r ≡ begun_by p → IsNextOf peer before p r
+begun_next peer None p r first is = (first, is)
+begun_next peer (Some g) p r first is = inl (first, is)
+
+pub added_first : (peer : ℕ) (p : Piece) (was : Replica) (after : Option Gathering) →
+    is_awaited peer p.part.heap was ≡ true → IsBegun peer p after → IsAdded peer was p after
+added_first peer p was after awaited b =
+    (b.0, awaited, b.1, b.2, begun_next peer was.gathering p b.0.receiving b.3 b.4)
 
 -- the piece was taken, and with it the heap was whole or not
-pub completed_by : (before after : Option Gathering) (p : Piece) (a b : Node) →
-    IsAdded before p after → IsFinished after a b → IsCompleted before p a b
-completed_by before after p a b added (inl same) =
-    inl (subst (λ (n : Node). Shows a n) (sym same) (not_asked a))
-completed_by before after p a b added (inr w) =
-    let whole = subst (λ (g : Option Gathering). IsWholeIn g w.0) added.1 w.1 in
-    inr (w.0, (added.0.receiving, added.2, whole.0, whole.1), w.2)
+pub completed_by : (peer : ℕ) (p : Piece) (was : Replica) (came left : Option Gathering)
+    (a b : Node) → IsAdded peer was p came → IsFinished came left a b → IsCompleted peer was p a b
+completed_by peer p was came left a b added (inl same) =
+    inl (subst (λ (n : Node). Shows a n) (sym same.2) (not_asked a))
+completed_by peer p was came left a b added (inr w) =
+    let whole = subst (λ (g : Option Gathering). IsWholeIn g w.0) added.2 w.1 in
+    inr (w.0, (added.0.receiving, added.1, added.4, whole.0, whole.1), w.3)
+
+pub gathered_with : (peer : ℕ) (p : Piece) (was : Replica) (came left : Option Gathering)
+    (a b : Node) → IsAdded peer was p came → IsFinished came left a b →
+    IsGatheringPiece peer was p left
+gathered_with peer p was came left a b added (inl same) =
+    inr (inl ((added.0, added.1, same.1 ∙ added.2, added.3, added.4), ap is_whole same.1 ∙ same.0))
+gathered_with peer p was came left a b added (inr w) =
+    let whole = subst (λ (g : Option Gathering). IsWholeIn g w.0) added.2 w.1 in
+    inr (inr (inl (w.0, (added.0.receiving, added.1, added.4, whole.0, whole.1), w.2)))
 
 -- before that the site was judged by the piece, and is free
 pub completed_after : (peer : ℕ) (told : ℕ → ℕ) (p : Piece) (a b c : Node) (was mid : Replica)
     (answer : Bool) → answer ≡ false → IsJudged peer told a b was mid answer → Shows a b →
-    IsCompleted mid.gathering p b c → IsCompleted was.gathering p a c
+    IsCompleted peer mid p b c → IsCompleted peer was p a c
 completed_after peer told p a b c was mid answer is judged first completed =
     let w = subst (λ (x : Bool). IsJudged peer told a b was mid x) is judged in
-    after_shows (subst (λ (r : Replica). IsCompleted r.gathering p b c) w.0 completed)
+    after_shows (subst (λ (r : Replica). IsCompleted peer r p b c) w.0 completed)
   where
-    after_shows : IsCompleted was.gathering p b c → IsCompleted was.gathering p a c
+    after_shows : IsCompleted peer was p b c → IsCompleted peer was p a c
     after_shows (inl shows) = inl (asked_again a b c first shows)
     after_shows (inr v) = inr (v.0, v.1, replaced_after v.0 a b c first v.2)
 
 -- what a piece completes is what its bytes bring
-pub brought_by_piece : (before : Option Gathering) (p : Piece) (bytes : List ℕ) (a b : Node) →
-    bytes ≡ piece_bytes p → IsCompleted before p a b → IsBrought before bytes a b
-brought_by_piece before p bytes a b of (inl shows) = inl shows
-brought_by_piece before p bytes a b of (inr w) = inr (inr (p, of, w))
+pub brought_by_piece : (peer : ℕ) (was : Replica) (p : Piece) (bytes : List ℕ) (a b : Node) →
+    bytes ≡ piece_bytes p → IsCompleted peer was p a b → IsBrought peer was bytes a b
+brought_by_piece peer was p bytes a b of (inl shows) = inl shows
+brought_by_piece peer was p bytes a b of (inr w) = inr (inr (p, of, w))

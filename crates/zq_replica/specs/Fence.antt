@@ -16,6 +16,7 @@ use Rattle.zq_replica.specs.Nodes.{WasShown}
 use Rattle.zq_replica.specs.Sites.{fence_of}
 use Rattle.zq_replica.specs.Told.{told_by, told_by_control, told_by_piece}
 use Rattle.zq_replica.specs.declared.fence.Fenced.{Fenced}
+use Rattle.zq_replica.specs.declared.gathering.Gathering.{Gathering}
 use Rattle.zq_replica.specs.declared.joining.Joining.{Joining}
 use Rattle.zq_replica.specs.declared.replica.Replica.{Replica}
 
@@ -24,8 +25,15 @@ abbrev pub standing_of : Replica → Option Fenced × Joining
 standing_of replica = (replica.fenced, replica.joining)
 
 -- both are as before
+abbrev pub IsStanding : Replica → Replica → Type 0
+IsStanding old new = standing_of new ≡ standing_of old
+
+-- and so is what came of a heap in pieces
+abbrev pub steady_of : Replica → Option Fenced × Joining × Option Gathering
+steady_of replica = (replica.fenced, replica.joining, replica.gathering)
+
 abbrev pub IsSteady : Replica → Replica → Type 0
-IsSteady old new = standing_of new ≡ standing_of old
+IsSteady old new = steady_of new ≡ steady_of old
 
 -- the site is fenced so, and all else is as it was
 abbrev pub fenced_by : Fenced → Replica → Replica

@@ -1,52 +1,136 @@
 -- A heap that comes in pieces, and takes the place of a site's own.
 
-use Rattle.std.specs.Prelude.{Bool, List, None, Option, Some, [], false, suc, true, zero, ℕ, ◌∷◌, ◌≡◌, ◌⊎◌}
+use Rattle.std.specs.Prelude.{Bool, List, None, Option, Some, [], false, if◌then◌else◌, nat_lt, suc, true, zero, ℕ, ◌&&◌, ◌-◌, ◌==◌, ◌∷◌, ◌≡◌, ◌≢◌, ◌⊎◌}
 use Rattle.zq_dots.specs.Placed.{Placed}
 use Rattle.zq_journal.specs.declared.since.Since.{Since}
 use Rattle.zq_journal.specs.declared.since.Since.TheVariants.{Ops, TooOld}
+use Rattle.zq_links.specs.declared.control.Resume.{Resume}
+use Rattle.zq_links.specs.declared.frame.Frame as code
 use Rattle.zq_links.specs.declared.frame.Frame.TheVariants as heard
 use Rattle.zq_links.specs.declared.piece.Piece.{Piece}
 use Rattle.zq_model.specs.Image.{image_taken}
-use Rattle.zq_model.specs.Sets.{IsIn}
+use Rattle.zq_model.specs.Sets as sets
+use Rattle.zq_model.specs.Sets.{IsIn, taken_of}
 use Rattle.zq_node.specs.Calls.{Asked, IsCalled, MadeNoStep, TookOver}
 use Rattle.zq_node.specs.Node.{IsSameHome, parked_of, pass_of, site_of}
 use Rattle.zq_node.specs.Work.{HasWorked, WasStopped}
 use Rattle.zq_node.specs.declared.node.Node.{Node}
-use Rattle.zq_replica.specs.Nodes.{IsGiven, Shows}
+use Rattle.zq_replica.specs.Nodes.{IsGiven, IsOpsOf, Shows}
+use Rattle.zq_replica.specs.declared.catching.Catching.{Catching}
 use Rattle.zq_replica.specs.declared.exchanging.Exchange.{Exchange}
 use Rattle.zq_replica.specs.declared.exchanging.Exchange.TheVariants.{Done, Lacks, Old}
 use Rattle.zq_replica.specs.declared.gathering.Gathering.{Gathering}
 use Rattle.zq_replica.specs.declared.replica.Replica.{Replica}
-use Rattle.zq_shard.specs.Shard.{HeapImage}
-use Rattle.zq_stage.specs.Piece.{IsNextPiece}
-use Rattle.zq_transfer.specs.Transfer.{Received, after_part, begun_by}
+use Rattle.zq_shard.specs.Shard.{HeapImage, IsOfHeap}
+use Rattle.zq_stage.specs.Piece.{IsNextPiece, holding}
+use Rattle.zq_transfer.specs.Transfer.{Received, after_part, begun_by, resume_of}
 
 -- what came of a heap, if anything did
 abbrev pub gathered_of : Replica → Option Gathering
 gathered_of replica = replica.gathering
 
+-- whether this heap is fetched from this peer
+abbrev pub is_fetch_of : ℕ → ℕ → Option Catching → Bool
+is_fetch_of peer heap None = false
+is_fetch_of peer heap (Some c) = (c.from == peer) && (c.heap == heap)
+
+abbrev pub is_awaited : ℕ → ℕ → Replica → Bool
+is_awaited peer heap replica = is_fetch_of peer heap replica.catching
+
+-- whether what came is of this heap, and came from this peer
+abbrev pub is_part_of : ℕ → ℕ → Option Gathering → Bool
+is_part_of peer heap None = false
+is_part_of peer heap (Some g) = (g.from == peer) && (g.receiving.staged.held.heap == heap)
+
+-- whether this heap is awaited from this peer, and some of it came
+abbrev pub is_gathered : ℕ → ℕ → Replica → Bool
+is_gathered peer heap replica =
+    is_part_of peer heap replica.gathering && is_awaited peer heap replica
+
+-- whether all of a heap came
+abbrev pub is_whole : Option Gathering → Bool
+is_whole None = false
+is_whole (Some g) = g.receiving.staged.whole
+
+-- where the stream of this heap of this peer broke off, if a part of it is there
+abbrev pub resume_from : ℕ → ℕ → Option Gathering → Option Resume
+resume_from peer heap None = None
+resume_from peer heap (Some g) =
+    if is_part_of peer heap (Some g) then Some (resume_of g.receiving) else None
+
+-- after a beat in which nothing is fetched: it is kept for one beat less, and in the end dropped
+abbrev pub aged : Option Gathering → Option Gathering
+aged None = None
+aged (Some g) = if nat_lt 0 g.left then Some (record g { left = g.left - 1 }) else None
+
 -- ---- what comes
 
--- the piece begins a heap, or is the next one of what came before
-abbrev pub IsNextOf : Option Gathering → Piece → Received → Type 0
-IsNextOf None p now = (p.number ≡ 0) × (now ≡ begun_by p)
-IsNextOf (Some g) p now = ((p.number ≡ 0) × (now ≡ begun_by p))
-    ⊎ (IsNextPiece g.receiving.staged p.life p.number p.part
+-- the piece begins a heap of the peer
+abbrev pub IsBegun : ℕ → Piece → Option Gathering → Type 0
+IsBegun peer p after = (g : Gathering) × (after ≡ Some g) × (g.from ≡ peer) × (p.number ≡ 0)
+    × (g.receiving ≡ begun_by p)
+
+-- The piece begins a heap, or is the next one of what came from the peer before. Then this is there.
+abbrev pub IsNextOf : ℕ → Option Gathering → Piece → Received → Type 0
+IsNextOf peer None p now = (p.number ≡ 0) × (now ≡ begun_by p)
+IsNextOf peer (Some g) p now = ((p.number ≡ 0) × (now ≡ begun_by p))
+    ⊎ ((g.from ≡ peer) × IsNextPiece g.receiving.staged p.life p.number p.part
     × (now ≡ after_part p g.receiving))
 
--- the piece was taken so
-abbrev pub IsAdded : Option Gathering → Piece → Option Gathering → Type 0
-IsAdded before p after = (g : Gathering) × (after ≡ Some g) × IsNextOf before p g.receiving
+-- the heap of the piece is awaited from the peer, and the piece was taken so
+abbrev pub IsAdded : ℕ → Replica → Piece → Option Gathering → Type 0
+IsAdded peer was p after = (g : Gathering) × (is_awaited peer p.part.heap was ≡ true)
+    × (after ≡ Some g) × (g.from ≡ peer) × IsNextOf peer was.gathering p g.receiving
 
 -- all of this heap came
 abbrev pub IsWholeIn : Option Gathering → HeapImage → Type 0
 IsWholeIn None heap = ⊥
 IsWholeIn (Some g) heap = (g.receiving.staged.whole ≡ true) × (heap ≡ g.receiving.staged.held)
 
--- the piece is the last one: with it this heap is whole
-abbrev pub IsWhole : Option Gathering → Piece → HeapImage → Type 0
-IsWhole before p heap = (now : Received) × IsNextOf before p now
-    × (now.staged.whole ≡ true) × (heap ≡ now.staged.held)
+-- the piece is the last one of a heap that is awaited from the peer: with it this heap is whole
+abbrev pub IsWhole : ℕ → Replica → Piece → HeapImage → Type 0
+IsWhole peer was p heap = (now : Received) × (is_awaited peer p.part.heap was ≡ true)
+    × IsNextOf peer was.gathering p now × (now.staged.whole ≡ true)
+    × (heap ≡ now.staged.held)
+
+-- What came is as it was where the piece is passed over; or has the piece more, and is not whole; or
+-- is there no more, as it was whole and was taken, or as it was given up.
+abbrev pub IsGatheringPiece : ℕ → Replica → Piece → Option Gathering → Type 0
+IsGatheringPiece peer was p after = (after ≡ was.gathering)
+    ⊎ (IsAdded peer was p after × (is_whole after ≡ false))
+    ⊎ ((heap : HeapImage) × IsWhole peer was p heap × (after ≡ None))
+    ⊎ ((is_gathered peer p.part.heap was ≡ true) × (after ≡ None))
+
+-- ---- what comes between pieces
+
+-- the operation is of the heap that comes, and has seen nothing that did not come
+abbrev pub IsNextOp : Placed → Received → Type 0
+IsNextOp o r = IsOfHeap r.staged.held o
+    × (taken_of r.staged.held.image.vector o.operation ≢ sets.Early)
+
+-- what is there with the operation
+abbrev pub fed_by : Placed → Received → Received
+fed_by o r =
+    record r { staged = holding (image_taken o.operation r.staged.held.image) r.staged }
+
+-- these operations were taken, all of them and in their order, of which each was the next
+abbrev pub AreFed : List Placed → Received → Received → Type 0
+AreFed [] before now = now ≡ before
+AreFed (o ∷ ops) before now = IsNextOp o before × AreFed ops (fed_by o before) now
+
+-- what came took these operations, if anything came
+abbrev pub IsFedIn : List Placed → Option Gathering → Option Gathering → Type 0
+IsFedIn ops None after = after ≡ None
+IsFedIn ops (Some g) after = (h : Gathering) × (after ≡ Some h) × (h.from ≡ g.from)
+    × AreFed ops g.receiving h.receiving
+
+-- What came is as it was. Or the frame is operations of the peer from which the heap comes: it took
+-- them, or was given up.
+abbrev pub IsGatheringBy : ℕ → Replica → code.Frame → Option Gathering → Type 0
+IsGatheringBy peer was frame after = (after ≡ was.gathering)
+    ⊎ ((heap : ℕ) × (ops : List Placed) × IsOpsOf frame ops
+    × (is_gathered peer heap was ≡ true)
+    × (IsFedIn ops was.gathering after ⊎ (after ≡ None)))
 
 -- ---- what the site makes meanwhile
 
@@ -147,7 +231,8 @@ abbrev pub WereStopped : HeapImage → Node → Node → Type 0
 WereStopped heap old new = (times : ℕ) × (now : HeapImage) × (mid : Node)
     × AreTries times heap now old mid × IsStopped mid new
 
--- what came took the site's place where it was whole, and else the site was not asked
-abbrev pub IsFinished : Option Gathering → Node → Node → Type 0
-IsFinished came old new = (new ≡ old)
-    ⊎ ((heap : HeapImage) × IsWholeIn came heap × HasReplaced heap old new)
+-- what came took the site's place where it was whole, and is there no more; else the site was not
+-- asked, and it is left as it was
+abbrev pub IsFinished : Option Gathering → Option Gathering → Node → Node → Type 0
+IsFinished came left old new = ((is_whole came ≡ false) × (left ≡ came) × (new ≡ old))
+    ⊎ ((heap : HeapImage) × IsWholeIn came heap × (left ≡ None) × HasReplaced heap old new)

@@ -3,7 +3,7 @@
 ghost use Rattle.std.specs.Prelude.{◌≡◌};
 ghost use Rattle.zq_node.specs.Node.{IsNode};
 ghost use Rattle.zq_replica.specs.Fence.{IsSteady};
-ghost use Rattle.zq_replica.specs.Gathered.{gathered_of};
+ghost use Rattle.zq_replica.specs.Gathered.{is_awaited};
 ghost use Rattle.zq_replica.specs.Nodes.{Shows};
 
 use crate::parcels::Parcels;
@@ -130,7 +130,9 @@ impl Replica<'_> {
     }
 
     /// Whether this heap is being fetched from this peer.
-    pub(crate) fn is_awaited(&self, peer: SiteNo, heap: u8) -> bool {
+    pub(crate) fn is_awaited(&self, peer: SiteNo, heap: u8) -> bool
+        ensures { result ≡ is_awaited peer heap self.now }
+    {
         match &self.catching {
             Some(catching) => catching.from == peer && catching.heap == heap,
             None => false,
@@ -139,8 +141,7 @@ impl Replica<'_> {
 
     /// Something of the heap that is fetched came: it is waited for as long as before.
     pub(crate) fn wait_on(&mut self)
-        ensures steady { IsSteady self.old self.new }
-        ensures gathered { gathered_of self.new ≡ gathered_of self.old }
+        ensures { IsSteady self.old self.new }
     {
         if let Some(catching) = &mut self.catching {
             catching.left = MOST_BEATS;
@@ -261,18 +262,60 @@ impl Replica<'_> {
         ensures steady { IsSteady self.old self.new }
     {
         for place in 0..self.ends.len() {
-            for heap in 0..self.heaps {
-                let Some(theirs) = self.take_noted(place, heap) else {
-                    continue;
-                };
-                let vector = node.vector(rt, heap)?;
-                if !vector.covers(&theirs) {
-                    return self.fetch(alloc, place, heap, theirs, out);
-                }
-                self.tell_at(rt, alloc, node, place, heap, false, out)?;
+            if self.ask_noted_at(rt, alloc, node, place, out)? {
+                return Ok(());
             }
         }
         Ok(())
+    }
+
+    /// The same of the peer at this place, and whether it is asked.
+    fn ask_noted_at<R: Wait>(
+        &mut self,
+        rt: &R,
+        alloc: Global,
+        node: &mut Node<'_>,
+        place: usize,
+        out: &mut Parcels,
+    ) -> Result<bool, NodeFault>
+        requires node { IsNode node.old }
+        ensures node { IsNode node.new }
+        ensures shows { Shows node.old node.new }
+        ensures steady { IsSteady self.old self.new }
+    {
+        for heap in 0..self.heaps {
+            if self.ask_noted_of(rt, alloc, node, place, heap, out)? {
+                return Ok(true);
+            }
+        }
+        Ok(false)
+    }
+
+    /// The same of one heap of the peer at this place.
+    fn ask_noted_of<R: Wait>(
+        &mut self,
+        rt: &R,
+        alloc: Global,
+        node: &mut Node<'_>,
+        place: usize,
+        heap: u8,
+        out: &mut Parcels,
+    ) -> Result<bool, NodeFault>
+        requires node { IsNode node.old }
+        ensures node { IsNode node.new }
+        ensures shows { Shows node.old node.new }
+        ensures steady { IsSteady self.old self.new }
+    {
+        let Some(theirs) = self.take_noted(place, heap) else {
+            return Ok(false);
+        };
+        let vector = node.vector(rt, heap)?;
+        if vector.covers(&theirs) {
+            self.tell_at(rt, alloc, node, place, heap, false, out)?;
+            return Ok(false);
+        }
+        self.fetch(alloc, place, heap, theirs, out)?;
+        Ok(true)
     }
 
     /// What was noted of a peer's heap, which then is noted no more.

@@ -3,6 +3,7 @@
 ghost use Rattle.std.specs.Prelude.{MatchResult, ◌≡◌};
 ghost use Rattle.zq_node.specs.Node.{IsNode};
 ghost use Rattle.zq_replica.specs.Fence.{IsSteady, IsWeighedByControl};
+ghost use Rattle.zq_replica.specs.Gathered.{gathered_of};
 ghost use Rattle.zq_replica.specs.Joined.{HasHeardControl};
 ghost use Rattle.zq_replica.specs.Nodes.{Shows};
 ghost use Rattle.zq_replica.specs.Sites.{fence_of};
@@ -32,6 +33,7 @@ impl Replica<'_> {
         requires node { IsNode node.old }
         ensures node { IsNode node.new }
         ensures shows { Shows node.old node.new }
+        ensures gathered { gathered_of self.new ≡ gathered_of self.old }
         ensures weighed { MatchResult result
             (λ _. IsWeighedByControl from control.now node.old node.new self.old self.new
             out.old.items out.new.items)
@@ -89,6 +91,7 @@ impl Replica<'_> {
         ensures node { IsNode node.new }
         ensures shows { Shows node.old node.new }
         ensures fenced { fence_of self.new ≡ fence_of self.old }
+        ensures gathered { gathered_of self.new ≡ gathered_of self.old }
         ensures heard { HasHeardControl from control.now self.old.joining self.new.joining }
     {
         match control {

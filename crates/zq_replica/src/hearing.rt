@@ -4,9 +4,9 @@ ghost use Rattle.std.specs.Prelude.{All, IfOk, IsSome, MatchBool, MatchResult, O
 ghost use Rattle.zq_links.specs.Frame.{IsWritable};
 ghost use Rattle.zq_node.specs.Node.{IsNode, IsSameHome};
 ghost use Rattle.zq_links.specs.declared.frame.Frame.{Frame as Frames};
-ghost use Rattle.zq_replica.specs.Brought.{IsBrought};
-ghost use Rattle.zq_replica.specs.Fence.{IsPassedOver, IsSteady, IsWeighedBy, IsWeighedByBytes};
-ghost use Rattle.zq_replica.specs.Gathered.{gathered_of};
+ghost use Rattle.zq_replica.specs.Brought.{IsBrought, IsGathering};
+ghost use Rattle.zq_replica.specs.Fence.{IsPassedOver, IsStanding, IsSteady, IsWeighedBy, IsWeighedByBytes};
+ghost use Rattle.zq_replica.specs.Gathered.{IsGatheringBy, gathered_of};
 ghost use Rattle.zq_replica.specs.Nodes.{Heard, Hears, IsGiven, IsOpsOf, Shows};
 ghost use Rattle.zq_replica.specs.Sites.{fence_of, is_heeded};
 
@@ -40,7 +40,8 @@ impl Replica<'_> {
         requires node { IsNode node.old }
         ensures node { IsNode node.new }
         ensures home { IsSameHome node.old node.new }
-        ensures brought { IsBrought (gathered_of self.old) bytes.now node.old node.new }
+        ensures brought { IsBrought from self.old bytes.now node.old node.new }
+        ensures gathers { IsGathering from self.old bytes.now (gathered_of self.new) }
         ensures silent { IsSome (fence_of self.new) → out.new.items ≡ out.old.items }
         ensures weighed { MatchBool (is_heeded from link self.old)
             (MatchResult result
@@ -87,6 +88,7 @@ impl Replica<'_> {
         requires node { IsNode node.old }
         ensures node { IsNode node.new }
         ensures shows { Shows node.old node.new }
+        ensures gathered { gathered_of self.new ≡ gathered_of self.old }
         ensures weighed { MatchResult result
             (λ _. IsWeighedByBytes from bytes.now node.old node.new self.old self.new
             out.old.items out.new.items)
@@ -111,7 +113,8 @@ impl Replica<'_> {
         requires node { IsNode node.old }
         ensures node { IsNode node.new }
         ensures home { IsSameHome node.old node.new }
-        ensures brought { IsBrought (gathered_of self.old) bytes.now node.old node.new }
+        ensures brought { IsBrought from self.old bytes.now node.old node.new }
+        ensures gathers { IsGathering from self.old bytes.now (gathered_of self.new) }
         ensures weighed { MatchResult result
             (λ _. IsWeighedByBytes from bytes.now node.old node.new self.old self.new
             out.old.items out.new.items)
@@ -150,6 +153,7 @@ impl Replica<'_> {
         ensures node { IsNode node.new }
         ensures home { IsSameHome node.old node.new }
         ensures given { IsGiven frame.now node.old node.new }
+        ensures gathers { IsGatheringBy from self.old frame.now (gathered_of self.new) }
         ensures weighed { MatchResult result
             (λ _. IsWeighedBy from frame.now node.old node.new self.old self.new
             out.old.items out.new.items)
@@ -177,7 +181,8 @@ impl Replica<'_> {
         ensures node { IsNode node.new }
         ensures home { IsSameHome node.old node.new }
         ensures given { IsGiven frame.now node.old node.new }
-        ensures steady { IsSteady self.old self.new }
+        ensures gathers { IsGatheringBy from self.old frame.now (gathered_of self.new) }
+        ensures standing { IsStanding self.old self.new }
     {
         match frame {
             Frame::Ops(ops) => self.hear_ops(rt, alloc, node, place, from, ops, out),
@@ -231,8 +236,9 @@ impl Replica<'_> {
         self.caught(rt, alloc, node, out)
     }
 
-    /// Has the node hear operations of the peer at this place. The peer has them, so that it is not
-    /// sent them; and peers to which it is owed are told what this site has then.
+    /// Hears operations of the peer at this place. Where they are of a heap that comes from the peer
+    /// in pieces that takes them, and else the node does. `WrongHeap` where this site has no such
+    /// heap.
     fn hear_ops<R: Wait>(
         &mut self,
         rt: &R,
@@ -248,7 +254,9 @@ impl Replica<'_> {
         ensures home { IsSameHome node.old node.new }
         ensures given { (frame : Frames) → IsOpsOf frame ops.now →
             IsGiven frame node.old node.new }
-        ensures steady { IsSteady self.old self.new }
+        ensures gathers { (frame : Frames) → IsOpsOf frame ops.now →
+            IsGatheringBy from self.old frame (gathered_of self.new) }
+        ensures standing { IsStanding self.old self.new }
     {
         let Some(first) = ops.first() else {
             return Ok(());
@@ -260,6 +268,29 @@ impl Replica<'_> {
         if self.gathers(from, heap) {
             return self.gather_ops(alloc, place, heap, ops, out);
         }
+        self.take_ops(rt, alloc, node, place, from, heap, ops, out)
+    }
+
+    /// Has the node hear operations of a heap of the peer at this place. The peer has them, so that
+    /// it is not sent them; and peers to which it is owed are told what this site has then.
+    fn take_ops<R: Wait>(
+        &mut self,
+        rt: &R,
+        alloc: Global,
+        node: &mut Node<'_>,
+        place: usize,
+        from: SiteNo,
+        heap: u8,
+        ops: &[Op],
+        out: &mut Parcels,
+    ) -> Result<(), NodeFault>
+        requires node { IsNode node.old }
+        ensures node { IsNode node.new }
+        ensures home { IsSameHome node.old node.new }
+        ensures given { (frame : Frames) → IsOpsOf frame ops.now →
+            IsGiven frame node.old node.new }
+        ensures steady { IsSteady self.old self.new }
+    {
         let before = node.vector(rt, heap)?;
         let heard = node.hear_ops(rt, alloc, ops);
         let after = node.vector(rt, heap)?;

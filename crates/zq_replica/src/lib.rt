@@ -27,6 +27,7 @@ mod lives;
 mod logs;
 mod parcels;
 mod passing;
+mod piecing;
 mod protocol;
 mod pushing;
 mod raising;

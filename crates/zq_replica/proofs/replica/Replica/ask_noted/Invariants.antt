@@ -3,13 +3,6 @@ use Rattle.zq_replica.specs.Fence.{IsSteady}
 use Rattle.zq_replica.specs.Nodes.{Shows}
 use Rattle.zq_replica.proofs.replica.Replica.ask_noted.Given as goal
 
-abbrev pub invariant-loop-heap : goal.invariant-loop-heap
-invariant-loop-heap g l = record {
-  node : IsNode l.node;
-  shows : Shows l.fn.node l.node;
-  steady : IsSteady l.fn.self l.self;
-}
-
 abbrev pub invariant-loop-place : goal.invariant-loop-place
 invariant-loop-place g l = record {
   node : IsNode l.node;
