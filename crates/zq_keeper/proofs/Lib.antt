@@ -1,0 +1,11 @@
+pub mod Simulating
+pub mod Determined
+pub mod Reading
+pub mod World
+pub mod Taking
+pub mod Noting
+pub mod Counting
+pub mod Written
+pub mod Leaving
+pub mod Keeping
+pub mod Turning

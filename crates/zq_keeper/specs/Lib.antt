@@ -1,0 +1,9 @@
+pub mod Size
+pub mod Outline
+pub mod Operations
+pub mod Pieces
+pub mod Read
+pub mod Switch
+pub mod Turn
+pub mod Keeper
+pub mod Laws
