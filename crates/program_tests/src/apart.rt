@@ -380,7 +380,15 @@ fn clients_are_heard_at_the_address_of_bind(rt: HostRuntime) -> Result<(), Fail>
     let settings = settings_at(alloc, *own, "127.0.0.2")?;
     let log = Logged::new(&rt, LevelFilter::Warn, Locked::new(&rt, Vec::new(alloc)));
     let mut herald = Herald::new(&rt, alloc, *own);
-    serve_site(&rt, &log, alloc, &settings, &mut herald, &Ending::new())?;
+    serve_site(
+        &rt,
+        &log,
+        alloc,
+        &settings,
+        None,
+        &mut herald,
+        &Ending::new(),
+    )?;
     let line = format!(in alloc; "site 0 port {port} peers {}\n", own.door())?;
     assert_eq!(rt; herald.line.as_slice(), line.as_bytes());
     let client = herald.client.as_ref().ok_or("nobody asked")?;

@@ -5,6 +5,7 @@ mod bound_refused;
 mod given;
 mod guard_refused;
 mod name_refused;
+mod reach_refused;
 mod refused;
 mod site_given;
 mod site_refused;

@@ -23,7 +23,7 @@ IsSent does before old after new =
     ⊎ ((after ≡ before) × (new ≡ old))
 
 -- what went wrong with a client: its socket failed, or it broke the protocol
-abbrev pub fault_of : {E : Type 0} → Client E → Option PortFault
+abbrev pub fault_of : {E C : Type 0} → Client E C → Option PortFault
 fault_of client =
     if client.has_failed then Some Device
     else (if client.has_broken then Some Protocol else None)

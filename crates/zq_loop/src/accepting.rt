@@ -121,7 +121,7 @@ impl Acceptor {
     /// Hands a connection to the worker whose turn it is, or refuses it where there are as many as
     /// there may be.
     fn hand<R: Wait>(&mut self, rt: &R, port: &Port, stream: TcpStream) {
-        if !port.counts.enter(port.limits.clients) {
+        if !port.counts.enter(&port.limits) {
             let mut writer = &stream;
             let _ = writer.write(REFUSAL);
             return;
@@ -136,7 +136,7 @@ impl Acceptor {
         };
         self.next = self.next.saturating_add(1);
         if !is_put {
-            port.counts.leave();
+            port.counts.leave(port.limits.strangers > 0);
         }
     }
 }

@@ -1,11 +1,13 @@
 //! What is true of a connection at its socket while others are served between its turns.
 
 ghost use Rattle.std.specs.Prelude.{[]};
+ghost use Rattle.zq_loop.specs.Attending.{AnyAsked};
 ghost use Rattle.zq_loop.specs.Client.{IsSent, IsServedAt};
 ghost use Rattle.zq_loop.specs.Life.{AreServed, Lives, Moment, moment};
-ghost use Rattle.zq_session.specs.Among.{AnyRequest, Meanwhile};
+ghost use Rattle.zq_session.specs.Among.{Meanwhile};
 ghost use Rattle.zq_session.specs.Connection.{ConnectionState, IsNew};
 
+use crate::attending::Attends;
 use crate::socket::Socket;
 use zq_session::Answers;
 
@@ -26,11 +28,12 @@ pub fn keeping_at_sockets<S: Socket, A: Answers>()
 
 /// Over the life of a worker, which begins with no clients, each client that is there has been
 /// served since it came, and what answers is changed by requests alone: turns and rests keep both.
-pub fn keeping_through_lives<S: Socket, A: Answers>()
-    ensures begins { (now : A) → AreServed S.does A.others A.answers (moment {E = S} now []) }
-    ensures served { (old new : Moment S A) → Lives S.does A.others A.answers old new →
+pub fn keeping_through_lives<S: Socket, C, A: Attends<C>>()
+    ensures begins { (now : A) →
+        AreServed S.does A.others A.answers (moment {E = S} {C = C} now []) }
+    ensures served { (old new : Moment S C A) → Lives S.does A.others A.answers old new →
         AreServed S.does A.others A.answers old → AreServed S.does A.others A.answers new }
-    ensures requests { (old new : Moment S A) → Lives S.does A.others A.answers old new →
+    ensures requests { (old new : Moment S C A) → Lives S.does A.others A.answers old new →
         AreServed S.does A.others A.answers old →
-        Meanwhile (AnyRequest A.answers) old.answerer new.answerer }
+        Meanwhile (AnyAsked A.answers) old.answerer new.answerer }
 {}

@@ -1,21 +1,28 @@
 //! A connection at its socket.
 
-ghost use Rattle.std.specs.Prelude.{◌<◌, ◌≡◌, ◌≢◌, ◌≤◌, ◌↔◌, ◌⊎◌, IsTrue, [], length, max};
+ghost use Rattle.std.specs.Prelude.{◌<◌, ◌≡◌, ◌≢◌, ◌≤◌, ◌↔◌, ◌⊎◌, IsTrue, None, [], length, max};
+ghost use Rattle.zq_loop.specs.Attending.{AnyAsked, attended, beside, on_pairs};
+ghost use Rattle.zq_loop.specs.declared.attending.Attended.{Attended as Pair};
 ghost use Rattle.zq_loop.specs.Client.{IsPast, IsSent, IsServedAt, fault_of};
 ghost use Rattle.zq_loop.specs.Life.{IsAsItWas};
 ghost use Rattle.zq_session.specs.Among.{AnyRequest, Meanwhile};
 ghost use Rattle.zq_session.specs.Connection.{IsNew, IsOver, WantsToRead, owed_of};
 
+use crate::attending::{Attended, Attends};
 use crate::socket::{Moved, Socket};
+use crate::standing::Standing;
 use crate::watch::PortFault;
 use std::alloc::Global;
+use std::mem;
 use zq_session::{Answers, Connection};
 
 /// A connection at its socket, and what is known of that.
 #[derive(Drop)]
-pub struct Client<S: Drop> {
+pub struct Client<S: Drop, C: Drop> {
     pub(crate) socket: S,
     pub(crate) connection: Connection,
+    /// What it has of its own: nothing before its first request.
+    pub(crate) own: Option<C>,
     is_readable: bool,
     is_writable: bool,
     // The other side said that it writes no more: reading goes on until it is told so.
@@ -32,17 +39,23 @@ pub struct Client<S: Drop> {
     pub(crate) taken_at: u64,
     /// How many bytes it was counted to be owed.
     pub(crate) counted: usize,
+    /// Whether it has yet to show who it is.
+    pub(crate) standing: Standing,
+    /// Whether it was counted among those that have.
+    pub(crate) was_stranger: bool,
 }
 
-impl<S: Socket + Drop> Client<S> {
-    /// A new connection, at a time in seconds.
-    pub fn new(alloc: Global, socket: S, now: u64) -> Client<S>
+impl<S: Socket + Drop, C: Drop> Client<S, C> {
+    /// A new connection, at a time in seconds, which may have yet to show who it is.
+    pub fn new(alloc: Global, socket: S, is_stranger: bool, now: u64) -> Client<S, C>
         ensures socket { result.socket ≡ socket }
         ensures connection { IsNew result.connection }
+        ensures own { result.own ≡ None }
     {
         Client {
             socket,
             connection: Connection::new(alloc),
+            own: None,
             is_readable: true,
             is_writable: true,
             is_last: false,
@@ -53,6 +66,8 @@ impl<S: Socket + Drop> Client<S> {
             heard_at: now,
             taken_at: now,
             counted: 0,
+            standing: Standing::new(is_stranger, now),
+            was_stranger: is_stranger,
         }
     }
 
@@ -72,14 +87,63 @@ impl<S: Socket + Drop> Client<S> {
         self.is_finishing = true;
     }
 
-    /// Its turn to be served: what came and waits, or one read.
-    pub fn serve<A: Answers>(
+    /// Its turn to be served: what came and waits, or one read. What answers is lent what the
+    /// connection has of its own. Where that says so, or where it is a stranger that brought too
+    /// much, the connection is closed then.
+    pub fn serve<A: Attends<C>>(
         &mut self,
         alloc: Global,
-        answerer: &mut A,
+        attending: &mut Attended<A, C>,
         buffer: &mut [u8],
         now: u64,
     )
+        requires some { 0 < length buffer.old }
+        requires one_read { length buffer.old ≤ 65536 }
+        ensures served { (first : S) (begun : Pair A C) →
+            IsServedAt S.does (beside A.others) (on_pairs A.answers) first begun
+            (attended attending.old.answerer self.old.own) self.old.socket self.old.connection →
+            IsServedAt S.does (beside A.others) (on_pairs A.answers) first begun
+            (attended attending.new.answerer self.new.own) self.new.socket self.new.connection }
+        ensures requests { (first : S) (begun : Pair A C) →
+            IsServedAt S.does (beside A.others) (on_pairs A.answers) first begun
+            (attended attending.old.answerer self.old.own) self.old.socket self.old.connection →
+            Meanwhile (AnyAsked A.answers) attending.old.answerer attending.new.answerer }
+    {
+        mem::swap(&mut self.own, &mut attending.own);
+        self.serve_and_close(alloc, attending, buffer, now);
+        mem::swap(&mut self.own, &mut attending.own);
+    }
+
+    /// The same, where what answers has what is the connection's own.
+    fn serve_and_close<A: Attends<C>>(
+        &mut self,
+        alloc: Global,
+        attending: &mut Attended<A, C>,
+        buffer: &mut [u8],
+        now: u64,
+    )
+        requires some { 0 < length buffer.old }
+        requires one_read { length buffer.old ≤ 65536 }
+        ensures served { (first : S) (begun : Pair A C) →
+            IsServedAt S.does (beside A.others) (on_pairs A.answers) first begun attending.old
+            self.old.socket self.old.connection →
+            IsServedAt S.does (beside A.others) (on_pairs A.answers) first begun attending.new
+            self.new.socket self.new.connection }
+        ensures requests { (first : S) (begun : Pair A C) →
+            IsServedAt S.does (beside A.others) (on_pairs A.answers) first begun attending.old
+            self.old.socket self.old.connection →
+            Meanwhile (AnyRequest (on_pairs A.answers)) attending.old attending.new }
+    {
+        self.serve_by(alloc, attending, buffer, now);
+        self.standing.note(attending.is_stranger(), now);
+        let is_over = attending.is_over() | self.standing.has_too_much();
+        if is_over {
+            self.connection.close();
+        }
+    }
+
+    /// The same, by what has all that answers need.
+    fn serve_by<A: Answers>(&mut self, alloc: Global, answerer: &mut A, buffer: &mut [u8], now: u64)
         requires some { 0 < length buffer.old }
         requires one_read { length buffer.old ≤ 65536 }
         ensures served { (first : S) (begun : A) →
@@ -131,6 +195,7 @@ impl<S: Socket + Drop> Client<S> {
             Moved::Some(0) => self.connection.close(),
             Moved::Some(count) => {
                 self.heard_at = now;
+                self.standing.bring(count);
                 self.is_readable = (count == buffer.len()) | self.is_last;
                 let heard = self.connection.hear(alloc, answerer, &buffer[..count]);
                 self.has_broken = heard.is_ok() & self.connection.is_closed();
@@ -143,8 +208,9 @@ impl<S: Socket + Drop> Client<S> {
 
     /// Its turn to be written: one write of what it is owed, as far as the socket takes it.
     pub fn write(&mut self, alloc: Global, now: u64)
-        ensures { IsSent S.does self.old.socket self.old.connection self.new.socket
+        ensures sent { IsSent S.does self.old.socket self.old.connection self.new.socket
             self.new.connection }
+        ensures own { self.new.own ≡ self.old.own }
     {
         if self.connection.owed().is_empty() || !self.is_writable || self.has_failed {
             return;

@@ -1,5 +1,6 @@
 //! What the threads of a port count together.
 
+use crate::limits::Limits;
 use std::sync::atomic::{AtomicBool, AtomicU64, Ordering};
 
 /// How many connections a port has and had.
@@ -20,6 +21,7 @@ pub struct PortFigures {
 #[derive(Drop)]
 pub struct Counts {
     open: AtomicU64,
+    strangers: AtomicU64,
     accepted: AtomicU64,
     refused: AtomicU64,
     silent: AtomicU64,
@@ -34,6 +36,7 @@ impl Counts {
     pub fn new() -> Counts {
         Counts {
             open: AtomicU64::new(0),
+            strangers: AtomicU64::new(0),
             accepted: AtomicU64::new(0),
             refused: AtomicU64::new(0),
             silent: AtomicU64::new(0),
@@ -44,20 +47,39 @@ impl Counts {
         }
     }
 
-    /// Takes one of so many places, and says whether there was one.
-    pub fn enter(&self, most: u64) -> bool {
-        if self.open.fetch_add(1, Ordering::SeqCst) < most {
+    /// Takes one of the places that these limits give, and says whether there was one: also one of
+    /// those for strangers, where connections come as such.
+    pub fn enter(&self, limits: &Limits) -> bool {
+        let open = self.open.fetch_add(1, Ordering::SeqCst);
+        let comes = limits.strangers > 0;
+        self.turn(false, comes);
+        if open < limits.clients && (!comes || self.strangers() <= limits.strangers) {
             self.accepted.fetch_add(1, Ordering::SeqCst);
             return true;
         }
-        self.leave();
+        self.leave(comes);
         self.refused.fetch_add(1, Ordering::SeqCst);
         false
     }
 
-    /// Gives a place back.
-    pub fn leave(&self) {
+    /// Gives a place back: also that of a stranger, where the connection was counted as one.
+    pub fn leave(&self, was_stranger: bool) {
+        self.turn(was_stranger, false);
         self.open.fetch_sub(1, Ordering::SeqCst);
+    }
+
+    /// A connection is a stranger or not, where it was counted as one or not.
+    pub fn turn(&self, before: bool, after: bool) {
+        if !before && after {
+            self.strangers.fetch_add(1, Ordering::SeqCst);
+        } else if before && !after {
+            self.strangers.fetch_sub(1, Ordering::SeqCst);
+        }
+    }
+
+    /// How many strangers are counted.
+    fn strangers(&self) -> u64 {
+        self.strangers.load(Ordering::SeqCst)
     }
 
     /// A connection is closed that brought nothing for too long.

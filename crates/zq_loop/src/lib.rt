@@ -2,11 +2,14 @@
 //! workers, each of which serves thousands by turns. A worker reads once of each connection that
 //! has brought something, answers what came, and when it has done so for all, writes once to each.
 //! So a connection that is silent, slow or stuck holds up no other. What each connection is
-//! answered, `zq_session` says.
+//! answered, `zq_session` says. A connection may have something of its own, which what answers is
+//! lent for its turn. One that has yet to show who it is, where that is asked, is closed after ten
+//! seconds or 65,536 bytes.
 #![tactic(auto)]
 
 mod accepting;
 mod along;
+mod attending;
 mod client;
 mod counts;
 mod ending;
@@ -17,6 +20,7 @@ mod places;
 mod poller;
 mod port;
 mod socket;
+mod standing;
 #[cfg(test)]
 mod tests;
 mod turns;
@@ -25,6 +29,7 @@ mod worker;
 
 pub use accepting::Acceptor;
 pub use along::{keeping_at_sockets, keeping_through_lives};
+pub use attending::{Alike, Attended, Attends};
 pub use client::Client;
 pub use counts::PortFigures;
 pub use limits::Limits;

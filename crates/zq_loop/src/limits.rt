@@ -16,4 +16,6 @@ pub struct Limits {
     /// All connections are owed at most so many bytes together. Past that the one that is owed most
     /// is closed.
     pub output: u64,
+    /// At most so many connections at once that have yet to show who they are. 0: none has to.
+    pub strangers: u64,
 }

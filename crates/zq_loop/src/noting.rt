@@ -9,9 +9,9 @@ use crate::socket::Socket;
 use mio::Events;
 
 /// Notes each event at the client that it is of, and says whether the inbox may have more.
-pub fn note_all<S: Socket + Drop>(
+pub fn note_all<S: Socket + Drop, C: Drop>(
     events: &Events,
-    clients: &mut [Option<Client<S>>],
+    clients: &mut [Option<Client<S, C>>],
     queue: &mut Vec<usize>,
 ) -> bool
     ensures { Rests clients.old clients.new }

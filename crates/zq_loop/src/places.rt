@@ -1,7 +1,7 @@
 //! The clients of a worker, each at a place of its own. Between turns a client and its connection
 //! stay as they are, or it is taken out whole.
 
-ghost use Rattle.std.specs.Prelude.{◌≡◌, slice_set};
+ghost use Rattle.std.specs.Prelude.{◌≡◌, None, slice_set};
 ghost use Rattle.zq_loop.specs.Life.{Rests, was_at};
 ghost use Rattle.zq_session.specs.Connection.{IsNew};
 
@@ -15,6 +15,10 @@ pub struct Looked {
     pub before: usize,
     /// How many it is owed.
     pub owed: usize,
+    /// Whether it was counted as a stranger.
+    pub was_stranger: bool,
+    /// Whether it is one.
+    pub is_stranger: bool,
     /// Whether it is to be closed.
     pub is_over: bool,
 }
@@ -31,8 +35,8 @@ pub struct Told {
 }
 
 /// Notes what the system told of the client at a place, and queues it where it has something to do.
-pub fn note_at<S: Socket + Drop>(
-    clients: &mut [Option<Client<S>>],
+pub fn note_at<S: Socket + Drop, C: Drop>(
+    clients: &mut [Option<Client<S, C>>],
     queue: &mut Vec<usize>,
     place: usize,
     told: Told,
@@ -52,8 +56,8 @@ pub fn note_at<S: Socket + Drop>(
 }
 
 /// Has the client at a place finish, and queues it.
-pub fn finish_at<S: Socket + Drop>(
-    clients: &mut [Option<Client<S>>],
+pub fn finish_at<S: Socket + Drop, C: Drop>(
+    clients: &mut [Option<Client<S, C>>],
     queue: &mut Vec<usize>,
     place: usize,
 )
@@ -70,10 +74,10 @@ pub fn finish_at<S: Socket + Drop>(
     }
 }
 
-/// Counts what the client at a place is owed after its turn, and queues it again where it has more
-/// to do.
-pub fn look_at<S: Socket + Drop>(
-    clients: &mut [Option<Client<S>>],
+/// Counts what the client at a place is owed after its turn, and whether it is a stranger, and
+/// queues it again where it has more to do.
+pub fn look_at<S: Socket + Drop, C: Drop>(
+    clients: &mut [Option<Client<S, C>>],
     queue: &mut Vec<usize>,
     place: usize,
 ) -> Option<Looked>
@@ -86,11 +90,16 @@ pub fn look_at<S: Socket + Drop>(
         let before = client.counted;
         let owed = client.owed();
         let is_over = client.is_over();
+        let was_stranger = client.was_stranger;
+        let is_stranger = client.standing.is_stranger();
         client.counted = owed;
+        client.was_stranger = is_stranger;
         client.is_queued = !is_over && client.is_ready() && queue.push(place).is_ok();
         return Some(Looked {
             before,
             owed,
+            was_stranger,
+            is_stranger,
             is_over,
         });
     }
@@ -98,10 +107,10 @@ pub fn look_at<S: Socket + Drop>(
 }
 
 /// Takes the client at a place out.
-pub fn take_out<S: Socket + Drop>(
-    clients: &mut [Option<Client<S>>],
+pub fn take_out<S: Socket + Drop, C: Drop>(
+    clients: &mut [Option<Client<S, C>>],
     place: usize,
-) -> Option<Client<S>>
+) -> Option<Client<S, C>>
     ensures rests { Rests clients.old clients.new }
     ensures taken { result ≡ was_at clients.old place }
     ensures gone { clients.new ≡ slice_set clients.old place None }
@@ -113,13 +122,14 @@ pub fn take_out<S: Socket + Drop>(
 }
 
 /// Puts a new client at a place, where none is there, and queues it. It says whether it did.
-pub fn put_in<S: Socket + Drop>(
-    clients: &mut [Option<Client<S>>],
+pub fn put_in<S: Socket + Drop, C: Drop>(
+    clients: &mut [Option<Client<S, C>>],
     queue: &mut Vec<usize>,
     place: usize,
-    client: Client<S>,
+    client: Client<S, C>,
 ) -> bool
-    requires { IsNew client.connection }
+    requires connection { IsNew client.connection }
+    requires own { client.own ≡ None }
     ensures { Rests clients.old clients.new }
 {
     if place >= clients.len() {

@@ -1,9 +1,11 @@
 //! What a worker waits with.
 
+ghost use Rattle.zq_loop.specs.Attending.{AnyAsked};
 ghost use Rattle.zq_loop.specs.Life.{Rests};
 ghost use Rattle.zq_loop.specs.Turns.{AreOthers};
-ghost use Rattle.zq_session.specs.Among.{AnyRequest, Meanwhile};
+ghost use Rattle.zq_session.specs.Among.{Meanwhile};
 
+use crate::attending::{Attended, Attends};
 use crate::client::Client;
 use crate::inbox::Inbox;
 use crate::noting::note_all;
@@ -18,7 +20,6 @@ use std::net::Net;
 use std::rt::Clock;
 use std::sync::Wait;
 use std::time::Duration;
-use zq_session::Answers;
 
 // As many events are taken at once.
 const EVENTS: usize = 1_024;
@@ -47,21 +48,21 @@ impl Poller {
 
     /// Serves the connections of its port that are handed to it, until all have come and are
     /// served, or it is told to stop. The port has to be the one that it was opened with. What
-    /// answers has to let all that requests do be what others may do to a connection. It is changed
-    /// by requests alone.
-    pub fn run<R: Wait + Clock, A: Answers, W: Watch>(
+    /// answers has to let all that requests do to it be what others may do to a connection. It is
+    /// changed by requests alone.
+    pub fn run<R: Wait + Clock, C: Drop, A: Attends<C>, W: Watch>(
         &mut self,
         rt: &R,
         alloc: Global,
         port: &Port,
-        answerer: &mut A,
+        attending: &mut Attended<A, C>,
         watch: &W,
     )
         requires others { AreOthers A.others A.answers }
-        ensures { Meanwhile (AnyRequest A.answers) answerer.old answerer.new }
+        ensures { Meanwhile (AnyAsked A.answers) attending.old.answerer attending.new.answerer }
     {
         if let Some(inbox) = port.inboxes.get(self.place) {
-            Worker::new(alloc, self, inbox, port, watch).run(rt, answerer);
+            Worker::new(alloc, self, inbox, port, watch).run(rt, attending);
         }
     }
 
@@ -71,9 +72,9 @@ impl Poller {
     }
 
     /// Notes at the clients what the system told, and says whether the inbox may have more.
-    pub(crate) fn note(
+    pub(crate) fn note<C: Drop>(
         &self,
-        clients: &mut [Option<Client<TcpStream>>],
+        clients: &mut [Option<Client<TcpStream, C>>],
         queue: &mut Vec<usize>,
     ) -> bool
         ensures { Rests clients.old clients.new }

@@ -1,6 +1,6 @@
 //! A port that is served, by what its clients read.
 
-use crate::{Limits, Port, PortFault, Watch};
+use crate::{Alike, Attended, Limits, Port, PortFault, Watch};
 use std::alloc::{AllocError, Global};
 use std::io::{Read, Write};
 use std::net::{IpAddr, Ipv4Addr, Net, OpenStream, SocketAddr, TcpListener, TcpStream};
@@ -138,6 +138,7 @@ where
         timeout: 0,
         write_timeout: 60,
         output: 1_000_000,
+        strangers: 0,
     };
     let watch = Counting {
         told: AtomicU64::new(0),
@@ -151,7 +152,13 @@ where
         rt,
         move |scope| -> Result<bool, Fail> {
             for poller in pollers {
-                scope.spawn(move || poller.run(rt, alloc, port, &mut Pong, told))?;
+                scope.spawn(move || poller.run(
+                    rt,
+                    alloc,
+                    port,
+                    &mut Attended::new(Alike { answerer: Pong }),
+                    told,
+                ))?;
             }
             scope.spawn(move || acceptor.run(rt, port, told))?;
             let visited = if connections == 0 {

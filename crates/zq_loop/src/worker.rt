@@ -3,7 +3,9 @@
 ghost use Rattle.std.specs.Prelude.{◌<◌, ◌≡◌, ◌≤◌, [], length, slice_set};
 ghost use Rattle.zq_loop.specs.Life.{AreNone, IsTurn, Lives, Rests, moment};
 ghost use Rattle.zq_loop.specs.Turns.{AreOthers};
+ghost use Rattle.zq_session.specs.Connection.{IsNew};
 
+use crate::attending::{Attended, Attends};
 use crate::client::Client;
 use crate::ending::is_done;
 use crate::inbox::Inbox;
@@ -20,7 +22,6 @@ use std::rt::Clock;
 use std::sync::Wait;
 use std::time::Duration;
 use std::{io, mem};
-use zq_session::Answers;
 
 // As many bytes are read at once.
 const PIECE: usize = 16_384;
@@ -33,13 +34,13 @@ const GRACE: u64 = 5;
 
 /// A worker's connections, and what it waits with.
 #[derive(Drop)]
-pub struct Worker<'a, 'p, 'w, W> {
+pub struct Worker<'a, 'p, 'w, W, C: Drop> {
     alloc: Global,
     poller: &'p mut Poller,
     inbox: &'a Inbox,
     port: &'a Port,
     watch: &'w W,
-    clients: Vec<Option<Client<TcpStream>>>,
+    clients: Vec<Option<Client<TcpStream, C>>>,
     // The places that no connection has.
     free: Vec<usize>,
     // The places of those that have something to do, and memory for the next such list. Both have
@@ -57,7 +58,7 @@ pub struct Worker<'a, 'p, 'w, W> {
     ends_at: Option<u64>,
 }
 
-impl<'a, 'p, 'w, W: Watch> Worker<'a, 'p, 'w, W> {
+impl<'a, 'p, 'w, W: Watch, C: Drop> Worker<'a, 'p, 'w, W, C> {
     /// A worker with no connections.
     pub fn new(
         alloc: Global,
@@ -65,7 +66,7 @@ impl<'a, 'p, 'w, W: Watch> Worker<'a, 'p, 'w, W> {
         inbox: &'a Inbox,
         port: &'a Port,
         watch: &'w W,
-    ) -> Worker<'a, 'p, 'w, W>
+    ) -> Worker<'a, 'p, 'w, W, C>
         ensures { result.clients.items ≡ [] }
     {
         Worker {
@@ -88,11 +89,11 @@ impl<'a, 'p, 'w, W: Watch> Worker<'a, 'p, 'w, W> {
 
     /// Serves connections until all have come and none is left, or the port is cut. Then those that
     /// are left are closed with what they are owed.
-    pub fn run<R: Wait + Clock, A: Answers>(&mut self, rt: &R, answerer: &mut A)
+    pub fn run<R: Wait + Clock, A: Attends<C>>(&mut self, rt: &R, attending: &mut Attended<A, C>)
         requires others { AreOthers A.others A.answers }
         ensures { Lives ⟦<TcpStream as Socket>⟧.does A.others A.answers
-            (moment answerer.old self.old.clients.items)
-            (moment answerer.new self.new.clients.items) }
+            (moment attending.old.answerer self.old.clients.items)
+            (moment attending.new.answerer self.new.clients.items) }
     {
         let mut buffer = [0u8; PIECE];
         let mut swept = 0;
@@ -108,7 +109,7 @@ impl<'a, 'p, 'w, W: Watch> Worker<'a, 'p, 'w, W> {
             let began = time(rt);
             let now = began.as_secs();
             self.prepare(rt, now);
-            self.turn(answerer, &mut buffer, now);
+            self.turn(attending, &mut buffer, now);
             self.watch.end(began);
             self.relieve();
             if now > swept {
@@ -152,7 +153,8 @@ impl<'a, 'p, 'w, W: Watch> Worker<'a, 'p, 'w, W> {
         if self.has_mail || !self.queue.is_empty() {
             Some(Duration::from_millis(0))
         } else if self.ends_at.is_some()
-            || self.count > 0 && (limits.timeout > 0 || self.owes && limits.write_timeout > 0)
+            || self.count > 0 && (limits.timeout > 0 || limits.strangers > 0)
+            || self.count > 0 && self.owes && limits.write_timeout > 0
         {
             Some(Duration::from_millis(1_000))
         } else {
@@ -188,7 +190,7 @@ impl<'a, 'p, 'w, W: Watch> Worker<'a, 'p, 'w, W> {
     {
         match self.free_place() {
             Ok(place) => self.place(place, stream, now),
-            Err(AllocError) => self.port.counts.leave(),
+            Err(AllocError) => self.port.counts.leave(self.port.limits.strangers > 0),
         }
     }
 
@@ -218,17 +220,27 @@ impl<'a, 'p, 'w, W: Watch> Worker<'a, 'p, 'w, W> {
         let both = Interest::READABLE | Interest::WRITABLE;
         let registry = self.poller.poll.registry();
         let is_watched = registry.register(&mut stream, token, both).is_ok();
-        let mut client = Client::new(self.alloc, stream, now);
+        let is_stranger = self.port.limits.strangers > 0;
+        let mut client = Client::new(self.alloc, stream, is_stranger, now);
         if self.ends_at.is_some() {
             client.finish();
         }
-        if is_watched && put_in(&mut self.clients, &mut self.queue, place, client) {
+        if is_watched && self.put(place, client) {
             self.count = self.count.saturating_add(1);
         } else {
             let _ = self.free.push(place);
             self.watch.tell(PortFault::Device);
-            self.port.counts.leave();
+            self.port.counts.leave(is_stranger);
         }
+    }
+
+    /// Puts a new client at a place, where none is there, and says whether it did.
+    fn put(&mut self, place: usize, client: Client<TcpStream, C>) -> bool
+        requires connection { IsNew client.connection }
+        requires own { client.own ≡ None }
+        ensures { Rests self.old.clients.items self.new.clients.items }
+    {
+        put_in(&mut self.clients, &mut self.queue, place, client)
     }
 
     /// Where the port is stopped, has each connection finish.
@@ -253,28 +265,28 @@ impl<'a, 'p, 'w, W: Watch> Worker<'a, 'p, 'w, W> {
 
     /// A turn of the connections that have something to do, after which each of them is looked
     /// after.
-    fn turn<A: Answers>(&mut self, answerer: &mut A, buffer: &mut [u8], now: u64)
+    fn turn<A: Attends<C>>(&mut self, attending: &mut Attended<A, C>, buffer: &mut [u8], now: u64)
         requires others { AreOthers A.others A.answers }
         requires some { 0 < length buffer.old }
         requires one_read { length buffer.old ≤ 65536 }
         ensures lives { Lives ⟦<TcpStream as Socket>⟧.does A.others A.answers
-            (moment answerer.old self.old.clients.items)
-            (moment answerer.new self.new.clients.items) }
+            (moment attending.old.answerer self.old.clients.items)
+            (moment attending.new.answerer self.new.clients.items) }
         ensures buffer { length buffer.new ≡ length buffer.old }
     {
         let next = mem::replace(&mut self.spare, Vec::new(self.alloc));
         let mut queue = mem::replace(&mut self.queue, next);
-        self.turn_of(&queue, answerer, buffer, now);
+        self.turn_of(&queue, attending, buffer, now);
         self.look_after_all(&queue);
         queue.clear();
         self.spare = queue;
     }
 
     /// A turn of the connections at these places.
-    fn turn_of<A: Answers>(
+    fn turn_of<A: Attends<C>>(
         &mut self,
         places: &[usize],
-        answerer: &mut A,
+        attending: &mut Attended<A, C>,
         buffer: &mut [u8],
         now: u64,
     )
@@ -282,15 +294,15 @@ impl<'a, 'p, 'w, W: Watch> Worker<'a, 'p, 'w, W> {
         requires some { 0 < length buffer.old }
         requires one_read { length buffer.old ≤ 65536 }
         ensures { IsTurn ⟦<TcpStream as Socket>⟧.does A.others A.answers
-            (moment answerer.old self.old.clients.items)
-            (moment answerer.new self.new.clients.items) }
+            (moment attending.old.answerer self.old.clients.items)
+            (moment attending.new.answerer self.new.clients.items) }
     {
         let watch = self.watch;
         turn(
             &mut self.clients,
             places,
             self.alloc,
-            answerer,
+            attending,
             buffer,
             now,
             watch,
@@ -315,6 +327,9 @@ impl<'a, 'p, 'w, W: Watch> Worker<'a, 'p, 'w, W> {
         };
         let owed = looked.owed as u64;
         self.port.counts.count(looked.before, looked.owed);
+        self.port
+            .counts
+            .turn(looked.was_stranger, looked.is_stranger);
         if owed > self.most {
             self.inbox.tell_most(owed);
         }
@@ -337,20 +352,27 @@ impl<'a, 'p, 'w, W: Watch> Worker<'a, 'p, 'w, W> {
         ensures rests { Rests self.old.clients.items self.new.clients.items }
         ensures gone { self.new.clients.items ≡ slice_set self.old.clients.items place None }
     {
-        let Some(client) = take_out(&mut self.clients, place) else {
+        let Some(client) = self.take(place) else {
             return;
         };
         if let Some(fault) = client.fault() {
             self.watch.tell(fault);
         }
         self.port.counts.count(client.counted, 0);
-        self.port.counts.leave();
+        self.port.counts.leave(client.was_stranger);
         self.count = self.count.saturating_sub(1);
         let _ = self.free.push(place);
     }
 
-    /// Closes the connections that were silent, or took nothing, for too long; and all where the
-    /// port is stopped and its time is over.
+    /// Takes the client at a place out.
+    fn take(&mut self, place: usize) -> Option<Client<TcpStream, C>>
+        ensures { self.new.clients.items ≡ slice_set self.old.clients.items place None }
+    {
+        take_out(&mut self.clients, place)
+    }
+
+    /// Closes the connections that were silent, took nothing, or have been strangers for too long;
+    /// and all where the port is stopped and its time is over.
     fn sweep(&mut self, now: u64)
         ensures { Rests self.old.clients.items self.new.clients.items }
     {
@@ -364,8 +386,8 @@ impl<'a, 'p, 'w, W: Watch> Worker<'a, 'p, 'w, W> {
         }
     }
 
-    /// Closes the connection at a place where it was silent, or took nothing, for too long; and
-    /// where the end has come.
+    /// Closes the connection at a place where it was silent, took nothing, or has been a stranger
+    /// for too long; and where the end has come.
     fn sweep_at(&mut self, place: usize, is_end: bool, now: u64)
         ensures { Rests self.old.clients.items self.new.clients.items }
     {
@@ -376,12 +398,13 @@ impl<'a, 'p, 'w, W: Watch> Worker<'a, 'p, 'w, W> {
         self.owes |= client.counted > 0;
         let is_stuck = client.is_stuck(limits.write_timeout, now);
         let is_silent = client.is_silent(limits.timeout, now);
+        let is_late = client.standing.is_late(now);
         if is_stuck {
             self.watch.tell(PortFault::Unread);
         } else if is_silent {
             self.port.counts.silence();
         }
-        if is_stuck || is_silent || is_end {
+        if is_stuck || is_silent || is_late || is_end {
             self.remove(place);
         }
     }

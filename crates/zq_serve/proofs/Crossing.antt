@@ -9,6 +9,7 @@ use Rattle.zq_peers.proofs.Crossing.{mailbox_sync}
 use Rattle.zq_peers.specs.contracts.attending.Link as Link
 use Rattle.zq_serve.specs.contracts.admission.Admission as Admission
 use Rattle.zq_serve.specs.contracts.client_acceptor.ClientAcceptor as ClientAcceptor
+use Rattle.zq_serve.specs.contracts.desk.Desk as Desk
 use Rattle.zq_serve.specs.contracts.gate.Gate as Gate
 use Rattle.zq_serve.specs.contracts.inboxes.Inboxes as Inboxes
 use Rattle.zq_serve.specs.contracts.linker.Linker as Linker
@@ -37,5 +38,8 @@ gate_sync = search (sendable, crosses) depth 30
 pub admission_sync : IsSync Admission.the_row
 admission_sync = search (sendable, crosses) depth 30
 
+pub desk_sync : IsSync Desk.the_row
+desk_sync = search (sendable, crosses) depth 30
+
 pub inboxes_send : (κ : NamedLft) → IsSend (Inboxes.the_row κ)
-inboxes_send κ = search (mailbox_sync, gate_sync, admission_sync, counters_sync, sendable, crosses) depth 30 fits 50000
+inboxes_send κ = search (mailbox_sync, gate_sync, admission_sync, counters_sync, desk_sync, sendable, crosses) depth 30 fits 50000

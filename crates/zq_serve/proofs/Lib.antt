@@ -1,3 +1,4 @@
 pub mod Crossing
+mod Desks
 mod OwnPass
 pub mod ThreadLists

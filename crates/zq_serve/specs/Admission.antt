@@ -7,10 +7,12 @@ use Rattle.zq_serve.specs.declared.admission.Admits.{Admits}
 use Rattle.zq_serve.specs.declared.admission.Admits.TheVariants.{All, NoAdditions, Pings, Readings}
 use Rattle.zq_words.specs.Words.{Word, is}
 
--- whether a command of this name writes
+-- whether a request of this name writes
 abbrev pub writes : Word → Bool
 writes name = is name (codes "ZADD") || (is name (codes "ZINCRBY") || (is name (codes "ZREM")
-    || (is name (codes "ZPOPMIN") || (is name (codes "ZPOPNEAR") || is name (codes "DEL")))))
+    || (is name (codes "ZPOPMIN") || (is name (codes "ZPOPNEAR") || (is name (codes "DEL")
+    || (is name (codes "ZPOPMAX") || (is name (codes "ZREMRANGEBYSCORE")
+    || is name (codes "ZREMRANGEBYRANK"))))))))
 
 abbrev pub is_write : List Word → Bool
 is_write [] = false

@@ -1,6 +1,7 @@
 pub mod Admission
 pub mod Warnings
 pub mod Gate
+pub mod Desks
 pub mod Inboxes
 pub mod SiteThreads
 pub mod Plans

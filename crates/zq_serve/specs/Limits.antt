@@ -1,6 +1,6 @@
 -- The limits of a port.
 
-use Rattle.std.specs.Prelude.{None, Option, Some, min, ℕ}
+use Rattle.std.specs.Prelude.{Bool, None, Option, Some, false, max, min, true, ℕ, ◌/◌}
 use Rattle.zq_loop.specs.declared.limits.Limits.{Limits}
 use Rattle.zq_settings.specs.declared.values.ClientLimits.{ClientLimits}
 
@@ -17,4 +17,10 @@ port_limits connections limits most = record {
   timeout = limits.timeout;
   write_timeout = limits.write_timeout;
   output = limits.output;
+  strangers = 0;
 }
+
+-- those of a port where clients have to show a password, or need not
+abbrev pub guarded : Bool → Limits → Limits
+guarded false limits = limits
+guarded true limits = record limits { strangers = max (limits.clients / 4) 1 }

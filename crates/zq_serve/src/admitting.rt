@@ -67,7 +67,7 @@ fn held_back(site: SiteNo, admits: Admits, words: &[Vec<u8>]) -> Option<Reply>
     }
 }
 
-/// Whether the first word names one of the six commands that write.
+/// Whether the first word names one of the nine requests that write.
 fn is_write(words: &[Vec<u8>]) -> bool
     ensures { result ≡ is_write (map (λ w. w.items) words.now) }
 {
@@ -77,7 +77,7 @@ fn is_write(words: &[Vec<u8>]) -> bool
     }
 }
 
-/// Whether a command of this name writes.
+/// Whether a request of this name writes.
 fn writes(name: &[u8]) -> bool
     ensures { result ≡ writes name.now }
 {
@@ -87,6 +87,9 @@ fn writes(name: &[u8]) -> bool
         || is(name, b"ZPOPMIN")
         || is(name, b"ZPOPNEAR")
         || is(name, b"DEL")
+        || is(name, b"ZPOPMAX")
+        || is(name, b"ZREMRANGEBYSCORE")
+        || is(name, b"ZREMRANGEBYRANK")
 }
 
 /// Whether the first word names one of the two commands that add.

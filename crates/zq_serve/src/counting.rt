@@ -3,26 +3,36 @@
 ghost use Rattle.std.specs.Prelude.{◌≡◌};
 
 use std::alloc::Global;
+use zq_loop::Attends;
 use zq_metrics::{Command, WorkerCounters, command_of};
 use zq_resp::{Reply, Request};
-use zq_session::Answers;
 
-/// Answers as the answerer inside, and counts each answer by its command, where there are counters.
+/// Answers as the answerer inside, and counts each answer by its command, where there are counters:
+/// also what a connection answers itself.
 #[derive(Drop)]
-pub struct Counting<'b, A: Answers> {
+pub struct Counting<'b, A> {
     pub(crate) answerer: A,
     pub(crate) counters: Option<&'b WorkerCounters>,
 }
 
-impl<A: Answers> Answers for Counting<'_, A> {
-    ghost answers = { λ old words reply new. A.answers old.answerer words reply new.answerer };
+impl<C, A: Attends<C>> Attends<C> for Counting<'_, A> {
+    ghost answers = { λ old own words reply new own_new.
+        A.answers old.answerer own words reply new.answerer own_new };
 
     ghost others = { λ old new. A.others old.answerer new.answerer };
 
-    fn answer(&mut self, alloc: Global, request: &Request) -> Reply {
-        let reply = self.answerer.answer(alloc, request);
+    fn attend(&mut self, own: &mut Option<C>, alloc: Global, request: &Request) -> Reply {
+        let reply = self.answerer.attend(own, alloc, request);
         count(self.counters, request.words(), &reply);
         reply
+    }
+
+    fn is_over(&self, own: &Option<C>) -> bool {
+        self.answerer.is_over(own)
+    }
+
+    fn is_stranger(&self, own: &Option<C>) -> bool {
+        self.answerer.is_stranger(own)
     }
 }
 

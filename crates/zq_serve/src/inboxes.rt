@@ -4,6 +4,7 @@ ghost use Rattle.std.specs.Prelude.{option_copied, ◌≡◌};
 ghost use Rattle.zq_serve.specs.Inboxes.{inbox_of};
 
 use crate::admission::Admission;
+use crate::desk::Desk;
 use crate::gate::Gate;
 use zq_dots::SiteNo;
 use zq_metrics::Counters;
@@ -14,9 +15,9 @@ use zq_peers::Mailbox;
 pub enum Inboxes<'a> {
     /// Site N's is at place N; a site that has none is not linked.
     Each(&'a [Mailbox]),
-    /// That of the one site, the gate before its calls, which commands it answers, and what counts
-    /// them.
-    One(&'a Mailbox, &'a Gate, &'a Admission, &'a Counters),
+    /// That of the one site, the gate before its calls, which commands it answers, what counts
+    /// them, and what its connections answer themselves by.
+    One(&'a Mailbox, &'a Gate, &'a Admission, &'a Counters, &'a Desk),
 }
 
 impl<'a> Inboxes<'a> {
@@ -26,7 +27,7 @@ impl<'a> Inboxes<'a> {
     {
         match self {
             Inboxes::Each(mailboxes) => mailboxes.get(usize::from(site.value())),
-            Inboxes::One(mailbox, _, _, _) => Some(mailbox),
+            Inboxes::One(mailbox, ..) => Some(mailbox),
         }
     }
 
@@ -34,7 +35,7 @@ impl<'a> Inboxes<'a> {
     pub(crate) fn gate(self) -> Option<&'a Gate> {
         match self {
             Inboxes::Each(_) => None,
-            Inboxes::One(_, gate, _, _) => Some(gate),
+            Inboxes::One(_, gate, ..) => Some(gate),
         }
     }
 
@@ -42,15 +43,16 @@ impl<'a> Inboxes<'a> {
     pub(crate) fn admission(self) -> Option<&'a Admission> {
         match self {
             Inboxes::Each(_) => None,
-            Inboxes::One(_, _, admission, _) => Some(admission),
+            Inboxes::One(_, _, admission, ..) => Some(admission),
         }
     }
 
-    /// Whether requests are rewritten: those of a site of its own process are.
-    pub(crate) fn rewrites(self) -> bool {
+    /// Whether the site has a process of its own: then requests are rewritten, and further ones on
+    /// keys are answered.
+    pub(crate) fn is_alone(self) -> bool {
         match self {
             Inboxes::Each(_) => false,
-            Inboxes::One(_, _, _, _) => true,
+            Inboxes::One(..) => true,
         }
     }
 
@@ -58,7 +60,15 @@ impl<'a> Inboxes<'a> {
     pub(crate) fn counters(self) -> Option<&'a Counters> {
         match self {
             Inboxes::Each(_) => None,
-            Inboxes::One(_, _, _, counters) => Some(counters),
+            Inboxes::One(_, _, _, counters, _) => Some(counters),
+        }
+    }
+
+    /// What connections answer themselves by, where they do.
+    pub(crate) fn desk(self) -> Option<&'a Desk> {
+        match self {
+            Inboxes::Each(_) => None,
+            Inboxes::One(_, _, _, _, desk) => Some(desk),
         }
     }
 }

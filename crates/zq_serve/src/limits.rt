@@ -1,7 +1,7 @@
 //! The limits of a port.
 
 ghost use Rattle.std.specs.Prelude.{◌≡◌};
-ghost use Rattle.zq_serve.specs.Limits.{port_limits};
+ghost use Rattle.zq_serve.specs.Limits.{guarded, port_limits};
 
 use log::{Log, warn};
 use zq_loop::Limits;
@@ -22,6 +22,21 @@ pub fn limits_of(connections: Option<ConnectionCount>, limits: &ClientLimits, mo
         timeout: limits.timeout.value(),
         write_timeout: limits.write_timeout.value(),
         output: limits.output.value(),
+        strangers: 0,
+    }
+}
+
+/// The same limits where clients have to show a password: then a quarter of the connections at once
+/// may have yet to show it, and one at least.
+pub fn guarded(limits: Limits, is_guarded: bool) -> Limits
+    ensures { result ≡ guarded is_guarded limits }
+{
+    if !is_guarded {
+        return limits;
+    }
+    Limits {
+        strangers: (limits.clients / 4).max(1),
+        ..limits
     }
 }
 

@@ -1,13 +1,13 @@
 //! What serves a site's connections, many of them by turns.
 
-use crate::answerer::answerer_of;
+use crate::answerer::attending_of;
 use crate::inboxes::Inboxes;
 use crate::warning::Warner;
 use log::Log;
 use std::alloc::Global;
 use std::sync::{Mutex, Wait};
 use std::time::Clock;
-use zq_loop::{Poller, Port};
+use zq_loop::{Attended, Poller, Port};
 use zq_metrics::WorkerCounters;
 use zq_session::SitePass;
 use zq_spread::Draws;
@@ -20,16 +20,16 @@ pub struct Worker<'b, 'a> {
     pub(crate) poller: &'b mut Poller,
 }
 
-impl Worker<'_, '_> {
+impl<'b> Worker<'b, '_> {
     /// Serves the connections that it is handed, once the gate is open, until all have come and are
     /// served. A gate that was never opened ends it at once. After each call a Tick goes to the
     /// site's mailbox, where it has one.
     pub(crate) fn run<L: Log + Wait + Clock>(
         self,
-        log: &L,
+        log: &'b L,
         alloc: Global,
         gate: &Mutex<bool>,
-        inboxes: Inboxes<'_>,
+        inboxes: Inboxes<'b>,
         seed: u64,
     ) {
         if !*gate.lock(log) {
@@ -38,8 +38,9 @@ impl Worker<'_, '_> {
         let Worker { own, port, poller } = self;
         let counters = own_counters(inboxes);
         let watch = Warner::new(log, own.site.number(), inboxes.counters(), counters);
-        let mut answerer = answerer_of(log, own, Draws::new(seed), inboxes, counters);
-        poller.run(log, alloc, port, &mut answerer, &watch);
+        let answerer = attending_of(log, own, Draws::new(seed), inboxes, port, counters);
+        let mut attending = Attended::new(answerer);
+        poller.run(log, alloc, port, &mut attending, &watch);
     }
 }
 

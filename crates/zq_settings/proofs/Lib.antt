@@ -15,7 +15,9 @@ pub mod MeantPeers
 pub mod NamedTexts
 pub mod NamesRead
 pub mod MeantPorts
+pub mod MeantProtection
 pub mod MeantSite
+pub mod ProtectionBroken
 pub mod Seen
 pub mod SiteBroken
 pub mod SiteFaults

@@ -21,11 +21,11 @@ use Rattle.zq_settings.specs.declared.why.Why.{Why}
 use Rattle.zq_settings.specs.declared.why.Why.TheVariants.{Exposed, Range}
 
 -- loopback addresses
-near_since : (a : IpAddr) → is_loopback a ≡ true → IsLoopbackIp a
+pub near_since : (a : IpAddr) → is_loopback a ≡ true → IsLoopbackIp a
 near_since (ip.V4 a) h = (bytes_eq-Decides (take 1 (ipv4_octets a)) (127 ∷ [])).0 h
 near_since (ip.V6 a) h = (bytes_eq-Decides (ipv6_segments a) (0 ∷ 0 ∷ 0 ∷ 0 ∷ 0 ∷ 0 ∷ 0 ∷ 1 ∷ [])).0 h
 
-near_from : (a : IpAddr) → IsLoopbackIp a → is_loopback a ≡ true
+pub near_from : (a : IpAddr) → IsLoopbackIp a → is_loopback a ≡ true
 near_from (ip.V4 a) h = (bytes_eq-Decides (take 1 (ipv4_octets a)) (127 ∷ [])).1 h
 near_from (ip.V6 a) h = (bytes_eq-Decides (ipv6_segments a) (0 ∷ 0 ∷ 0 ∷ 0 ∷ 0 ∷ 0 ∷ 0 ∷ 1 ∷ [])).1 h
 

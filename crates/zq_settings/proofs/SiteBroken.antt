@@ -5,9 +5,10 @@ use Rattle.zq_settings.proofs.MeantAccept.{accept_fault}
 use Rattle.zq_settings.proofs.AdminBroken.{admin_keys_break}
 use Rattle.zq_settings.proofs.MeantLogLevel.{log_level_fault}
 use Rattle.zq_settings.proofs.Faults.{HasFault, by_steps, common_fault, count_listed, listed, number_fault, required_fault, rule_fault, unknown_fault}
-use Rattle.zq_settings.proofs.MeantAddresses.{secret_since}
+use Rattle.zq_settings.proofs.MeantAddresses.{bind_since, secret_since}
 use Rattle.zq_settings.proofs.MeantNumbers.{required_since}
 use Rattle.zq_settings.proofs.MeantPeers.{each_since, peer_since}
+use Rattle.zq_settings.proofs.ProtectionBroken.{protection_breaks}
 use Rattle.zq_settings.proofs.SiteFaults.{address_breaks, fault_breaks, missing_breaks}
 use Rattle.zq_settings.proofs.NamedTexts.{local_peer_from, peer_text_from, peer_text_since}
 use Rattle.zq_settings.proofs.Spelled.{no_ip}
@@ -22,6 +23,7 @@ use Rattle.zq_settings.specs.Breaks.{HasUnknown, IsNoPeerAddress}
 use Rattle.zq_settings.specs.PeerAddresses.{IsLocalPeer, is_local_peer, peer_address_of}
 use Rattle.zq_settings.specs.Peers.{sites_of}
 use Rattle.zq_settings.specs.Ports.{first_twice}
+use Rattle.zq_settings.specs.Protecting.{protection_of}
 use Rattle.zq_settings.specs.Settings.{common_of, count_of, each, known_keys, log_level_of, required_of, rule_of, site_of}
 use Rattle.zq_settings.specs.Site.{accept_of, address_at, admin_keys_of, alone_of, apart, bind_of, drain_of, link_backlog_of, max_memory_of, peer_address_at, peer_at, peer_of, peers_in, peers_of, secret_of, site_seed_of, unless_far, unless_met, unless_own, unless_short}
 use Rattle.zq_settings.specs.SiteBreaks.{EachRefusalOfASiteIsOfABrokenRule, HasPeer, HasTwice, SiteBreaks}
@@ -230,7 +232,7 @@ each_refusal_of_a_site_is_of_a_broken_rule table why =
     by_steps (known_keys form.Site table) _ why P (λ h. let (name, same, has) = unknown_fault form.Site table why h in rw same has) (λ known _.
     by_steps (site_of key.Site (value_at key.Site table)) _ why P (λ h. missing_breaks table table key.Site (λ Q q. q) why (required_fault table key.Site 0 63 (λ d none. none) (λ d out. out) why _ refl h)) (λ site site_read.
     by_steps (required_of key.Port 1 65535 (value_at key.Port table)) _ why P (λ h. missing_breaks table table key.Port (λ Q q. q) why (required_fault table key.Port 1 65535 (λ d none. none) (λ d out. out) why _ refl h)) (λ port _.
-    by_steps (bind_of (value_at key.Bind table)) _ why P (λ h. fault_breaks table table key.Bind (λ Q q. q) why (bind_fault table why _ refl h)) (λ bind _.
+    by_steps (bind_of (value_at key.Bind table)) _ why P (λ h. fault_breaks table table key.Bind (λ Q q. q) why (bind_fault table why _ refl h)) (λ bind bind_read.
     by_steps (secret_of (value_at key.Secret table)) _ why P (λ h. fault_breaks table table key.Secret (λ Q q. q) why (secret_fault table why _ refl h)) (λ secret secret_read.
     by_steps (address_at (is_some secret) key.Listen (value_at key.Listen table)) _ why P
     (λ h. address_breaks table table key.Listen (λ Q q. q) (is_some secret) (λ none has. (no_secret secret _ secret_read none, has)) why
@@ -246,6 +248,7 @@ each_refusal_of_a_site_is_of_a_broken_rule table why =
     (λ h. fault_breaks table table key.Alone (λ Q q. q) why (number_fault table key.Alone 0 1000000 10 (λ d none. none) (λ d out. out) why _ refl h)) (λ alone _.
     by_steps (accept_of (value_at key.Accept table)) _ why P (λ h. fault_breaks table table key.Accept (λ Q q. q) why (accept_fault table why _ refl h)) (λ accept _.
     by_steps (admin_keys_of table) _ why P (admin_keys_break table why) (λ admin _.
+    by_steps (protection_of bind table) _ why P (protection_breaks table bind (bind_since bind _ bind_read) why) (λ protection _.
     by_steps (drain_of (value_at key.Drain table)) _ why P
     (λ h. fault_breaks table table key.Drain (λ Q q. q) why (number_fault table key.Drain 0 1000000 10 (λ d none. none) (λ d out. out) why _ refl h)) (λ drain _.
     by_steps (log_level_of (value_at key.LogLevel table)) _ why P (λ h. fault_breaks table table key.LogLevel (λ Q q. q) why (log_level_fault table why _ refl h)) (λ log_level _.
@@ -253,4 +256,4 @@ each_refusal_of_a_site_is_of_a_broken_rule table why =
     (λ h. fault_breaks table table key.MaxMemory (λ Q q. q) why (number_fault table key.MaxMemory 0 1099511627776 0 (λ d none. none) (λ d out. out) why _ refl h)) (λ max_memory _.
     by_steps (site_seed_of site (value_at key.Seed table)) _ why P
     (λ h. fault_breaks table table key.Seed (λ Q q. q) why (number_fault table key.Seed 0 9223372036854775807 (site + 1) (λ d none. none) (λ d out. out) why _ refl h)) (λ seed _.
-    by_steps (rule_of (value_at key.Rule table)) _ why P (λ h. fault_breaks table table key.Rule (λ Q q. q) why (rule_fault table why _ refl h)) (λ rule _ wrong. cc)))))))))))))))))
+    by_steps (rule_of (value_at key.Rule table)) _ why P (λ h. fault_breaks table table key.Rule (λ Q q. q) why (rule_fault table why _ refl h)) (λ rule _ wrong. cc))))))))))))))))))

@@ -1,8 +1,8 @@
 -- Steps of a reading.
-use Rattle.std.proofs.Common.{◌≡◌, ◌≤◌, ◌⊎◌, ℕ, ℤ, pos, negsuc, leb, ◌&&◌, List, Option, Some, None, Result, Ok, Err, refl, sym, ap, ◌∙◌, inl, inr, arith}
+use Rattle.std.proofs.Common.{◌≡◌, ◌≤◌, ◌⊎◌, ℕ, ℤ, pos, negsuc, leb, Bool, ◌&&◌, List, Option, Some, None, Result, Ok, Err, refl, sym, ap, ◌∙◌, inl, inr, arith}
 use Rattle.std.proofs.lemmas.Bool.{cases_Bool, and_parts, leb-true, le-leb}
 use Rattle.std.specs.Option.{ok_or}
-use Rattle.toml.specs.Data.{Data, string, integer, float, boolean, datetime, array, table as subtable, Items, Members, as_integer, as_array, as_str, as_table}
+use Rattle.toml.specs.Data.{Data, string, integer, float, boolean, datetime, array, table as subtable, Items, Members, as_bool, as_integer, as_array, as_str, as_table}
 use Rattle.zq_settings.specs.Numbers.{within}
 use Rattle.zq_settings.specs.Settings.{◌>>=◌}
 use Rattle.zq_settings.specs.declared.why.Why.{Why}
@@ -21,7 +21,7 @@ pub some_since : {A : Type 0} (o : Option A) (why : Why) (a : A) → ok_or o why
 some_since (Some x) why a h = cc
 some_since None why a h = cc
 
--- the one kind of value of which there is a whole number, an array, a text, a table
+-- the one kind of value of which there is a whole number, an array, a text, a truth value, a table
 pub integer_since : (d : Data) (z : ℤ) → as_integer d ≡ Some z → d ≡ integer z
 integer_since (integer x) z h = cc
 integer_since (string s) z h = cc
@@ -48,6 +48,15 @@ text_since (float x) word h = cc
 text_since (boolean b) word h = cc
 text_since (datetime t) word h = cc
 text_since (subtable ms) word h = cc
+
+pub bool_since : (d : Data) (b : Bool) → as_bool d ≡ Some b → d ≡ boolean b
+bool_since (boolean c) b h = cc
+bool_since (string s) b h = cc
+bool_since (integer x) b h = cc
+bool_since (array ds) b h = cc
+bool_since (float x) b h = cc
+bool_since (datetime t) b h = cc
+bool_since (subtable ms) b h = cc
 
 pub table_since : (d : Data) (ms : Members) → as_table d ≡ Some ms → d ≡ subtable ms
 table_since (subtable ns) ms h = cc

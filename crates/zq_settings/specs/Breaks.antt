@@ -2,13 +2,14 @@
 use Rattle.std.specs.Prelude.{◌≡◌, ◌<◌, ◌⊎◌, ℕ, ℤ, false, List, ◌∷◌, ◌++◌, length, map, Some, None, Err}
 use Rattle.std.specs.Net.Grammar.{IsIpText}
 use Rattle.std.specs.declared.net.ip_addr.IpAddr.{IpAddr}
-use Rattle.toml.specs.Data.{Data, Members, integer, string, array, as_integer, as_array, as_str, as_table}
+use Rattle.toml.specs.Data.{Data, Members, integer, string, array, as_bool, as_integer, as_array, as_str, as_table}
 use Rattle.toml.specs.View.{items_of}
 use Rattle.zq_settings.specs.Addresses.{IsNoAddress}
 use Rattle.zq_settings.specs.AdminKeys.{is_token}
 use Rattle.zq_settings.specs.Keys.{is_known}
 use Rattle.zq_settings.specs.Numbers.{within}
 use Rattle.zq_settings.specs.PeerAddresses.{IsPeerText}
+use Rattle.zq_settings.specs.Paths.{is_path}
 use Rattle.zq_settings.specs.Rules.{entry_of}
 use Rattle.zq_settings.specs.Settings.{rule_named, settings_of}
 use Rattle.zq_settings.specs.Accepting.{accept_named}
@@ -66,6 +67,8 @@ IsOfOtherKind key.Accept value = as_str value ≡ None
 IsOfOtherKind key.Admin value = as_str value ≡ None
 IsOfOtherKind key.AdminToken value = as_str value ≡ None
 IsOfOtherKind key.AdminBind value = as_str value ≡ None
+IsOfOtherKind key.PasswordFile value = as_str value ≡ None
+IsOfOtherKind key.Unprotected value = as_bool value ≡ None
 IsOfOtherKind key.Drain value = as_integer value ≡ None
 IsOfOtherKind key.LogLevel value = as_str value ≡ None
 IsOfOtherKind key.MaxMemory value = as_integer value ≡ None
@@ -96,6 +99,8 @@ IsOutOfRange key.Accept value = IsText (λ word. accept_named word ≡ None) val
 IsOutOfRange key.Admin value = IsText IsNoAddress value
 IsOutOfRange key.AdminToken value = IsText (λ text. is_token text ≡ false) value
 IsOutOfRange key.AdminBind value = IsText IsNoIp value
+IsOutOfRange key.PasswordFile value = IsText (λ text. is_path text ≡ false) value
+IsOutOfRange key.Unprotected value = ⊥
 IsOutOfRange key.Drain value = IsOutside 0 1000000 value
 IsOutOfRange key.LogLevel value = IsText (λ word. log_level_named word ≡ None) value
 IsOutOfRange key.MaxMemory value = IsOutside 0 1099511627776 value

@@ -10,6 +10,8 @@ pub mod Addresses
 pub mod Hosts
 pub mod PeerAddresses
 pub mod Settings
+pub mod Paths
+pub mod Protecting
 pub mod Site
 pub mod Memory
 pub mod Texts

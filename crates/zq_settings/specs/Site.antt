@@ -10,6 +10,7 @@ use Rattle.zq_settings.specs.Accepting.{accept_named}
 use Rattle.zq_settings.specs.PeerAddresses.{is_local_peer, peer_address_of}
 use Rattle.zq_settings.specs.Peers.{sites_of}
 use Rattle.zq_settings.specs.Ports.{first_twice}
+use Rattle.zq_settings.specs.Protecting.{protection_of}
 use Rattle.zq_settings.specs.Settings.{◌>>=◌, common_of, count_of, each, known_keys, log_level_of, number_of, required_of, rule_of, site_of}
 use Rattle.zq_settings.specs.Tables.{value_at}
 use Rattle.zq_settings.specs.declared.accept.Accept.{Accept}
@@ -156,6 +157,7 @@ site_values_of table =
     alone_of (value_at key.Alone table) >>= (λ alone.
     accept_of (value_at key.Accept table) >>= (λ accept.
     admin_keys_of table >>= (λ admin.
+    protection_of bind table >>= (λ protection.
     drain_of (value_at key.Drain table) >>= (λ drain.
     log_level_of (value_at key.LogLevel table) >>= (λ log_level.
     max_memory_of (value_at key.MaxMemory table) >>= (λ max_memory.
@@ -176,12 +178,13 @@ site_values_of table =
       alone = alone;
       accept = accept;
       admin = admin;
+      protection = protection;
       drain = drain;
       log_level = log_level;
       max_memory = max_memory;
       seed = seed;
       secret = secret;
-    })))))))))))))))))
+    }))))))))))))))))))
 
 -- the settings that a table has, or the first rule that it breaks
 abbrev pub site_settings_of : Members → Result SiteSettings Why

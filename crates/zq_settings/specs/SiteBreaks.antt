@@ -1,9 +1,9 @@
 -- The rules of settings of one site that a table can break.
-use Rattle.std.specs.Prelude.{◌≡◌, ◌<◌, ℕ, pos, List, ◌∷◌, ◌++◌, length, Some, None, Err}
+use Rattle.std.specs.Prelude.{◌≡◌, ◌<◌, true, ℕ, pos, List, ◌∷◌, ◌++◌, length, Some, None, Err}
 use Rattle.std.specs.Net.Grammar.{IsIpText, IsSocketText}
 use Rattle.std.specs.declared.net.ip_addr.IpAddr.{IpAddr}
 use Rattle.std.specs.declared.net.socket_addr.SocketAddr.{SocketAddr}
-use Rattle.toml.specs.Data.{Data, Members, integer, string, array, table as subtable}
+use Rattle.toml.specs.Data.{Data, Members, boolean, integer, string, array, table as subtable}
 use Rattle.toml.specs.View.{items_of}
 use Rattle.zq_settings.specs.Addresses.{IsLoopback, IsLoopbackIp}
 use Rattle.zq_settings.specs.Breaks.{HasUnknown, IsOfOtherKind, IsOutOfRange}
@@ -50,11 +50,14 @@ IsExposed key.PeerAddress value = (text : List ℕ) × (address : PeerAddress)
     × (value ≡ string text) × IsPeerText text address × ¬ IsLocalPeer address
 IsExposed key.AdminBind value = (text : List ℕ) × (ip : IpAddr) × (value ≡ string text)
     × IsIpText text ip × ¬ IsLoopbackIp ip
+IsExposed key.Bind value = (text : List ℕ) × (ip : IpAddr) × (value ≡ string text)
+    × IsIpText text ip × ¬ IsLoopbackIp ip
 IsExposed key value = (text : List ℕ) × (address : SocketAddr) × (value ≡ string text)
     × IsSocketText text address × ¬ IsLoopback address
 
 -- the rule that is broken, apart from the order of rules; where `admin` is exposed, with a secret
--- too, and where `admin_bind` is, there is no token
+-- too; where `admin_bind` is, there is no token; and where `bind` is, there is no password, nor is
+-- it said that none is wanted
 abbrev pub SiteBreaks : Members → Why → Type 0
 SiteBreaks table (Unknown form.Site name) = HasUnknown form.Site name table
 SiteBreaks table (Unknown form.Peer name) = HasPeer (HasUnknown form.Peer name) table
@@ -70,6 +73,9 @@ SiteBreaks table (OwnPeer site) = (value_at key.Site table ≡ Some (integer (po
 SiteBreaks table (Exposed key.Admin) = HasValue key.Admin (IsExposed key.Admin) table
 SiteBreaks table (Exposed key.AdminBind) = (value_at key.AdminToken table ≡ None)
     × HasValue key.AdminBind (IsExposed key.AdminBind) table
+SiteBreaks table (Exposed key.Bind) = (value_at key.PasswordFile table ≡ None)
+    × ¬ (value_at key.Unprotected table ≡ Some (boolean true))
+    × HasValue key.Bind (IsExposed key.Bind) table
 SiteBreaks table (Exposed address) = (value_at key.Secret table ≡ None)
     × HasValue address (IsExposed address) table
 SiteBreaks table _ = ⊥

@@ -1,10 +1,10 @@
 -- What a table of settings of one site has to say, key by key.
-use Rattle.std.specs.Prelude.{◌+◌, ◌≡◌, ◌≤◌, ◌⊎◌, ◌↔◌, ℕ, pos, List, [], ◌∷◌, length, All, IsTrue, Option, Some, None, Ok, true}
+use Rattle.std.specs.Prelude.{◌+◌, ◌≡◌, ◌≤◌, ◌⊎◌, ◌↔◌, Bool, ℕ, false, pos, List, [], ◌∷◌, length, All, IsTrue, Option, Some, None, Ok, true}
 use Rattle.std.specs.Net.Grammar.{IsIpText, IsSocketText}
 use Rattle.std.specs.Net.Socket.{socket_port}
 use Rattle.std.specs.declared.net.ip_addr.IpAddr.{IpAddr}
 use Rattle.std.specs.declared.net.socket_addr.SocketAddr.{SocketAddr}
-use Rattle.toml.specs.Data.{Data, Members, integer, string, array, table as subtable}
+use Rattle.toml.specs.Data.{Data, Members, boolean, integer, string, array, table as subtable}
 use Rattle.toml.specs.View.{items_of}
 use Rattle.zq_settings.specs.Accepting.{accept_word}
 use Rattle.zq_settings.specs.Addresses.{IsLoopback, IsLoopbackIp, localhost}
@@ -12,6 +12,7 @@ use Rattle.zq_settings.specs.AdminKeys.{is_token}
 use Rattle.zq_settings.specs.Keys.{is_known}
 use Rattle.zq_settings.specs.PeerAddresses.{IsLocalPeer, IsPeerText}
 use Rattle.zq_settings.specs.Peers.{ArePeers}
+use Rattle.zq_settings.specs.Paths.{is_path}
 use Rattle.zq_settings.specs.Rules.{AreClientLimits, IsLimit, IsLogLevel, IsNumber, IsRule}
 use Rattle.zq_settings.specs.Site.{if_given, site_settings_of}
 use Rattle.zq_settings.specs.Tables.{names_in, value_at}
@@ -22,6 +23,7 @@ use Rattle.zq_settings.specs.declared.key.Key.TheVariants as key
 use Rattle.zq_settings.specs.declared.peer.Peer.{Peer}
 use Rattle.zq_settings.specs.declared.peer_address.PeerAddress.{PeerAddress}
 use Rattle.zq_settings.specs.declared.values.AdminSettings.{AdminSettings}
+use Rattle.zq_settings.specs.declared.values.Protection.{Protection}
 use Rattle.zq_settings.specs.declared.values.SiteSettings.{SiteSettings}
 
 -- the value is the number, which lies between the bounds
@@ -110,6 +112,24 @@ pub record AreAdminKeys (table : Members) (admin : AdminSettings) : Type 0 where
   pub token : IsAdminToken (value_at key.AdminToken table) admin.token
   pub bind : IsAdminBind admin.token (value_at key.AdminBind table) admin.bind
 
+-- there is neither a value nor a file, or the value is the name of the file
+abbrev pub IsPasswordFile : Option Data → Option (List ℕ) → Type 0
+IsPasswordFile value file = ((value ≡ None) × (file ≡ None))
+    ⊎ ((text : List ℕ) × (value ≡ Some (string text)) × (is_path text ≡ true)
+    × (file ≡ Some text))
+
+-- there is no value, and a password is wanted, or the value says whether none is
+abbrev pub IsUnprotected : Option Data → Bool → Type 0
+IsUnprotected value unprotected = ((value ≡ None) × (unprotected ≡ false))
+    ⊎ (value ≡ Some (boolean unprotected))
+
+-- what protects the port of clients at this address, key by key: where there is no password, and
+-- it is not said that none is wanted, others do not reach it
+pub record IsProtection (table : Members) (bind : IpAddr) (protection : Protection) : Type 0 where
+  pub password_file : IsPasswordFile (value_at key.PasswordFile table) protection.password_file
+  pub unprotected : IsUnprotected (value_at key.Unprotected table) protection.unprotected
+  pub near : protection.password_file ≡ None → protection.unprotected ≡ false → IsLoopbackIp bind
+
 -- each key of the table is known, and each value is as its key wants it
 pub record IsSiteSettings (table : Members) (settings : SiteSettings) : Type 0 where
   pub known : All (λ name. IsTrue (is_known form.Site name)) (names_in table)
@@ -128,6 +148,7 @@ pub record IsSiteSettings (table : Members) (settings : SiteSettings) : Type 0 w
   pub alone : IsNumber 0 1000000 10 (value_at key.Alone table) settings.alone
   pub accept : IsAccept (value_at key.Accept table) settings.accept
   pub admin : AreAdminKeys table settings.admin
+  pub protection : IsProtection table settings.bind settings.protection
   pub drain : IsNumber 0 1000000 10 (value_at key.Drain table) settings.drain
   pub log_level : IsLogLevel (value_at key.LogLevel table) settings.log_level
   pub max_memory : IsNumber 0 1099511627776 0 (value_at key.MaxMemory table) settings.max_memory

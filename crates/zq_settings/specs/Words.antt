@@ -35,6 +35,8 @@ takes_of key.Admin = codes "a loopback address with a port from 1 to 65535, as \
 takes_of key.AdminToken =
     codes "a text of 16 to 256 letters, digits and marks of ASCII, with no blank"
 takes_of key.AdminBind = codes "an IP address, as \"127.0.0.1\""
+takes_of key.PasswordFile = codes "the name of a file, a text of 1 to 4096 bytes"
+takes_of key.Unprotected = codes "true or false"
 takes_of key.Drain = codes "a whole number from 0 to 1000000"
 takes_of key.LogLevel = codes "\"warn\", \"info\" or \"debug\""
 takes_of key.MaxMemory = codes "a whole number from 0 to 1099511627776"
@@ -56,6 +58,8 @@ exposed_of key.PeerAddress =
     codes "neither a loopback address nor localhost: without a secret of at least 16 bytes it takes one of these"
 exposed_of key.Admin = codes "no loopback address: it takes one, and admin_bind another"
 exposed_of key.AdminBind = codes "no loopback address: without an admin_token it takes one"
+exposed_of key.Bind =
+    codes "no loopback address: without a password_file or unprotected = true it takes one"
 exposed_of other =
     codes "no loopback address: without a secret of at least 16 bytes it takes one"
 
@@ -64,7 +68,7 @@ abbrev pub keys_text : Form → List ℕ
 keys_text form.Sites =
     codes "settings, which are ports, heaps, workers, connections, clients, timeout, write_timeout, output, log_level, seed and rule"
 keys_text form.Site =
-    codes "a site's settings, which are site, port, bind, secret, listen, peers, heaps, workers, connections, clients, timeout, write_timeout, output, link_backlog, alone, accept, admin, admin_token, admin_bind, drain, log_level, max_memory, seed and rule"
+    codes "a site's settings, which are site, port, bind, secret, listen, peers, heaps, workers, connections, clients, timeout, write_timeout, output, link_backlog, alone, accept, admin, admin_token, admin_bind, password_file, unprotected, drain, log_level, max_memory, seed and rule"
 keys_text form.Peer = codes "a peer, which are site and address"
 
 -- what is wrong with a key's value, and what the key takes

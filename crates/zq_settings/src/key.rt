@@ -35,6 +35,10 @@ pub enum Key {
     AdminToken,
     /// The address at which that port is in the place of a loopback address.
     AdminBind,
+    /// The file that has the digest of the password of the one site's clients.
+    PasswordFile,
+    /// Whether the port of the clients may be reached by others with no password.
+    Unprotected,
     /// How long the one site waits, as it is told to end, until its peers have what it made.
     Drain,
     /// How much the program's log says.
@@ -83,6 +87,8 @@ impl Key {
             Key::Admin => "admin",
             Key::AdminToken => "admin_token",
             Key::AdminBind => "admin_bind",
+            Key::PasswordFile => "password_file",
+            Key::Unprotected => "unprotected",
             Key::Drain => "drain",
             Key::LogLevel => "log_level",
             Key::MaxMemory => "max_memory",
@@ -130,6 +136,8 @@ impl Key {
             Key::AdminToken => {
                 "a text of 16 to 256 letters, digits and marks of ASCII, with no blank"
             }
+            Key::PasswordFile => "the name of a file, a text of 1 to 4096 bytes",
+            Key::Unprotected => "true or false",
             Key::Site | Key::PeerSite => "a whole number from 0 to 63",
             Key::Port => "a whole number from 1 to 65535",
             Key::Bind | Key::AdminBind => "an IP address, as \"127.0.0.1\"",
@@ -143,7 +151,8 @@ impl Key {
     }
 
     /// That the key's address is open to others, and what it takes, in words: `admin` a loopback
-    /// address, `admin_bind` one where there is no token, the others one where there is no secret.
+    /// address, `admin_bind` one where there is no token, `bind` one where there is no password and
+    /// it is not said that none is wanted, the others one where there is no secret.
     pub(crate) fn exposed(self) -> &'static str
         ensures { result.now ≡ exposed_of self }
     {
@@ -153,6 +162,9 @@ impl Key {
             }
             Key::Admin => "no loopback address: it takes one, and admin_bind another",
             Key::AdminBind => "no loopback address: without an admin_token it takes one",
+            Key::Bind => {
+                "no loopback address: without a password_file or unprotected = true it takes one"
+            }
             _ => "no loopback address: without a secret of at least 16 bytes it takes one",
         }
     }

@@ -21,11 +21,13 @@ mod lookup;
 mod name;
 mod naming;
 mod number;
+mod password_file;
 mod peer;
 mod peer_address;
 mod peering;
 mod peers;
 mod ports;
+mod protection;
 mod read;
 mod secret;
 mod table;
@@ -42,6 +44,7 @@ pub use host_name::HostName;
 pub use key::Key;
 pub use log_level::LogLevel;
 pub use name::Name;
+pub use password_file::PasswordFile;
 pub use peer::Peer;
 pub use peer_address::PeerAddress;
 pub use peers::{MOST_PEERS, Peers};
@@ -50,7 +53,7 @@ pub use read::{settings, site_settings};
 pub use secret::{LEAST_SECRET, Secret};
 pub use values::{
     AdminSettings, BacklogSize, ClientCount, ClientLimits, ConnectionCount, HeapCount, MemorySize,
-    OutputSize, Seconds, Seed, Settings, SiteSettings, WorkerCount,
+    OutputSize, Protection, Seconds, Seed, Settings, SiteSettings, WorkerCount,
 };
 pub use why::Why;
 pub use within::Within;

@@ -62,6 +62,8 @@ pub fn settings(alloc: Global, text: &str) -> Result<Settings, SettingsFault>
 /// | `admin` | where its admin port is: a loopback address with a port that is not 0, as `"127.0.0.1:7180"` | there is none |
 /// | `admin_token` | what requests there have to say: a text of 16 to 256 bytes of ASCII, each of which can be seen | nothing |
 /// | `admin_bind` | the IP address at which that port is in the place of the loopback address | there is none |
+/// | `password_file` | the file whose first line is the SHA-256 digest of the password of its clients, a text of 1 to 4096 bytes | they need none |
+/// | `unprotected` | whether `bind` may be an address that others reach where there is no `password_file`: `true` or `false` | `false` |
 /// | `drain` | 0 to 1000000 | 10 |
 /// | `max_memory` | 0 to 1099511627776, where 0 is no bound | 0 |
 /// | `seed` | 0 to 9223372036854775807 | the site's number and 1 |
@@ -69,7 +71,8 @@ pub fn settings(alloc: Global, text: &str) -> Result<Settings, SettingsFault>
 ///
 /// No two peers have the same number. Where there is no `secret`, `listen` is a loopback address,
 /// and so is each peer's `address`, or it has the name `localhost`. `admin` is a loopback address
-/// with a secret too. Where there is no `admin_token`, `admin_bind` is a loopback address.
+/// with a secret too. Where there is no `admin_token`, `admin_bind` is a loopback address. Where
+/// there is no `password_file` and `unprotected` is not true, `bind` is a loopback address.
 ///
 /// # Errors
 ///

@@ -20,6 +20,7 @@ use crate::log_leveling::read_log_level;
 use crate::lookup::value_at;
 use crate::number::{read_number, read_required, read_site};
 use crate::peering::read_peers;
+use crate::protection::read_protection;
 use crate::secret::read_secret;
 use crate::unknown::refuse_unknown;
 use crate::values::{Seed, Settings, SiteSettings, WorkerCount};
@@ -77,6 +78,7 @@ fn read_site_values(alloc: Global, table: &Table) -> Result<SiteSettings, Settin
     let alone = read_number(table, Key::Alone, Within::of(10))?;
     let accept = read_accept(table)?;
     let admin = read_admin_keys(alloc, table)?;
+    let protection = read_protection(alloc, table, &bind)?;
     let drain = read_number(table, Key::Drain, Within::of(10))?;
     let log_level = read_log_level(table)?;
     let max_memory = read_number(table, Key::MaxMemory, Within::of(0))?;
@@ -97,6 +99,7 @@ fn read_site_values(alloc: Global, table: &Table) -> Result<SiteSettings, Settin
         alone,
         accept,
         admin,
+        protection,
         drain,
         log_level,
         max_memory,

@@ -3,6 +3,7 @@
 use crate::accept::Accept;
 use crate::admin_token::AdminToken;
 use crate::log_level::LogLevel;
+use crate::password_file::PasswordFile;
 use crate::peers::Peers;
 use crate::ports::{Port, Ports};
 use crate::secret::Secret;
@@ -84,6 +85,16 @@ pub struct AdminSettings {
     pub bind: Option<IpAddr>,
 }
 
+/// What protects a site from whoever reaches the port of its clients.
+#[derive(Debug, Drop)]
+pub struct Protection {
+    /// The file whose first line is the SHA-256 digest of the password that clients have to show.
+    /// With `None` they need none.
+    pub password_file: Option<PasswordFile>,
+    /// Whether the port may be at an address that others reach where there is no password.
+    pub unprotected: bool,
+}
+
 /// The settings of one site in a process of its own.
 #[derive(Debug, Drop)]
 pub struct SiteSettings {
@@ -91,7 +102,8 @@ pub struct SiteSettings {
     pub site: SiteNo,
     /// The port of its clients.
     pub port: Port,
-    /// The address at which that port is.
+    /// The address at which that port is: a loopback address where there is no password and it is
+    /// not said that none is wanted.
     pub bind: IpAddr,
     /// Where it listens for its peers: a loopback address where there is no secret. The port is not
     /// 0.
@@ -118,6 +130,8 @@ pub struct SiteSettings {
     pub accept: Accept,
     /// Its admin port.
     pub admin: AdminSettings,
+    /// What protects it from whoever reaches the port of its clients.
+    pub protection: Protection,
     /// How many seconds it waits at most, as it is told to end, until its peers have what it made.
     /// With 0 it does not wait.
     pub drain: Seconds,

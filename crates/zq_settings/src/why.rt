@@ -18,9 +18,10 @@ use zq_dots::SiteNo;
 /// `workers`, `connections`, `clients`, `timeout`, `write_timeout`, `output`, `log_level`, `seed`
 /// and `rule`, in this order. Of one site they are `site`, `port`, `bind`, `secret`, `listen`,
 /// `peers`, and then `heaps` and the others, with `link_backlog`, `alone`, `accept`, `admin`,
-/// `admin_token`, `admin_bind` and `drain` after `output`, and `max_memory` after `log_level`. The entries of `peers` come one by
-/// one: that it is a table, that it has no other keys, then the rules of its `site` and of its
-/// `address`.
+/// `admin_token`, `admin_bind`, `password_file`, `unprotected`, that `bind` is not open to others
+/// without one of these two, and `drain` after `output`, and `max_memory` after `log_level`. The
+/// entries of `peers` come one by one: that it is a table, that it has no other keys, then the
+/// rules of its `site` and of its `address`.
 #[derive(Debug, Drop)]
 pub enum Why {
     /// The text is not TOML.
@@ -51,7 +52,8 @@ pub enum Why {
     /// A peer has this number, which is the site's own.
     OwnPeer(SiteNo),
     /// The address at the key is no loopback address, nor of a peer `localhost`, and there is no
-    /// secret. At `admin` there may be one; at `admin_bind` there is no token.
+    /// secret. At `admin` there may be one; at `admin_bind` there is no token, and at `bind` neither
+    /// a password nor that none is wanted.
     Exposed(Key),
 }
 

@@ -17,7 +17,7 @@ use Rattle.zq_metrics.proofs.Crossing.{counters_sync}
 use Rattle.zq_admin.proofs.Crossing.{found_send}
 use Rattle.zq_peers.proofs.Crossing.{mailbox_sync}
 use Rattle.zq_replica.specs.contracts.logs.Logs as Logs
-use Rattle.zq_serve.proofs.Crossing.{admission_sync, gate_sync}
+use Rattle.zq_serve.proofs.Crossing.{admission_sync, desk_sync, gate_sync}
 use Rattle.zq_settings.specs.contracts.values.SiteSettings as SiteSettings
 use Rattle.zq_site.specs.contracts.hiring.Hiring as Hiring
 use Rattle.zq_site.specs.contracts.survey.Survey as Survey
@@ -65,4 +65,4 @@ settings_sync : IsSync SiteSettings.the_row
 settings_sync = search (address_send, sendable, crosses) depth 100 fits 100000
 
 pub shared_send : (κ : NamedLft) → IsSend (Shared.the_row κ)
-shared_send κ = search (settings_sync, link_sync, post_sync, logs_sync, hiring_sync, ending_sync, front_sync, meters_sync, admission_sync, gate_sync, mailbox_sync, sendable, crosses) depth 60 fits 100000
+shared_send κ = search (settings_sync, link_sync, post_sync, logs_sync, hiring_sync, ending_sync, front_sync, meters_sync, admission_sync, desk_sync, gate_sync, mailbox_sync, sendable, crosses) depth 60 fits 100000

@@ -45,6 +45,7 @@ mod peer_links;
 mod peer_listener;
 mod peers_shown;
 mod post;
+mod profile;
 mod progress;
 mod pushing;
 mod quota;
@@ -71,4 +72,5 @@ mod why;
 mod writing;
 
 pub use ending::Ending;
+pub use profile::VERSION;
 pub use serving::serve_site;

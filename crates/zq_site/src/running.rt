@@ -131,6 +131,7 @@ where
                 shared.gate,
                 shared.admission,
                 &shared.meters.counters,
+                shared.desk,
             );
             ended = run_clients(log, shared.alloc, clients, inboxes, seeds.draws);
         }

@@ -22,6 +22,7 @@ use crate::opening::draw_run;
 use crate::peer_links::{dialers_of, open_peer_links, others_of};
 use crate::peer_listener::PeerListener;
 use crate::post::Post;
+use crate::profile::desk_of;
 use crate::running::{Seeds, acceptors, run_site};
 use crate::shared::Shared;
 use crate::warning_log::note_of;
@@ -33,13 +34,14 @@ use std::random::RandomSource;
 use std::sync::Wait;
 use std::thread::{Threads, available_parallelism};
 use std::time::Clock;
+use zq_client::Password;
 use zq_journal::TailLimits;
 use zq_peers::{Link, Mailbox};
 use zq_posheap::Seeded;
 use zq_replica::Logs;
 use zq_serve::{
-    Admission, Gate, Linker, Memory, ServeFault, SiteThreads, draw_hasher, limits_of, listen,
-    most_clients, most_waiting, open_port, plan_of, warn_few,
+    Admission, Gate, Linker, Memory, ServeFault, SiteThreads, draw_hasher, guarded, limits_of,
+    listen, most_clients, most_waiting, open_port, plan_of, warn_few,
 };
 use zq_session::{LentSite, close_sites, end_loan, lend_sites, open_sites};
 use zq_settings::{SiteSettings, WorkerCount};
@@ -78,6 +80,10 @@ const ADMIN_CONNECTIONS: u64 = 36;
 /// resident. While that is more than `max_memory` commands that add are refused, and all else is
 /// served.
 ///
+/// Clients have to show this password, if there is one, before a command of theirs is answered.
+/// Those that have not are a quarter of the connections at once at most, and each has ten seconds,
+/// 65,536 bytes and ten attempts. What is no key's business each connection answers itself.
+///
 /// Where the settings have an admin port the site says there how ready it is. Told so there it takes
 /// no connection any more, answers what was read, waits until its peers have what it made, for as
 /// many seconds as `drain` says, and ends.
@@ -94,6 +100,7 @@ pub fn serve_site<N, L, W>(
     log: &L,
     alloc: Global,
     settings: &SiteSettings,
+    password: Option<Password>,
     out: &mut W,
     ending: &Ending,
 ) -> Result<(), ServeFault>
@@ -115,7 +122,7 @@ where
     let ended = match lend_sites(alloc, &plans, &mut made) {
         Ok(mut lent) => {
             let ended = serve_lent(
-                net, log, alloc, settings, out, ending, workers, hasher, &mut lent,
+                net, log, alloc, settings, password, out, ending, workers, hasher, &mut lent,
             );
             end_loan(lent);
             ended
@@ -132,6 +139,7 @@ fn serve_lent<'a, N, L, W>(
     log: &L,
     alloc: Global,
     settings: &SiteSettings,
+    password: Option<Password>,
     out: &mut W,
     ending: &Ending,
     workers: WorkerCount,
@@ -149,7 +157,7 @@ where
         unreachable!()
     };
     serve_one(
-        net, log, alloc, settings, out, ending, workers, hasher, site,
+        net, log, alloc, settings, password, out, ending, workers, hasher, site,
     )
 }
 
@@ -159,6 +167,7 @@ fn serve_one<'a, N, L, W>(
     log: &L,
     alloc: Global,
     settings: &SiteSettings,
+    password: Option<Password>,
     out: &mut W,
     ending: &Ending,
     workers: WorkerCount,
@@ -175,6 +184,7 @@ where
     let others = others_of(alloc, settings)?;
     let most = most_clients(1, workers, links_of(settings, others.len()));
     let limits = limits_of(settings.connections, &settings.limits, most);
+    let limits = guarded(limits, password.is_some());
     let address = clients_address(settings);
     let mut port = open_port(net, alloc, address, workers, limits)?;
     let link = Link { others, hasher };
@@ -202,6 +212,7 @@ where
     let hiring = Hiring::new(alloc, acceptors(dialers.len()));
     let waits = settings.alone.value() > 0 && !link.others.is_empty();
     let admission = Admission::new(settings.site, waits);
+    let desk = desk_of(log, settings, password);
     let shared = Shared {
         alloc,
         settings,
@@ -209,6 +220,7 @@ where
         peer_links: &peer_links,
         dialers: &dialers,
         admission: &admission,
+        desk: &desk,
         hiring: &hiring,
         mailbox: &mailbox,
         logs: &logs,

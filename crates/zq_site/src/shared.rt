@@ -12,7 +12,7 @@ use std::sync::Wait;
 use zq_dots::SiteNo;
 use zq_peers::Mailbox;
 use zq_replica::Logs;
-use zq_serve::{Admission, Gate};
+use zq_serve::{Admission, Desk, Gate};
 use zq_settings::SiteSettings;
 use zq_wire::RUN;
 
@@ -28,6 +28,8 @@ pub struct Shared<'a> {
     pub dialers: &'a [SiteNo],
     /// Which commands of clients are answered.
     pub admission: &'a Admission,
+    /// What clients are told that ask for no key.
+    pub desk: &'a Desk,
     /// Where threads are asked for as links come.
     pub hiring: &'a Hiring,
     /// Where calls are told of.

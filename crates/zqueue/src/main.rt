@@ -7,6 +7,7 @@ mod configured;
 mod drilling;
 mod logging;
 mod number;
+mod password;
 mod piping;
 mod refusal;
 mod serving;

@@ -6,6 +6,7 @@ ghost use Rattle.zqueue.specs.Refusal.{ended_of};
 
 use crate::configured::{configured, site_configured};
 use crate::logging::{close_log, open_log};
+use crate::password::read_password;
 use crate::refusal::Refusal;
 use crate::settling::{read_file, settled};
 use crate::site_thread::serve_in_thread;
@@ -77,8 +78,9 @@ where
 {
     let bytes = read_file(&rt, path)?;
     let settings = settled(&rt, path, site_configured(alloc, &bytes))?;
+    let password = read_password(&rt, &settings)?;
     let queue = open_log(rt, alloc)?;
-    let served = serve_in_thread(rt, alloc, settings, &queue);
+    let served = serve_in_thread(rt, alloc, settings, password, &queue);
     tell_cause(&rt, &served);
     Ok(close_log(&rt, alloc, &*queue, ended(served)))
 }

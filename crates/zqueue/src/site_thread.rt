@@ -9,7 +9,7 @@ use std::thread;
 use std::thread::Threads;
 use std::time::Clock;
 use zq_log::LogQueue;
-use zq_server::{Cause, Ending, Memory, ServeFault, SiteSettings, serve_site};
+use zq_server::{Cause, Ending, Memory, Password, ServeFault, SiteSettings, serve_site};
 
 /// Has a thread serve the site of these settings, which logs into this queue, and waits until the
 /// site has ended, or is not to be waited for any longer (`Ending::wait`). Then that thread ends
@@ -22,6 +22,7 @@ pub fn serve_in_thread<R>(
     rt: R,
     alloc: Global,
     settings: SiteSettings,
+    password: Option<Password>,
     queue: &Arc<LogQueue>,
 ) -> Result<(), ServeFault>
 where
@@ -40,7 +41,7 @@ where
     let ending = Arc::new(alloc, Ending::new()).map_err(AllocError::from)?;
     let (lines, told) = (Arc::try_clone(queue)?, Arc::try_clone(&ending)?);
     let serves = move || {
-        let ended = serve_here(&rt, alloc, &settings, &*lines, &*told);
+        let ended = serve_here(&rt, alloc, &settings, password, &*lines, &*told);
         told.end(&rt, ended);
     };
     match thread::spawn(&rt, serves) {
@@ -54,6 +55,7 @@ fn serve_here<R>(
     rt: &R,
     alloc: Global,
     settings: &SiteSettings,
+    password: Option<Password>,
     queue: &LogQueue,
     ending: &Ending,
 ) -> Result<(), ServeFault>
@@ -69,5 +71,5 @@ where
 {
     let mut out = start_lines(rt, alloc)?;
     let log = log_of(rt, alloc, queue, settings.log_level);
-    serve_site(rt, &log, alloc, settings, &mut out, ending)
+    serve_site(rt, &log, alloc, settings, password, &mut out, ending)
 }

@@ -113,7 +113,17 @@ where
     L: Log + RandomSource + Clock + Threads + Wait + Sync,
 {
     let mut written = Vec::new(alloc);
-    if serve_site(net, log, alloc, settings, &mut written, &Ending::new()).is_err() {
+    if serve_site(
+        net,
+        log,
+        alloc,
+        settings,
+        None,
+        &mut written,
+        &Ending::new(),
+    )
+    .is_err()
+    {
         *wrong.lock(log) = true;
     }
 }

@@ -345,7 +345,15 @@ where
     let mut written = Vec::new(alloc);
     let (ended, entertained) = thread::join(
         rt,
-        || serve_site(rt, &log, alloc, settings, &mut written, &Ending::new()),
+        || serve_site(
+            rt,
+            &log,
+            alloc,
+            settings,
+            None,
+            &mut written,
+            &Ending::new(),
+        ),
         || entertain(rt, rt, alloc, guests, clients),
     );
     entertained?;

@@ -109,7 +109,15 @@ where
     let mut written = Vec::new(alloc);
     let (ended, answer) = thread::join(
         rt,
-        || serve_site(rt, &log, alloc, &settings, &mut written, &Ending::new()),
+        || serve_site(
+            rt,
+            &log,
+            alloc,
+            &settings,
+            None,
+            &mut written,
+            &Ending::new(),
+        ),
         || asked(rt, alloc, ports[0], &bytes),
     );
     Ok((ended, answer?))

@@ -5,7 +5,7 @@ use std::net::{IpAddr, Ipv6Addr, SocketAddr};
 use std::test::Fail;
 use zq_dots::Rule;
 use zq_settings::{
-    Accept, AdminSettings, LogLevel, Peer, PeerAddress, SiteSettings, site_settings,
+    Accept, AdminSettings, LogLevel, Peer, PeerAddress, Protection, SiteSettings, site_settings,
 };
 
 /// An address of four numbers, and its port.
@@ -33,6 +33,8 @@ struct Row {
     admin: Option<Place>,
     admin_token: Option<&'static str>,
     admin_bind: Option<[u8; 4]>,
+    password_file: Option<&'static str>,
+    unprotected: bool,
     drain: u64,
     log_level: LogLevel,
     max_memory: u64,
@@ -61,6 +63,8 @@ const ROWS: [Row; 7] = [
         admin: None,
         admin_token: None,
         admin_bind: None,
+        password_file: None,
+        unprotected: false,
         drain: 10,
         log_level: LogLevel::Info,
         max_memory: 0,
@@ -69,7 +73,7 @@ const ROWS: [Row; 7] = [
     },
     // At their greatest, with a secret of 16 bytes, and so at other addresses.
     Row {
-        text: "secret = \"0123456789abcdef\"\nlisten = \"0.0.0.0:65535\"\nport = 65535\nsite = 63\nlink_backlog = 1099511627776\nalone = 1000000\naccept = \"listed\"\ndrain = 1000000\nmax_memory = 1099511627776\nlog_level = \"debug\"\nadmin = \"127.255.255.254:65535\"\nadmin_bind = \"0.0.0.0\"\nadmin_token = \"!~0123456789abcd\"\nheaps = 16\nbind = \"10.1.2.3\"\npeers = [{ site = 0, address = \"10.1.2.4:7101\" }]",
+        text: "secret = \"0123456789abcdef\"\nlisten = \"0.0.0.0:65535\"\nport = 65535\nsite = 63\nlink_backlog = 1099511627776\nalone = 1000000\naccept = \"listed\"\ndrain = 1000000\nmax_memory = 1099511627776\nlog_level = \"debug\"\nadmin = \"127.255.255.254:65535\"\nadmin_bind = \"0.0.0.0\"\nadmin_token = \"!~0123456789abcd\"\nheaps = 16\nbind = \"10.1.2.3\"\npassword_file = \"p\"\npeers = [{ site = 0, address = \"10.1.2.4:7101\" }]",
         site: 63,
         port: 65535,
         bind: [10, 1, 2, 3],
@@ -82,6 +86,8 @@ const ROWS: [Row; 7] = [
         admin: Some(([127, 255, 255, 254], 65535)),
         admin_token: Some("!~0123456789abcd"),
         admin_bind: Some([0, 0, 0, 0]),
+        password_file: Some("p"),
+        unprotected: false,
         drain: 1_000_000,
         log_level: LogLevel::Debug,
         max_memory: 1_099_511_627_776,
@@ -108,16 +114,18 @@ const ROWS: [Row; 7] = [
             "tttttttttttttttttttttttttttttttttttttttttttttttttttttttttttttttttttttttttttttttttttttttttttttttttttttttttttttttttttttttttttttttttttttttttttttttttttttttttttttttttttttttttttttttttttttttttttttttttttttttttttttttttttttttttttttttttttttttttttttttttttttttttttttttt",
         ),
         admin_bind: None,
+        password_file: None,
+        unprotected: false,
         drain: 10,
         log_level: LogLevel::Warn,
         max_memory: 1,
         seed: 2,
         secret: Some("éééééééé"),
     },
-    // No peers, and no secret: the port of clients may be at any address. The least of
+    // No peers, and no secret: the port of clients may be at any address, as is said. The least of
     // `link_backlog`, of the port of `admin`, of `drain` and of `max_memory`.
     Row {
-        text: "site = 5\nport = 7001\nlisten = \"127.255.0.1:7101\"\npeers = []\nadmin = \"127.0.0.1:1\"\nadmin_bind = \"127.0.0.2\"\ndrain = 0\nmax_memory = 0\nlink_backlog = 1048576\nbind = \"0.0.0.0\"",
+        text: "site = 5\nport = 7001\nlisten = \"127.255.0.1:7101\"\npeers = []\nadmin = \"127.0.0.1:1\"\nadmin_bind = \"127.0.0.2\"\ndrain = 0\nmax_memory = 0\nlink_backlog = 1048576\nbind = \"0.0.0.0\"\nunprotected = true",
         site: 5,
         port: 7001,
         bind: [0, 0, 0, 0],
@@ -130,6 +138,8 @@ const ROWS: [Row; 7] = [
         admin: Some((LOOPBACK, 1)),
         admin_token: None,
         admin_bind: Some([127, 0, 0, 2]),
+        password_file: None,
+        unprotected: true,
         drain: 0,
         log_level: LogLevel::Info,
         max_memory: 0,
@@ -154,6 +164,8 @@ const ROWS: [Row; 7] = [
         admin: None,
         admin_token: Some("0123456789abcdef"),
         admin_bind: Some([10, 1, 2, 3]),
+        password_file: None,
+        unprotected: false,
         drain: 10,
         log_level: LogLevel::Info,
         max_memory: 1_073_741_824,
@@ -188,6 +200,8 @@ const ROWS: [Row; 7] = [
         admin: None,
         admin_token: None,
         admin_bind: None,
+        password_file: None,
+        unprotected: false,
         drain: 10,
         log_level: LogLevel::Info,
         max_memory: 0,
@@ -212,6 +226,8 @@ const ROWS: [Row; 7] = [
         admin: None,
         admin_token: None,
         admin_bind: None,
+        password_file: None,
+        unprotected: false,
         drain: 10,
         log_level: LogLevel::Info,
         max_memory: 0,
@@ -263,6 +279,14 @@ fn has_admin(given: &AdminSettings, row: &Row) -> bool {
     token && given.address == row.admin.map(address_of) && given.bind == row.admin_bind.map(ip_of)
 }
 
+fn has_protection(given: &Protection, row: &Row) -> bool {
+    let file = match &given.password_file {
+        Some(file) => row.password_file == Some(file.as_str()),
+        None => row.password_file.is_none(),
+    };
+    file && given.unprotected == row.unprotected
+}
+
 fn is_row(settings: &SiteSettings, row: &Row) -> bool {
     let bind = row.bind;
     settings.site.value() == row.site
@@ -275,6 +299,7 @@ fn is_row(settings: &SiteSettings, row: &Row) -> bool {
         && settings.alone.value() == row.alone
         && settings.accept == row.accept
         && has_admin(&settings.admin, row)
+        && has_protection(&settings.protection, row)
         && settings.drain.value() == row.drain
         && settings.log_level == row.log_level
         && settings.max_memory.value() == row.max_memory
@@ -294,7 +319,7 @@ fn each_text_has_its_site(rt: HostRuntime) -> Result<(), Fail> {
 #[test]
 fn a_site_may_have_the_keys_of_several(rt: HostRuntime) -> Result<(), Fail> {
     let text =
-        "site = 7\nport = 7001\nlisten = \"[::1]:7101\"\nbind = \"::\"\nworkers = 64\nconnections = 1\nclients = 7\ntimeout = 8\nwrite_timeout = 9\noutput = 2000000\nseed = 0\nrule = \"LOW\"";
+        "site = 7\nport = 7001\nlisten = \"[::1]:7101\"\nbind = \"::\"\npassword_file = \"/etc/zqueue/site.password\"\nunprotected = false\nworkers = 64\nconnections = 1\nclients = 7\ntimeout = 8\nwrite_timeout = 9\noutput = 2000000\nseed = 0\nrule = \"LOW\"";
     let given = site_settings(rt.alloc(), text)?;
     assert_eq!(rt; given.listen.port(), 7101);
     assert!(rt; given.listen.ip() == IpAddr::V6(Ipv6Addr::LOCALHOST));

@@ -10,7 +10,7 @@ returns-then-not-client g c =
     let place = c.args.place in
     let there : slice_get clients place ≡ Some (Some c.in-Some.client) =
     slice_get-get_or clients place c.index-clients-place.result (omega (arith, c.if-place-clients.false)) ∙ ap Some c.in-Some.is in
-    rests-set clients place c.in-Some.client _ there (record { socket = c.finish.ensures.socket; connection = c.finish.ensures.connection })
+    rests-set clients place c.in-Some.client _ there (record { socket = c.finish.ensures.socket; connection = c.finish.ensures.connection; own = c.finish.ensures.own })
 
 pub returns-else-not-client : goal.returns-else-not-client
 returns-else-not-client g c =
@@ -18,4 +18,4 @@ returns-else-not-client g c =
     let place = c.args.place in
     let there : slice_get clients place ≡ Some (Some c.in-Some.client) =
     slice_get-get_or clients place c.index-clients-place.result (omega (arith, c.if-place-clients.false)) ∙ ap Some c.in-Some.is in
-    rests-set clients place c.in-Some.client _ there (record { socket = c.finish.ensures.socket; connection = c.finish.ensures.connection })
+    rests-set clients place c.in-Some.client _ there (record { socket = c.finish.ensures.socket; connection = c.finish.ensures.connection; own = c.finish.ensures.own })

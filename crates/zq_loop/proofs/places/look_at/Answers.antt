@@ -10,4 +10,4 @@ returns-in-Some g c =
     let place = c.args.place in
     let there : slice_get clients place ≡ Some (Some c.in-Some.client) =
     slice_get-get_or clients place c.index-clients-place.result (omega (arith, c.if-place-clients.false)) ∙ ap Some c.in-Some.is in
-    rests-set clients place c.in-Some.client _ there (record { socket = refl; connection = refl })
+    rests-set clients place c.in-Some.client _ there (record { socket = refl; connection = refl; own = refl })

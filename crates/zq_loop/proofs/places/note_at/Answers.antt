@@ -10,7 +10,7 @@ returns-then-is_due g c =
     let place = c.args.place in
     let there : slice_get clients place ≡ Some (Some c.in-Some.client) =
     slice_get-get_or clients place c.index-clients-place.result (omega (arith, c.if-place-clients.false)) ∙ ap Some c.in-Some.is in
-    rests-set clients place c.in-Some.client _ there (record { socket = c.note.ensures.socket; connection = c.note.ensures.connection })
+    rests-set clients place c.in-Some.client _ there (record { socket = c.note.ensures.socket; connection = c.note.ensures.connection; own = c.note.ensures.own })
 
 pub returns-else-is_due : goal.returns-else-is_due
 returns-else-is_due g c =

@@ -10,4 +10,4 @@ returns g c =
     let place = c.args.place in
     let none : slice_get clients place ≡ Some None =
     slice_get-get_or clients place c.index-clients-place.result (omega (arith, c.if-place-clients.false)) ∙ ap Some c.in_default.is in
-    rests-put clients place _ none c.requires
+    rests-put clients place _ none c.requires.connection c.requires.own

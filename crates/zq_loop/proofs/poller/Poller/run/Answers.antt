@@ -8,8 +8,8 @@ use Rattle.zq_session.specs.Steps.{Does}
 pub returns-in-Some : goal.returns-in-Some
 returns-in-Some g c =
     let does : Does TcpStream = λ _ _ _. Unit {0} in
-    let others = g.A.Answers.others in
-    let answers = g.A.Answers.answers in
-    let last = moment c.run.new.answerer c.run.new.self.clients.items in
-    let lives = subst (λ l. Lives does others answers (moment c.args.answerer.now l) last) c.new.ensures c.run.ensures in
-    (lives-served does others answers (moment c.args.answerer.now []) last lives (served-none does others answers c.args.answerer.now)).1
+    let others = g.A.Attends.others in
+    let answers = g.A.Attends.answers in
+    let last = moment c.run.new.attending.answerer c.run.new.self.clients.items in
+    let lives = subst (λ l. Lives does others answers (moment c.args.attending.now.answerer l) last) c.new.ensures c.run.ensures in
+    (lives-served does others answers (moment c.args.attending.now.answerer []) last lives (served-none does others answers c.args.attending.now.answerer)).1

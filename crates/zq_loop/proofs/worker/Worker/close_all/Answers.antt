@@ -13,7 +13,7 @@ loop-place-preserved g c =
     let old = c.loop-place.self.clients.items in
     let at = c.loop-place.place in
     let gone = c.remove.ensures.gone in
-    let none = subst (λ (items : List (Option (Client TcpStream))). (k : ℕ) → k < at + 1 → (client : Client TcpStream) → IsAt items k client → ⊥) (sym gone) (cleared-more old at c.loop-place.invariant.2) in
+    let none = subst (λ (items : List (Option (Client TcpStream g.row.C.Denot))). (k : ℕ) → k < at + 1 → (client : Client TcpStream g.row.C.Denot) → IsAt items k client → ⊥) (sym gone) (cleared-more old at c.loop-place.invariant.2) in
     (rests-join _ _ _ c.loop-place.invariant.0 c.remove.ensures.rests, ap length gone ∙ (length-set old at None ∙ c.loop-place.invariant.1), none)
 
 pub returns-clause-none : goal.returns-clause-none

@@ -9,4 +9,4 @@ use Rattle.zq_loop.specs.declared.client.Client.{Client}
 abbrev pub invariant-loop-place : goal.invariant-loop-place
 invariant-loop-place g l = Rests l.initial.self.clients.items l.self.clients.items
     × (length l.self.clients.items ≡ length l.initial.self.clients.items)
-    × ((k : ℕ) → k < l.place → (client : Client TcpStream) → IsAt l.self.clients.items k client → ⊥)
+    × ((k : ℕ) → k < l.place → (client : Client TcpStream g.row.C.Denot) → IsAt l.self.clients.items k client → ⊥)

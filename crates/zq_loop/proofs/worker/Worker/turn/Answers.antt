@@ -6,6 +6,6 @@ use Rattle.zq_session.specs.Steps.{Does}
 pub returns-clause-lives : goal.returns-clause-lives
 returns-clause-lives g c =
     let does : Does TcpStream = λ _ _ _. Unit {0} in
-    let others = g.A.Answers.others in
-    let answers = g.A.Answers.answers in
-    lives-join does others answers _ _ _ (lives-turn does others answers _ _ c.turn_of.ensures) (lives-rest does others answers c.turn_of.new.answerer _ _ c.look_after_all.ensures)
+    let others = g.A.Attends.others in
+    let answers = g.A.Attends.answers in
+    lives-join does others answers _ _ _ (lives-turn does others answers _ _ c.turn_of.ensures) (lives-rest does others answers c.turn_of.new.attending.answerer _ _ c.look_after_all.ensures)

@@ -1,0 +1,3 @@
+mod FirstOptions
+mod Knowing
+pub mod Strangers

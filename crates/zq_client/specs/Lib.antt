@@ -1,0 +1,14 @@
+pub mod Clients
+pub mod Texts
+pub mod Names
+pub mod Outcomes
+pub mod Auth
+pub mod Digests
+pub mod Options
+pub mod OptionsRead
+pub mod Hello
+pub mod Asked
+pub mod Config
+pub mod Info
+pub mod Answered
+pub mod Laws
