@@ -1,7 +1,6 @@
 //! Sites and their passes.
 
 mod asking;
-mod calls;
 mod commands;
 mod crowd;
 mod cutting;

@@ -15,7 +15,7 @@ use zq_words::Command;
 pub type Line = (&'static str, (u64, u64), &'static str);
 
 /// The request of a line's words.
-pub fn request(alloc: Global, line: &str) -> Option<Request> {
+fn request(alloc: Global, line: &str) -> Option<Request> {
     let count = line.split(' ').count();
     let mut text = format!(in alloc; "*{count}\r\n").ok()?;
     for word in line.split(' ') {
@@ -28,7 +28,7 @@ pub fn request(alloc: Global, line: &str) -> Option<Request> {
 }
 
 /// The bytes of a reply.
-pub fn bytes_of(alloc: Global, reply: &Reply) -> Option<Vec<u8>>
+fn bytes_of(alloc: Global, reply: &Reply) -> Option<Vec<u8>>
     requires { IsTrue (is_writable reply.now) }
 {
     let mut bytes = Vec::new(alloc);
