@@ -1,4 +1,6 @@
 mod Crossing
 mod Hearing
 mod Planned
+mod Rereading
 mod RunLaws
+mod WriterCrossing

@@ -1,5 +1,6 @@
 pub mod Pause
 pub mod Times
+pub mod Disk
 pub mod Draining
 pub mod LinkStates
 pub mod Meetings

@@ -4,9 +4,14 @@ ghost use Rattle.std.specs.Prelude.{◌≡◌};
 ghost use Rattle.zq_node.specs.Node.{IsNode, IsSameHome};
 ghost use Rattle.zq_site.specs.Draining as wanted;
 
+use crate::disk_writer::DiskWriter;
+use crate::keeping::keep_calls;
 use crate::shared::Shared;
 use crate::times::gathering;
 use crate::walking::{Walk, go_on};
+use log::Log;
+use std::fs::File;
+use std::rt::Files;
 use std::sync::Wait;
 use std::time::Clock;
 use zq_dots::SiteNo;
@@ -16,23 +21,37 @@ use zq_peers::{Inbox, Incoming};
 use zq_posheap::Seeded;
 use zq_replica::Drained;
 use zq_serve::NodeWork;
+use zq_wal_file::FileDisk;
 
 /// How many operations may be made that are not in the logs yet, before calls wait.
 const MOST_LEFT: u64 = 65_536;
 
 /// Taking what the calls of a site's clients make, and what its link thread hears, into the logs of
-/// its heaps.
+/// its heaps, and onto the disk where the site keeps a log there.
 #[derive(Drop)]
-pub struct Draining<'a, L: Clock + Wait> {
-    pub log: &'a L,
-    pub shared: Shared<'a>,
+pub(crate) struct Draining<'a, 'd, L: Log + Clock + Wait, N: Files<File = File>> {
+    pub(crate) log: &'a L,
+    pub(crate) shared: Shared<'a>,
     /// By what the members lie that a walk over the keys looks at.
-    pub hasher: Seeded,
+    pub(crate) hasher: Seeded,
+    /// What writes the log on disk, where there is one.
+    pub(crate) writer: Option<DiskWriter<FileDisk<&'d N>>>,
 }
 
-impl<L: Clock + Wait> NodeWork for Draining<'_, L> {
+impl<L: Log + Clock + Wait, N: Files<File = File>> NodeWork for Draining<'_, '_, L, N> {
     fn run(self, node: &mut Node<'_>, _others: &[SiteNo]) {
-        drain_calls(self.log, self.shared, node, self.hasher);
+        let Draining {
+            log,
+            shared,
+            hasher,
+            writer,
+        } = self;
+        if let (Some(durable), Some(writer)) = (shared.durable, writer) {
+            let mut writer = writer;
+            keep_calls(log, shared, durable, node, hasher, &mut writer);
+        } else {
+            drain_calls(log, shared, node, hasher);
+        }
     }
 }
 
@@ -97,7 +116,11 @@ fn drain_pieces<L: Wait>(rt: &L, shared: Shared<'_>, node: &mut Node<'_>)
 
 /// Takes a piece of what each heap has made into its log, and tells the link thread where there was
 /// something. It says how many operations are left.
-fn drain_round<L: Wait>(rt: &L, shared: Shared<'_>, node: &mut Node<'_>) -> Result<u64, NodeFault>
+pub(crate) fn drain_round<L: Wait>(
+    rt: &L,
+    shared: Shared<'_>,
+    node: &mut Node<'_>,
+) -> Result<u64, NodeFault>
     requires { IsNode node.old }
     ensures node { IsNode node.new }
     ensures home { IsSameHome node.old node.new }
@@ -142,7 +165,7 @@ fn drain_heap<L: Wait>(
 }
 
 /// Whether calls have to wait where so many operations are not in the logs yet.
-fn is_much(left: u64) -> bool
+pub(crate) fn is_much(left: u64) -> bool
     ensures { result ≡ wanted.is_much left }
 {
     left > MOST_LEFT

@@ -29,12 +29,6 @@ const SPOKEN: Versions = Versions {
     highest: STREAMING,
 };
 
-/// The number of the start of a site that keeps nothing over it.
-const START: u64 = 1;
-
-/// The most heaps of a site.
-const MOST_HEAPS: usize = 16;
-
 /// How a stream came to be.
 #[derive(Clone, Copy, Debug, PartialEq, Eq)]
 pub enum Way {
@@ -97,10 +91,7 @@ pub fn open_link<R: RandomSource + Clock + Wait>(
         Way::Dials(form) => form,
         Way::Accepts => Form::New,
     };
-    // A site that keeps nothing begins with no operation.
-    let counters = [0u64; MOST_HEAPS];
-    let heaps = shared.settings.heaps.value() as usize;
-    let side = side_of(shared, peers, secret, form, &counters[..heaps]);
+    let side = side_of(shared, peers, secret, form);
     let mut reader = Hasty::new(rt, shared, stream, times::opening())?;
     let mut writer = stream;
     let opened = match way {
@@ -115,14 +106,13 @@ pub fn open_link<R: RandomSource + Clock + Wait>(
     opened
 }
 
-/// This site as it opens a link to one of these peers, with this secret and nonce, greets in this
-/// form, and began with these counters.
+/// This site as it opens a link to one of these peers, with this secret and nonce, and greets in
+/// this form.
 fn side_of<'a>(
     shared: Shared<'a>,
     peers: &'a [SiteNo],
     secret: Option<Secret<'a>>,
     form: Form,
-    counters: &'a [u64],
 ) -> Side<'a>
     ensures site { result.site ≡ shared.entry.settings.now.site }
     ensures heaps { result.heaps ≡ shared.entry.settings.now.heaps }
@@ -131,7 +121,8 @@ fn side_of<'a>(
     ensures secret { result.secret ≡ secret.entry }
     ensures form { result.form ≡ form }
     ensures run { result.run ≡ shared.entry.run }
-    ensures counters { result.counters.now ≡ counters.now }
+    ensures start { result.start ≡ shared.entry.start }
+    ensures counters { result.counters.now ≡ shared.entry.counters.now }
 {
     Side {
         site: shared.settings.site,
@@ -142,8 +133,8 @@ fn side_of<'a>(
         versions: SPOKEN,
         form,
         run: shared.run,
-        start: START,
-        counters,
+        start: shared.start,
+        counters: shared.counters,
     }
 }
 

@@ -6,6 +6,7 @@ ghost use Rattle.zq_site.specs.Site.{acceptors_for};
 use crate::accepting::accept_peers;
 use crate::administering::{pass_on, serve_admin};
 use crate::dialing::dial_line;
+use crate::disk_writer::DiskWriter;
 use crate::draining::Draining;
 use crate::hired::hire_all;
 use crate::measuring::{measure_process, tick_links};
@@ -15,8 +16,10 @@ use crate::pushing::Pushing;
 use crate::shared::Shared;
 use crate::times::{beat, fencing};
 use log::Log;
+use std::fs::File;
 use std::net::{Net, TcpListener, TcpStream};
 use std::random::RandomSource;
+use std::rt::Files;
 use std::sync::Wait;
 use std::thread;
 use std::thread::Threads;
@@ -28,6 +31,7 @@ use zq_serve::{
     Cause, ClientThreads, Inboxes, Linker, Memory, MemoryGuard, ServeFault, SiteThreads,
     run_clients,
 };
+use zq_wal_file::FileDisk;
 
 /// How many threads accept peers at first.
 const FIRST_ACCEPTORS: usize = 1;
@@ -50,23 +54,26 @@ pub struct Seeds {
 /// to halt, and then the link thread to stop, and all are waited for.
 ///
 /// `Device` where a thread did not start. Then no client is served.
-pub fn run_site<N, L>(
+pub(crate) fn run_site<N, L>(
     net: &N,
     log: &L,
     shared: Shared<'_>,
     listener: &PeerListener,
     threads: SiteThreads<'_, '_>,
     drainers: Vec<Linker<'_, '_>>,
+    writer: Option<DiskWriter<FileDisk<&N>>>,
     admin: Option<AdminPort>,
     seeds: Seeds,
 ) -> Result<(), ServeFault>
 where
-    N: Net<Listener = TcpListener, Stream = TcpStream> + Memory + Sync,
+    N: Net<Listener = TcpListener, Stream = TcpStream> + Files<File = File> + Memory + Sync,
+    N::Dir: Send,
     L: Log + RandomSource + Clock + Threads + Wait + Sync,
 {
     let SiteThreads { clients, linkers } = threads;
     thread::scope(thread::scope_env(), log, move |scope| {
         let mut ended = Ok(());
+        let mut writer = writer;
         let port = first_port(&clients);
         for linker in linkers {
             let work = move || link_site(log, shared, linker, port, seeds.hasher);
@@ -75,7 +82,8 @@ where
             }
         }
         for drainer in drainers {
-            let work = move || drain_site(log, shared, drainer, seeds.hasher);
+            let writer = writer.take();
+            let work = move || drain_site(log, shared, drainer, seeds.hasher, writer);
             if scope.spawn(work).is_err() {
                 ended = Err(ServeFault::Device(Cause::Thread));
             }
@@ -132,6 +140,7 @@ where
                 shared.admission,
                 &shared.meters.counters,
                 shared.desk,
+                shared.durable,
             );
             ended = run_clients(log, shared.alloc, clients, inboxes, seeds.draws);
         }
@@ -179,17 +188,20 @@ fn link_site<L: Log + Clock + Wait>(
     }
 }
 
-/// Takes what calls make into the logs, until the site is to stop.
-fn drain_site<L: Clock + Wait>(
+/// Takes what calls make into the logs, and onto the disk by this writer, where the site keeps a
+/// log there, until the site is to stop.
+fn drain_site<L: Log + Clock + Wait, N: Files<File = File>>(
     log: &L,
     shared: Shared<'_>,
     drainer: Linker<'_, '_>,
     hasher: Seeded,
+    writer: Option<DiskWriter<FileDisk<&N>>>,
 ) {
     let draining = Draining {
         log,
         shared,
         hasher,
+        writer,
     };
     drainer.lend(shared.alloc, 0, draining);
 }
@@ -212,6 +224,9 @@ fn beat_time<M: Memory, L: Log + Wait + Clock>(
         }
         tick_links(shared);
         shared.post.beat(log);
+        if shared.durable.is_some() {
+            shared.mailbox.tick(log);
+        }
     }
 }
 

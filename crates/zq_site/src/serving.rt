@@ -12,25 +12,29 @@ ghost use Rattle.zq_site.specs.Site.{IsPlanOf, ended_by};
 
 use crate::administering::open_admin;
 use crate::announcing::announce;
+use crate::begun::{Begun, begin};
 use crate::ending::Ending;
 use crate::front::Front;
 use crate::halt::Halt;
 use crate::hiring::Hiring;
 use crate::meters::Meters;
-use crate::note::{Listening, Note};
-use crate::opening::draw_run;
+use crate::note::{Listening, LogRead, Note};
 use crate::peer_links::{dialers_of, open_peer_links, others_of};
 use crate::peer_listener::PeerListener;
 use crate::post::Post;
 use crate::profile::desk_of;
+use crate::report::RunName;
+use crate::restoring::Restoring;
 use crate::running::{Seeds, acceptors, run_site};
 use crate::shared::Shared;
 use crate::warning_log::note_of;
 use log::Log;
 use std::alloc::{AllocError, Global};
+use std::fs::File;
 use std::io::Write;
 use std::net::{Net, SocketAddr, TcpListener, TcpStream};
 use std::random::RandomSource;
+use std::rt::Files;
 use std::sync::Wait;
 use std::thread::{Threads, available_parallelism};
 use std::time::Clock;
@@ -40,11 +44,12 @@ use zq_peers::{Link, Mailbox};
 use zq_posheap::Seeded;
 use zq_replica::Logs;
 use zq_serve::{
-    Admission, Gate, Linker, Memory, ServeFault, SiteThreads, draw_hasher, guarded, limits_of,
-    listen, most_clients, most_waiting, open_port, plan_of, warn_few,
+    Admission, Commits, Durable, Gate, Linker, Memory, ServeFault, SiteThreads, draw_hasher, guarded,
+    limits_of, listen, most_clients, most_waiting, open_port, plan_of, warn_few,
 };
-use zq_session::{LentSite, close_sites, end_loan, lend_sites, open_sites};
-use zq_settings::{SiteSettings, WorkerCount};
+use zq_session::{LentSite, SitePass, close_sites, end_loan, lend_sites, open_sites};
+use zq_settings::{SiteSettings, SyncMode, WorkerCount};
+use zq_shard::Shard;
 
 // At most so many workers are taken where the settings do not say how many.
 const MOST_WORKERS: usize = 4;
@@ -88,6 +93,11 @@ const ADMIN_CONNECTIONS: u64 = 36;
 /// no connection any more, answers what was read, waits until its peers have what it made, for as
 /// many seconds as `drain` says, and ends.
 ///
+/// Where the settings have a folder the site keeps a log there, and begins with what it had. Nothing
+/// that tells of an operation leaves the process before that is on the disk: no frame, and no reply
+/// either unless the settings say so. Where the disk fails nothing leaves it any more, `ending` tells
+/// who waits for the site at once, and this call may not return.
+///
 /// What goes wrong at a connection, with a peer or on a link ends that alone, and is warned of in
 /// the log. The log's own handle does not connect within a time, so the net is passed beside it.
 ///
@@ -105,7 +115,8 @@ pub fn serve_site<N, L, W>(
     ending: &Ending,
 ) -> Result<(), ServeFault>
 where
-    N: Net<Listener = TcpListener, Stream = TcpStream> + Memory + Sync,
+    N: Net<Listener = TcpListener, Stream = TcpStream> + Files<File = File> + Memory + Sync,
+    N::Dir: Send,
     L: Log + RandomSource + Clock + Threads + Wait + Sync,
     W: Write,
 {
@@ -147,7 +158,8 @@ fn serve_lent<'a, N, L, W>(
     sites: &mut [LentSite<'a>],
 ) -> Result<(), ServeFault>
 where
-    N: Net<Listener = TcpListener, Stream = TcpStream> + Memory + Sync,
+    N: Net<Listener = TcpListener, Stream = TcpStream> + Files<File = File> + Memory + Sync,
+    N::Dir: Send,
     L: Log + RandomSource + Clock + Threads + Wait + Sync,
     W: Write,
     requires { (plans : List Plans) × IsPlanOf settings.now workers plans
@@ -175,11 +187,29 @@ fn serve_one<'a, N, L, W>(
     site: &mut LentSite<'a>,
 ) -> Result<(), ServeFault>
 where
-    N: Net<Listener = TcpListener, Stream = TcpStream> + Memory + Sync,
+    N: Net<Listener = TcpListener, Stream = TcpStream> + Files<File = File> + Memory + Sync,
+    N::Dir: Send,
     L: Log + RandomSource + Clock + Threads + Wait + Sync,
     W: Write,
     requires { IsManned workers site.old }
 {
+    let logs = open_logs(alloc, settings)?;
+    let Begun {
+        run,
+        start,
+        counters,
+        shards,
+        writer,
+    } = begin(net, log, &logs, alloc, settings, hasher)?;
+    if let Some(writer) = &writer {
+        let (folder, bytes) = (RunName(run), writer.keeper.size().log);
+        let read = LogRead {
+            folder,
+            start,
+            bytes,
+        };
+        note_of(log, settings.site, Note::LogRead(read));
+    }
     let listener = PeerListener::new(listen(net, settings.listen)?);
     let others = others_of(alloc, settings)?;
     let most = most_clients(1, workers, links_of(settings, others.len()));
@@ -190,17 +220,17 @@ where
     let link = Link { others, hasher };
     let mut threads = SiteThreads::new(alloc);
     let other = threads.add(site, &mut port, &link)?;
+    restore(log, alloc, &logs, other, &link, shards)?;
     let mut drainers = Vec::new(alloc);
     let drainer = Linker::new(other, &link);
     drainers.push(drainer).map_err(AllocError::from)?;
-    let logs = open_logs(alloc, settings)?;
     let heaps = settings.heaps.value() as u8;
     let peer_links = open_peer_links(alloc, &link.others, heaps)?;
     let dialers = dialers_of(alloc, settings.site, &link.others)?;
     let mailbox = open_mailbox(alloc, settings)?;
     let gate = Gate::new();
     let post = Post::new(alloc);
-    let run = draw_run(log)?;
+    let commits = Commits::new();
     let admin = open_admin(net, log, alloc, settings.admin.heard_at())?;
     announce(settings, out)?;
     note_of(log, settings.site, Note::Listening(listening_of(settings)));
@@ -210,13 +240,15 @@ where
     let front = Front::new();
     let meters = open_meters(alloc, settings, workers)?;
     let hiring = Hiring::new(alloc, acceptors(dialers.len()));
-    let waits = settings.alone.value() > 0 && !link.others.is_empty();
+    let waits = waits_for_peers(settings, link.others.len());
     let admission = Admission::new(settings.site, waits);
     let desk = desk_of(log, settings, password);
     let shared = Shared {
         alloc,
         settings,
         run,
+        start,
+        counters: &counters,
         peer_links: &peer_links,
         dialers: &dialers,
         admission: &admission,
@@ -225,6 +257,7 @@ where
         mailbox: &mailbox,
         logs: &logs,
         gate: &gate,
+        durable: durable_of(settings, &commits, &mailbox),
         post: &post,
         halt: &halt,
         ending,
@@ -235,9 +268,51 @@ where
         hasher,
         draws: settings.seed.value(),
     };
-    let ended = run_site(net, log, shared, &listener, threads, drainers, admin, seeds);
+    let ended = run_site(
+        net, log, shared, &listener, threads, drainers, writer, admin, seeds,
+    );
     note_of(log, settings.site, Note::Stopped);
     ended_by(admission.is_fenced(), ended)
+}
+
+/// Gives the site the heaps that it had, by this pass of it, before anybody calls it.
+fn restore<'a, L: Wait>(
+    log: &L,
+    alloc: Global,
+    logs: &Logs,
+    pass: &mut Option<SitePass<'a>>,
+    link: &Link,
+    shards: Vec<Shard>,
+) -> Result<(), ServeFault> {
+    let mut done = Ok(());
+    let restoring = Restoring {
+        rt: log,
+        logs,
+        shards,
+        done: &mut done,
+    };
+    Linker::new(pass, link).lend(alloc, 0, restoring);
+    done
+}
+
+/// Whether the site of these settings, where so many sites may have a link to it, waits for its peers
+/// before it takes writes. One that keeps a log knows what it has made.
+fn waits_for_peers(settings: &SiteSettings, others: usize) -> bool {
+    settings.disk.path.is_none() && settings.alone.value() > 0 && others > 0
+}
+
+/// What stands before what leaves the site of these settings, where it keeps a log.
+fn durable_of<'a>(
+    settings: &SiteSettings,
+    commits: &'a Commits,
+    mailbox: &'a Mailbox,
+) -> Option<Durable<'a>> {
+    settings.disk.path.as_ref()?;
+    Some(Durable {
+        commits,
+        mailbox,
+        replies_wait: settings.disk.sync == SyncMode::Always,
+    })
 }
 
 /// How a site ends whose threads ended so, and whose number another run may have used.
@@ -315,7 +390,10 @@ fn clients_address(settings: &SiteSettings) -> SocketAddr
 fn open_logs(alloc: Global, settings: &SiteSettings) -> Result<Logs, AllocError> {
     let heaps = settings.heaps.value() as u8;
     let most = settings.link_backlog.value() as u64 / u64::from(heaps.max(1));
-    Logs::new(alloc, heaps, most)
+    match &settings.disk.path {
+        Some(_) => Logs::kept(alloc, heaps, most),
+        None => Logs::new(alloc, heaps, most),
+    }
 }
 
 /// Where it is noted what is shown of the site.

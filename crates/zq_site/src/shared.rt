@@ -12,7 +12,7 @@ use std::sync::Wait;
 use zq_dots::SiteNo;
 use zq_peers::Mailbox;
 use zq_replica::Logs;
-use zq_serve::{Admission, Desk, Gate};
+use zq_serve::{Admission, Desk, Durable, Gate};
 use zq_settings::SiteSettings;
 use zq_wire::RUN;
 
@@ -21,8 +21,12 @@ use zq_wire::RUN;
 pub struct Shared<'a> {
     pub alloc: Global,
     pub settings: &'a SiteSettings,
-    /// What names this run of the site.
+    /// What names this run of the site: where it keeps a log, its folder.
     pub run: [u8; RUN],
+    /// Which start of the run this is.
+    pub start: u64,
+    /// Of each heap how many operations the site had made before it started.
+    pub counters: &'a [u64],
     pub peer_links: &'a [PeerLink],
     /// The sites that may dial this one.
     pub dialers: &'a [SiteNo],
@@ -38,6 +42,8 @@ pub struct Shared<'a> {
     pub logs: &'a Logs,
     /// Where calls wait while the logs lack too much of what was made.
     pub gate: &'a Gate,
+    /// What stands before what leaves the site, where it keeps a log.
+    pub durable: Option<Durable<'a>>,
     /// Where the link thread is told what to do.
     pub post: &'a Post,
     pub halt: &'a Halt,
