@@ -9,9 +9,8 @@ ghost use Rattle.zq_words.specs.Calls.{IsCallWithinLimits, call_shown};
 ghost use Rattle.zq_words.specs.Words.{views};
 
 use crate::further::{Further, find_further};
-use crate::texts::{parse_bound, parse_whole};
 use zq_resp::Request;
-use zq_words::{Range, Refused, SiteCall};
+use zq_words::{Range, Refused, SiteCall, parse_bound, parse_whole};
 
 /// What a further request asks, and `None` for a request of another name: ZMSCORE, EXISTS, TYPE,
 /// ZPOPMAX, ZREMRANGEBYSCORE and ZREMRANGEBYRANK. It takes no memory, and copies nothing.

@@ -4,7 +4,7 @@ ghost use Rattle.std.specs.Prelude.{◌≡◌};
 ghost use Rattle.zq_dialect.specs.Said.{asked_ends};
 ghost use Rattle.zq_words.specs.Words.{views};
 
-use crate::word::has_word;
+use zq_words::has_word;
 
 /// What the two ends of a range are.
 #[derive(Clone, Copy, Debug)]

@@ -6,7 +6,7 @@ ghost use Rattle.zq_dialect.specs.Said.{before_scores};
 ghost use Rattle.zq_words.specs.Command.{is_flag};
 ghost use Rattle.zq_words.specs.Words.{views};
 
-use crate::word::is_word;
+use zq_words::is_word;
 
 /// How many words stand before ZADD's first score: the key, and flags.
 pub fn count_before_scores(words: &[Vec<u8>]) -> usize

@@ -3,7 +3,7 @@
 ghost use Rattle.std.specs.Prelude.{◌≡◌};
 ghost use Rattle.zq_dialect.specs.Further.{further_of};
 
-use crate::word::is_word;
+use zq_words::is_word;
 
 #[derive(Clone, Copy, Debug)]
 pub enum Further {

@@ -20,8 +20,6 @@ mod plain;
 mod rewriting;
 mod rounded;
 mod scores;
-mod texts;
-mod word;
 
 pub use asking::read_call;
 pub use laws::{bounds_take_the_same, further_requests, older_names, other_names, values_stay};

@@ -4,7 +4,7 @@ ghost use Rattle.std.specs.Prelude.{◌≡◌};
 ghost use Rattle.zq_dialect.specs.Names.{name_of};
 
 use crate::ends::Ends;
-use crate::word::is_word;
+use zq_words::is_word;
 
 #[derive(Clone, Copy, Debug)]
 pub enum Name {

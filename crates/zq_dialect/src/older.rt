@@ -8,9 +8,8 @@ ghost use Rattle.zq_words.specs.Words.{views};
 
 use crate::building::{Words, push_end, push_options, push_word, push_words};
 use crate::ends::Ends;
-use crate::word::is_word;
 use std::alloc::{AllocError, Global};
-use zq_words::Refused;
+use zq_words::{Refused, is_word};
 
 /// Behind an older name stand at most so many options: with what it stands for they make a request
 /// of at most 65,536 words.

@@ -21,13 +21,15 @@ mod word;
 mod zadd;
 mod zrange;
 
-pub use bound::{Bound, Limit};
+pub use bound::{Bound, Limit, parse_bound};
 pub use command::Command;
 pub use flags::Flags;
 pub use heaps::Heaps;
 pub use kind::Kind;
+pub use number::parse_whole;
 pub use pair::Pair;
 pub use pairs::Pairs;
 pub use range::{Range, Window};
 pub use refused::Refused;
 pub use site_call::SiteCall;
+pub use word::{has_word, is_word};
