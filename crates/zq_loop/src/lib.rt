@@ -11,6 +11,7 @@ mod accepting;
 mod along;
 mod attending;
 mod client;
+mod closing;
 mod counts;
 mod ending;
 mod inbox;
@@ -21,6 +22,7 @@ mod poller;
 mod port;
 mod socket;
 mod standing;
+mod taking_in;
 #[cfg(test)]
 mod tests;
 mod turns;

@@ -1,6 +1,6 @@
 //! How long a connection has been a stranger, and what it brought as one.
 
-ghost use Rattle.std.specs.Prelude.{◌<◌, ◌≡◌, IsSome, IsTrue, is_some, ◌↔◌};
+ghost use Rattle.std.specs.Prelude.{◌+◌, ◌-◌, ◌^◌, ◌<◌, ◌≡◌, ◌↔◌, IsSome, IsTrue, if◌then◌else◌, is_some, min};
 ghost use Rattle.zq_loop.specs.Standing.{IsLate, begun, noted};
 
 /// For so many seconds at most a connection is a stranger.
@@ -29,16 +29,18 @@ impl Standing {
         }
     }
 
-    /// It brought so many bytes more.
+    /// It brought so many bytes more. What is counted ends at the last `usize`.
     pub fn bring(&mut self, count: usize)
-        ensures { self.new.since ≡ self.old.since }
+        ensures since { self.new.since ≡ self.old.since }
+        ensures brought { self.new.brought ≡ min (self.old.brought + count) (2 ^ 64 - 1) }
     {
         self.brought = self.brought.saturating_add(count);
     }
 
     /// Whether it is a stranger now. Where it is not, all that it brought is forgotten.
     pub fn note(&mut self, is_stranger: bool, now: u64)
-        ensures { self.new.since ≡ noted is_stranger now self.old.since }
+        ensures since { self.new.since ≡ noted is_stranger now self.old.since }
+        ensures brought { self.new.brought ≡ (if is_stranger then self.old.brought else 0) }
     {
         if !is_stranger {
             self.since = None;
