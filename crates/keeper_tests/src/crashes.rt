@@ -193,6 +193,11 @@ fn a_switch_with_operations_between_its_steps_is_read_again(rt: HostRuntime) -> 
 }
 
 #[test]
+fn a_next_file_that_is_flushed_on_its_way_is_read_again(rt: HostRuntime) -> Result<(), Fail> {
+    check_script(&rt, rt.alloc(), "b12rsfx1rfx3rfxffxxxx4r")
+}
+
+#[test]
 fn heaps_that_jumped_are_read_again(rt: HostRuntime) -> Result<(), Fail> {
     for script in JUMPS.lines() {
         check_script(&rt, rt.alloc(), script)?;

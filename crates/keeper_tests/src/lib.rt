@@ -5,6 +5,8 @@
 #[cfg(test)]
 mod crashes;
 #[cfg(test)]
+mod flushing;
+#[cfg(test)]
 mod live;
 #[cfg(test)]
 mod playing;

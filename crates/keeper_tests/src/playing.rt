@@ -117,8 +117,8 @@ fn is_ahead<D: Disk>(keeper: &Keeper<D>, batch: &Batch) -> bool {
 }
 
 /// Makes a step of a script: `b` begins, `r` writes a round, `t` rests, `s` begins a switch, `x` goes
-/// on with it, `p` publishes, `j` and `k` are members at which another site puts, and any other one
-/// is a member at which this one does.
+/// on with it, `f` flushes the next file, `p` publishes, `j` and `k` are members at which another
+/// site puts, and any other one is a member at which this one does.
 pub(crate) fn step<D: Disk>(
     alloc: Global,
     keeper: &mut Keeper<D>,
@@ -138,6 +138,7 @@ pub(crate) fn step<D: Disk>(
             Ok(keeper.begin_switch(alloc))
         }
         b'x' => go_on(alloc, keeper, live),
+        b'f' => Ok(keeper.flush()),
         b'p' => Ok(keeper.publish(alloc)),
         b'j' | b'k' => {
             live.jump(alloc, word, score)?;

@@ -14,6 +14,9 @@ s | Refused(NoStart) | b1r
 bb | Refused(OldStart) | 1r
 br | Refused(Entry(Field(1))) | 1r
 bp | NoSwitch | 1r
+f | Refused(NoStart) | b1r
+b1rf | NoSwitch | 1r
+b1rsxxxxxxf | NoSwitch | 1r
 b13rsx1x | Refused(Piece(WrongVector)) | r
 b1rsp | Refused(NotWhole) | xxxxxxxx1r
 b1rsxp | Refused(NotWhole) | xxxxxxxx1r";

@@ -67,8 +67,8 @@ fn each_start_reads_what_was_committed(rt: HostRuntime) -> Result<(), Fail> {
     fs::write(&rt, "committed/log.next", b"left over".as_slice())?;
     let rows = [
         ("cone ctwo", ""),
-        ("b nthree nfour p cfive", "one,two,"),
-        ("b nlost", "three,four,five,"),
+        ("b nthree f nfour f p cfive", "one,two,"),
+        ("b nlost f", "three,four,five,"),
         ("asix s", "three,four,five,"),
         ("b p", "three,four,five,six,"),
         ("", ""),
@@ -76,7 +76,7 @@ fn each_start_reads_what_was_committed(rt: HostRuntime) -> Result<(), Fail> {
     for (script, expected) in rows {
         let read = start(&rt, folder, script)?;
         assert!(rt; read.as_slice() == expected.as_bytes());
-        assert!(rt; fs::exists(&rt, "committed/log.next")? == (script == "b nlost"));
+        assert!(rt; fs::exists(&rt, "committed/log.next")? == (script == "b nlost f"));
     }
     Ok(())
 }

@@ -26,6 +26,7 @@ fn step<D: Disk>(alloc: Global, log: &mut Wal<D>, word: &[u8]) -> bool
         b'a' => log.add(alloc, body).is_ok(),
         b's' => log.sync().is_ok(),
         b'b' => log.begin_next().is_ok(),
+        b'f' => log.sync_next().is_ok(),
         b'n' if switching => log.add_next(alloc, body).is_ok(),
         b'p' if switching => log.publish_next().is_ok(),
         _ => false,
@@ -131,6 +132,47 @@ fn what_power_leaves_is_read_as_told(rt: HostRuntime) -> Result<(), Fail> {
         let left = left_of(rt.alloc(), &row)?;
         let read = told(rt.alloc(), &left, 100)?;
         assert!(rt; read.as_slice() == row.told.as_bytes(), "{line}");
+    }
+    Ok(())
+}
+
+/// Scripts with `f`, which syncs the next file, how many calls of the disk are done, and what power
+/// leaves: of the log, and of the next file, where nothing stays of either that is not synced.
+const SYNCED: [(&str, u64, &str, &str); 9] = [
+    ("cone b nthree", 99, "one,", ""),
+    ("cone b nthree f", 99, "one,", "three,"),
+    ("cone b nthree f nfour", 99, "one,", "three,"),
+    ("cone b nthree f nfour f", 99, "one,", "three,four,"),
+    ("cone b nthree atwo f s", 99, "one,two,", "three,"),
+    ("cone b nthree f b", 99, "one,", ""),
+    // No next file is begun.
+    ("cone f ctwo", 99, "one,two,", ""),
+    (
+        "cone b nthree f nfour p cfive",
+        99,
+        "three,four,five,",
+        "three,four,",
+    ),
+    // The sync fails.
+    ("cone b nthree f nfour p cfive", 6, "one,", ""),
+];
+
+#[test]
+fn what_is_synced_of_the_next_file_is_there_and_the_log_is_as_it_was(
+    rt: HostRuntime,
+) -> Result<(), Fail> {
+    let alloc = rt.alloc();
+    for (script, calls, log, next) in SYNCED {
+        let disk = played(alloc, &[], calls, script)?;
+        let (left, staged) = (disk.crash(None, &[])?, disk.next.torn(alloc, &[])?);
+        assert!(rt;
+            told(alloc, &left, 100)?.as_slice() == log.as_bytes(),
+            "{script}"
+        );
+        assert!(rt;
+            told(alloc, &staged, 100)?.as_slice() == next.as_bytes(),
+            "{script}"
+        );
     }
     Ok(())
 }

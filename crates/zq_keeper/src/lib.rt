@@ -9,6 +9,7 @@
 //! | `rest` | one Rest, committed, where something came since the last one | damage of all before it is told |
 //! | `begin_switch` | a Start in a next file | a switch is going on |
 //! | `piece`, `seal` | one piece of a heap, or that all of them are there, in the next file | one step of the switch is done |
+//! | `flush` | nothing | what is written of the next file is on the disk |
 //! | `publish` | nothing | the next file is the log |
 //!
 //! A keeper holds an outline of each heap, as the log has it: what is said of it but for its

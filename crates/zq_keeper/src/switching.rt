@@ -1,6 +1,6 @@
 //! How the next file is written, a step at a time.
 
-ghost use Rattle.std.specs.Prelude.{IfErr, IfOk, OnOk, Some, false, slice_get, slice_set, true, ◌≡◌};
+ghost use Rattle.std.specs.Prelude.{IfErr, IfOk, IsSome, OnOk, Some, false, slice_get, slice_set, true, ◌≡◌};
 ghost use Rattle.zq_entries.specs.Entry.{IsSealed, OfPiece, OfSealed};
 ghost use Rattle.zq_keeper.specs.Keeper.{GoesOn, IsSameSite, Leaves, Stays, has_stayed};
 ghost use Rattle.zq_keeper.specs.Outline.{AreCounted};
@@ -9,7 +9,7 @@ ghost use Rattle.zq_keeper.specs.Read.{IsSpelled};
 ghost use Rattle.zq_keeper.specs.Switch.{Begun, IsPieced, IsSealedIn, IsSealing, IsStartEntry, Pieced, SealedIn};
 ghost use Rattle.zq_keeper.specs.declared.next.Part.TheVariants.{Coming};
 ghost use Rattle.zq_model.specs.Sets.{IsHeaps, covers};
-ghost use Rattle.zq_wal.specs.Disk.{LeavesOnly};
+ghost use Rattle.zq_wal.specs.Disk.{LeavesOnly, Only};
 ghost use Rattle.zq_wal.specs.Format.{recovered};
 
 use crate::entries::{piece_entry, sealed_entry, start_entry};
@@ -258,5 +258,35 @@ impl<D: Disk> Keeper<D> {
             Some(next) => after_seal(alloc, &self.identity, next, heap),
             None => Err(KeeperFault::NoSwitch),
         }
+    }
+
+    /// Brings what is written of the next file to the disk, so that less of it is left for
+    /// `publish`.
+    ///
+    /// `NoSwitch` where none is going on.
+    pub fn flush(&mut self) -> Result<(), KeeperFault>
+        requires { GoesOn D.seen D.staged D.may_leave self.old }
+        ensures keeper { GoesOn D.seen D.staged D.may_leave self.new }
+        ensures going { OnOk result (self.new.stopped ≡ false) }
+        ensures switching { OnOk result (IsSome self.old.next) }
+        ensures durable { OnOk result (Only (D.staged self.old.wal.disk)
+            (D.staged_may_leave self.new.wal.disk)) }
+        ensures next { OnOk result (self.new.next ≡ self.old.next) }
+        ensures heaps { OnOk result (self.new.heaps.items ≡ self.old.heaps.items) }
+        ensures seen { OnOk result (D.seen self.new.wal.disk ≡ D.seen self.old.wal.disk) }
+        ensures staged { OnOk result (D.staged self.new.wal.disk ≡ D.staged self.old.wal.disk) }
+        ensures same { IsSameSite self.old self.new }
+        ensures any_moment { self.old.stopped ≡ false →
+            LeavesOnly D.moment D.left_since self.old.wal.disk self.new.wal.disk
+            (Leaves self.old.identity self.old.heaps.items
+            (recovered (D.seen self.old.wal.disk)) (recovered (D.seen self.old.wal.disk))) }
+        ensures fault { IfErr result (Stays self.old self.new) }
+    {
+        self.stand();
+        self.started()?;
+        if self.next.is_none() {
+            return Err(KeeperFault::NoSwitch);
+        }
+        self.sync_next()
     }
 }

@@ -4,7 +4,7 @@ ghost use Rattle.std.specs.Prelude.{IfErr, IfOk, IsSome, None, OnErr, OnOk, Some
 ghost use Rattle.zq_keeper.specs.Keeper.{HasFailed, IsKeeper, IsSameSite, IsStartOf, IsStill, Leaves};
 ghost use Rattle.zq_keeper.specs.Outline.{AreAllWhole, AreCounted, Cover};
 ghost use Rattle.zq_keeper.specs.Read.{IsReadAs};
-ghost use Rattle.zq_wal.specs.Disk.{LeavesOnly};
+ghost use Rattle.zq_wal.specs.Disk.{LeavesOnly, Only};
 ghost use Rattle.zq_wal.specs.Format.{payload_over, recovered};
 
 use crate::fault::KeeperFault;
@@ -122,6 +122,31 @@ impl<D: Disk> Keeper<D> {
                 self.next = Some(share.next);
                 Ok(())
             }
+            Err(error) => {
+                self.stopped = true;
+                Err(KeeperFault::Failed(error))
+            }
+        }
+    }
+
+    /// Brings what is written of the next file to the disk.
+    pub(crate) fn sync_next(&mut self) -> Result<(), KeeperFault>
+        requires { IsKeeper D.seen D.staged D.may_leave self.old }
+        ensures keeper { OnOk result (IsKeeper D.seen D.staged D.may_leave self.new) }
+        ensures durable { OnOk result (Only (D.staged self.old.wal.disk)
+            (D.staged_may_leave self.new.wal.disk)) }
+        ensures seen { OnOk result (D.seen self.new.wal.disk ≡ D.seen self.old.wal.disk) }
+        ensures staged { OnOk result (D.staged self.new.wal.disk ≡ D.staged self.old.wal.disk) }
+        ensures next { self.new.next ≡ self.old.next }
+        ensures going { OnOk result (self.new.stopped ≡ self.old.stopped) }
+        ensures still { IsStill self.old self.new }
+        ensures any_moment { let payloads = recovered (D.seen self.old.wal.disk) in
+            LeavesOnly D.moment D.left_since self.old.wal.disk self.new.wal.disk
+            (Leaves self.old.identity self.old.heaps.items payloads payloads) }
+        ensures failed { IfErr result (HasFailed self.new) }
+    {
+        match self.wal.sync_next() {
+            Ok(()) => Ok(()),
             Err(error) => {
                 self.stopped = true;
                 Err(KeeperFault::Failed(error))

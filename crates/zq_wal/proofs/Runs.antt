@@ -100,7 +100,7 @@ module _ {D : Type 0} (seen staged : D → List ℕ) (may_leave : D → List ℕ
       }
 
   -- the log as it was, with another next file
-  next_begins : (log : Wal D) (new : D) (next : Option ℕ) → IsLog seen staged may_leave log → seen new ≡ seen log.disk → ((c : List ℕ) → may_leave new c → may_leave log.disk c) →
+  pub next_begins : (log : Wal D) (new : D) (next : Option ℕ) → IsLog seen staged may_leave log → seen new ≡ seen log.disk → ((c : List ℕ) → may_leave new c → may_leave log.disk c) →
       IsNext next (staged new) → IsLog seen staged may_leave (record { disk = new; count = log.count; synced = log.synced; next = next })
   next_begins log new next is same crash begun = record {
     file = same ∙ is.file ∙ ap (λ (l : List ℕ). file_of (recovered l)) (sym same);

@@ -48,6 +48,7 @@
 //! | `commit`, `commit_bytes` | do the same, and after `Ok` all records are synced |
 //! | `sync` | leave all records synced |
 //! | `begin_next`, `add_next` | leave the log; the next file is whole records |
+//! | `sync_next` | leave the log and the next file; after `Ok` a crash leaves all of the next file |
 //! | `publish_next` | leave the next file's records, all synced; at any moment old or new, whole |
 //!
 //! `MemoryDisk`, for tests, is proved to be a `Disk`. Over files the proofs hold as far as these
