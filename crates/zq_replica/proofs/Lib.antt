@@ -7,3 +7,4 @@ pub mod Replaced
 pub mod Tried
 pub mod Fed
 pub mod Gathers
+pub mod Taken

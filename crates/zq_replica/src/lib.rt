@@ -36,6 +36,7 @@ mod routing;
 mod serving;
 mod telling;
 mod told;
+mod unwritten;
 
 pub use fence::Fenced;
 pub use lives::{PORTION, Portioning};
