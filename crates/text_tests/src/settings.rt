@@ -2,6 +2,7 @@
 
 mod admin_refused;
 mod bound_refused;
+mod disk_keys;
 mod given;
 mod guard_refused;
 mod name_refused;

@@ -9,6 +9,7 @@ pub mod MeantAccept
 pub mod MeantAddresses
 pub mod MeantAdmin
 pub mod MeantAdminKeys
+pub mod MeantData
 pub mod MeantLogLevel
 pub mod MeantNumbers
 pub mod MeantPeers

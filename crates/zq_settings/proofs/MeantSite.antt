@@ -2,6 +2,7 @@
 use Rattle.zq_settings.proofs.Meant.{IsCommon, common_since, common_from, known_since, known_from}
 use Rattle.zq_settings.proofs.MeantAccept.{accept_from, accept_since}
 use Rattle.zq_settings.proofs.MeantAdminKeys.{admin_keys_from, admin_keys_since}
+use Rattle.zq_settings.proofs.MeantData.{data_keys_from, data_keys_since}
 use Rattle.zq_settings.proofs.MeantAddresses.{address_at_since, address_at_from, bind_since, bind_from, secret_since, secret_from}
 use Rattle.zq_settings.proofs.MeantLogLevel.{log_level_from, log_level_since}
 use Rattle.zq_settings.proofs.MeantNumbers.{number_since, number_from, required_since, required_from, rule_since, rule_from}
@@ -14,6 +15,7 @@ use Rattle.std.specs.Option.{is_some}
 use Rattle.std.specs.declared.net.ip_addr.IpAddr.{IpAddr}
 use Rattle.std.specs.declared.net.socket_addr.SocketAddr.{SocketAddr}
 use Rattle.toml.specs.Data.{Members}
+use Rattle.zq_settings.specs.DataKeys.{data_keys_of}
 use Rattle.zq_settings.specs.Keys.{is_known}
 use Rattle.zq_settings.specs.Protecting.{protection_of}
 use Rattle.zq_settings.specs.Settings.{◌>>=◌, common_of, known_keys, log_level_of, required_of, rule_of, site_of}
@@ -71,6 +73,7 @@ record IsSecond (table : Members) (bind : IpAddr) (s : Second) : Type 0 where
 abbrev last_of : Members → First → Second → Result SiteSettings Why
 last_of table f s =
     drain_of (value_at key.Drain table) >>= (λ drain.
+    data_keys_of table >>= (λ disk.
     log_level_of (value_at key.LogLevel table) >>= (λ log_level.
     max_memory_of (value_at key.MaxMemory table) >>= (λ max_memory.
     site_seed_of f.site (value_at key.Seed table) >>= (λ seed.
@@ -92,11 +95,12 @@ last_of table f s =
       admin = s.admin;
       protection = s.protection;
       drain = drain;
+      disk = disk;
       log_level = log_level;
       max_memory = max_memory;
       seed = seed;
       secret = f.secret;
-    }))))))
+    })))))))
 
 -- and those from `heaps` on
 abbrev later_of : Members → First → Result SiteSettings Why
@@ -112,11 +116,12 @@ later_of table f =
 last_since : (table : Members) (f : First) (s : Second) (settings : SiteSettings) → IsFirst table f → IsSecond table f.bind s → last_of table f s ≡ Ok settings → IsSiteSettings table settings
 last_since table f s settings first second h =
     let (drain, drain_read, h1) = both_ok (drain_of (value_at key.Drain table)) _ settings h in
-    let (log_level, log_level_read, h2) = both_ok (log_level_of (value_at key.LogLevel table)) _ settings h1 in
-    let (max_memory, max_memory_read, h3) = both_ok (max_memory_of (value_at key.MaxMemory table)) _ settings h2 in
-    let (seed, seed_read, h4) = both_ok (site_seed_of f.site (value_at key.Seed table)) _ settings h3 in
-    let (rule, rule_read, h5) = both_ok (rule_of (value_at key.Rule table)) _ settings h4 in
-    let whole : record { site = f.site; port = f.port; bind = f.bind; listen = f.listen; peers = f.peers; heaps = s.common.heaps; rule = rule; workers = if_given s.common.workers (value_at key.Workers table); connections = s.common.connections; limits = s.common.limits; link_backlog = s.link_backlog; alone = s.alone; accept = s.accept; admin = s.admin; protection = s.protection; drain = drain; log_level = log_level; max_memory = max_memory; seed = seed; secret = f.secret } ≡ settings = ok_same _ settings _ _ refl refl h5 in
+    let (disk, disk_read, h2) = both_ok (data_keys_of table) _ settings h1 in
+    let (log_level, log_level_read, h3) = both_ok (log_level_of (value_at key.LogLevel table)) _ settings h2 in
+    let (max_memory, max_memory_read, h4) = both_ok (max_memory_of (value_at key.MaxMemory table)) _ settings h3 in
+    let (seed, seed_read, h5) = both_ok (site_seed_of f.site (value_at key.Seed table)) _ settings h4 in
+    let (rule, rule_read, h6) = both_ok (rule_of (value_at key.Rule table)) _ settings h5 in
+    let whole : record { site = f.site; port = f.port; bind = f.bind; listen = f.listen; peers = f.peers; heaps = s.common.heaps; rule = rule; workers = if_given s.common.workers (value_at key.Workers table); connections = s.common.connections; limits = s.common.limits; link_backlog = s.link_backlog; alone = s.alone; accept = s.accept; admin = s.admin; protection = s.protection; drain = drain; disk = disk; log_level = log_level; max_memory = max_memory; seed = seed; secret = f.secret } ≡ settings = ok_same _ settings _ _ refl refl h6 in
     rw (← whole) (record {
       known = first.known;
       site = first.site;
@@ -135,6 +140,7 @@ last_since table f s settings first second h =
       admin = second.admin;
       protection = second.protection;
       drain = number_since _ 0 1000000 10 drain _ drain_read;
+      disk = data_keys_since table disk disk_read;
       log_level = log_level_since log_level _ log_level_read;
       max_memory = number_since _ 0 1099511627776 0 max_memory _ max_memory_read;
       seed = number_since _ 0 9223372036854775807 (f.site + 1) seed _ seed_read;
@@ -201,6 +207,7 @@ site_settings_from table settings is =
       admin_keys_from table settings.admin is.admin,
       protection_from table settings.bind settings.protection is.protection,
       number_from key.Drain 0 1000000 10 settings.drain _ is.drain,
+      data_keys_from table settings.disk is.disk,
       log_level_from settings.log_level _ is.log_level,
       number_from key.MaxMemory 0 1099511627776 0 settings.max_memory _ is.max_memory,
       number_from key.Seed 0 9223372036854775807 (settings.site + 1) settings.seed _ is.seed,

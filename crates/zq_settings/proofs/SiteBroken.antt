@@ -3,6 +3,7 @@ use Rattle.zq_settings.proofs.AddressFaults.{AddressFault, address_fault}
 use Rattle.zq_settings.proofs.Broken.{repeated}
 use Rattle.zq_settings.proofs.MeantAccept.{accept_fault}
 use Rattle.zq_settings.proofs.AdminBroken.{admin_keys_break}
+use Rattle.zq_settings.proofs.MeantData.{data_keys_break}
 use Rattle.zq_settings.proofs.MeantLogLevel.{log_level_fault}
 use Rattle.zq_settings.proofs.Faults.{HasFault, by_steps, common_fault, count_listed, listed, number_fault, required_fault, rule_fault, unknown_fault}
 use Rattle.zq_settings.proofs.MeantAddresses.{bind_since, secret_since}
@@ -25,6 +26,7 @@ use Rattle.zq_settings.specs.Peers.{sites_of}
 use Rattle.zq_settings.specs.Ports.{first_twice}
 use Rattle.zq_settings.specs.Protecting.{protection_of}
 use Rattle.zq_settings.specs.Settings.{common_of, count_of, each, known_keys, log_level_of, required_of, rule_of, site_of}
+use Rattle.zq_settings.specs.DataKeys.{data_keys_of}
 use Rattle.zq_settings.specs.Site.{accept_of, address_at, admin_keys_of, alone_of, apart, bind_of, drain_of, link_backlog_of, max_memory_of, peer_address_at, peer_at, peer_of, peers_in, peers_of, secret_of, site_seed_of, unless_far, unless_met, unless_own, unless_short}
 use Rattle.zq_settings.specs.SiteBreaks.{EachRefusalOfASiteIsOfABrokenRule, HasPeer, HasTwice, SiteBreaks}
 use Rattle.zq_settings.specs.SiteRules.{AreEach, IsPeer}
@@ -251,9 +253,10 @@ each_refusal_of_a_site_is_of_a_broken_rule table why =
     by_steps (protection_of bind table) _ why P (protection_breaks table bind (bind_since bind _ bind_read) why) (λ protection _.
     by_steps (drain_of (value_at key.Drain table)) _ why P
     (λ h. fault_breaks table table key.Drain (λ Q q. q) why (number_fault table key.Drain 0 1000000 10 (λ d none. none) (λ d out. out) why _ refl h)) (λ drain _.
+    by_steps (data_keys_of table) _ why P (data_keys_break table why) (λ disk _.
     by_steps (log_level_of (value_at key.LogLevel table)) _ why P (λ h. fault_breaks table table key.LogLevel (λ Q q. q) why (log_level_fault table why _ refl h)) (λ log_level _.
     by_steps (max_memory_of (value_at key.MaxMemory table)) _ why P
     (λ h. fault_breaks table table key.MaxMemory (λ Q q. q) why (number_fault table key.MaxMemory 0 1099511627776 0 (λ d none. none) (λ d out. out) why _ refl h)) (λ max_memory _.
     by_steps (site_seed_of site (value_at key.Seed table)) _ why P
     (λ h. fault_breaks table table key.Seed (λ Q q. q) why (number_fault table key.Seed 0 9223372036854775807 (site + 1) (λ d none. none) (λ d out. out) why _ refl h)) (λ seed _.
-    by_steps (rule_of (value_at key.Rule table)) _ why P (λ h. fault_breaks table table key.Rule (λ Q q. q) why (rule_fault table why _ refl h)) (λ rule _ wrong. cc))))))))))))))))))
+    by_steps (rule_of (value_at key.Rule table)) _ why P (λ h. fault_breaks table table key.Rule (λ Q q. q) why (rule_fault table why _ refl h)) (λ rule _ wrong. cc)))))))))))))))))))

@@ -6,6 +6,8 @@ use Rattle.toml.specs.Data.{Data, Members, integer, string, array, as_bool, as_i
 use Rattle.toml.specs.View.{items_of}
 use Rattle.zq_settings.specs.Addresses.{IsNoAddress}
 use Rattle.zq_settings.specs.AdminKeys.{is_token}
+use Rattle.zq_settings.specs.DataKeys.{sync_named}
+use Rattle.zq_settings.specs.Folders.{is_folder}
 use Rattle.zq_settings.specs.Keys.{is_known}
 use Rattle.zq_settings.specs.Numbers.{within}
 use Rattle.zq_settings.specs.PeerAddresses.{IsPeerText}
@@ -70,6 +72,8 @@ IsOfOtherKind key.AdminBind value = as_str value ≡ None
 IsOfOtherKind key.PasswordFile value = as_str value ≡ None
 IsOfOtherKind key.Unprotected value = as_bool value ≡ None
 IsOfOtherKind key.Drain value = as_integer value ≡ None
+IsOfOtherKind key.Data value = as_str value ≡ None
+IsOfOtherKind key.Sync value = as_str value ≡ None
 IsOfOtherKind key.LogLevel value = as_str value ≡ None
 IsOfOtherKind key.MaxMemory value = as_integer value ≡ None
 IsOfOtherKind key.Seed value = as_integer value ≡ None
@@ -102,6 +106,8 @@ IsOutOfRange key.AdminBind value = IsText IsNoIp value
 IsOutOfRange key.PasswordFile value = IsText (λ text. is_path text ≡ false) value
 IsOutOfRange key.Unprotected value = ⊥
 IsOutOfRange key.Drain value = IsOutside 0 1000000 value
+IsOutOfRange key.Data value = IsText (λ text. is_folder text ≡ false) value
+IsOutOfRange key.Sync value = IsText (λ word. sync_named word ≡ None) value
 IsOutOfRange key.LogLevel value = IsText (λ word. log_level_named word ≡ None) value
 IsOutOfRange key.MaxMemory value = IsOutside 0 1099511627776 value
 IsOutOfRange key.Seed value = IsOutside 0 9223372036854775807 value

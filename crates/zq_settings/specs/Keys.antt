@@ -26,6 +26,8 @@ name_of key.AdminBind = codes "admin_bind"
 name_of key.PasswordFile = codes "password_file"
 name_of key.Unprotected = codes "unprotected"
 name_of key.Drain = codes "drain"
+name_of key.Data = codes "data"
+name_of key.Sync = codes "sync"
 name_of key.LogLevel = codes "log_level"
 name_of key.MaxMemory = codes "max_memory"
 name_of key.Seed = codes "seed"
@@ -48,7 +50,8 @@ keys_of form.Site =
     key.Site ∷ key.Port ∷ key.Bind ∷ key.Secret ∷ key.Listen ∷ key.Peers ∷ key.Heaps ∷ key.Workers
     ∷ key.Connections ∷ key.Clients ∷ key.Timeout ∷ key.WriteTimeout ∷ key.Output ∷ key.LinkBacklog
     ∷ key.Alone ∷ key.Accept ∷ key.Admin ∷ key.AdminToken ∷ key.AdminBind ∷ key.PasswordFile
-    ∷ key.Unprotected ∷ key.Drain ∷ key.LogLevel ∷ key.MaxMemory ∷ key.Seed ∷ key.Rule ∷ []
+    ∷ key.Unprotected ∷ key.Drain ∷ key.Data ∷ key.Sync ∷ key.LogLevel ∷ key.MaxMemory ∷ key.Seed
+    ∷ key.Rule ∷ []
 keys_of form.Peer = key.PeerSite ∷ key.PeerAddress ∷ []
 
 -- one of the keys of such a table has this name

@@ -1,5 +1,7 @@
 pub mod Accepting
 pub mod AdminKeys
+pub mod DataKeys
+pub mod Folders
 pub mod LogLevels
 pub mod Numbers
 pub mod Keys

@@ -5,6 +5,7 @@ use Rattle.std.specs.declared.net.ip_addr.IpAddr.{IpAddr}
 use Rattle.std.specs.declared.net.socket_addr.SocketAddr.{SocketAddr}
 use Rattle.toml.specs.Data.{Data, Items, Members, array, string}
 use Rattle.zq_settings.specs.AdminKeys.{is_token}
+use Rattle.zq_settings.specs.Folders.{is_folder}
 use Rattle.zq_settings.specs.Paths.{is_path}
 use Rattle.zq_settings.specs.Settings.{count_of, known_keys, required_of, site_of}
 use Rattle.zq_settings.specs.Site.{address_at, bind_of, secret_of}
@@ -38,6 +39,10 @@ AsksForToken value = (text : List ℕ) × (value ≡ Some (string text)) × IsTr
 abbrev pub AsksForPath : Option Data → Type 0
 AsksForPath value = (text : List ℕ) × (value ≡ Some (string text)) × IsTrue (is_path text)
 
+-- for a copy of the path of a folder
+abbrev pub AsksForFolder : Option Data → Type 0
+AsksForFolder value = (text : List ℕ) × (value ≡ Some (string text)) × IsTrue (is_folder text)
+
 -- of several sites: for a key that is not known, or for the ports where each is known
 abbrev pub AsksOfSites : Members → Type 0
 AsksOfSites table = AsksForName form.Sites table
@@ -51,8 +56,8 @@ pub record AsksForPeers (table : Members) : Type 0 where
   pub listen_is : address_at (is_some secret) key.Listen (value_at key.Listen table) ≡ Ok listen
   pub peers : AsksForEntries 63 (value_at key.Peers table)
 
--- for its secret, its peers, its token or the name of its password's file, where the values before
--- can be read
+-- for its secret, its peers, its token, the name of its password's file or its folder, where the
+-- values before can be read
 pub record AsksForValues (table : Members) : Type 0 where
   pub site : ℕ
   pub site_is : site_of key.Site (value_at key.Site table) ≡ Ok site
@@ -60,9 +65,10 @@ pub record AsksForValues (table : Members) : Type 0 where
   pub port_is : required_of key.Port 1 65535 (value_at key.Port table) ≡ Ok port
   pub bind : IpAddr
   pub bind_is : bind_of (value_at key.Bind table) ≡ Ok bind
-  pub next : ((AsksForSecret (value_at key.Secret table) ⊎ AsksForPeers table)
+  pub next : (((AsksForSecret (value_at key.Secret table) ⊎ AsksForPeers table)
       ⊎ AsksForToken (value_at key.AdminToken table))
-      ⊎ AsksForPath (value_at key.PasswordFile table)
+      ⊎ AsksForPath (value_at key.PasswordFile table))
+      ⊎ AsksForFolder (value_at key.Data table)
 
 -- for a key that is not known, or for these where each is known
 abbrev pub AsksOfSite : Members → Type 0

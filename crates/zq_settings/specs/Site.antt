@@ -7,6 +7,7 @@ use Rattle.toml.specs.Data.{Data, Items, Members, as_array, as_str, as_table}
 use Rattle.zq_settings.specs.Addresses.{address_of, ip_of, is_local, localhost}
 use Rattle.zq_settings.specs.AdminKeys.{admin_bind_of, admin_token_of}
 use Rattle.zq_settings.specs.Accepting.{accept_named}
+use Rattle.zq_settings.specs.DataKeys.{data_keys_of}
 use Rattle.zq_settings.specs.PeerAddresses.{is_local_peer, peer_address_of}
 use Rattle.zq_settings.specs.Peers.{sites_of}
 use Rattle.zq_settings.specs.Ports.{first_twice}
@@ -159,6 +160,7 @@ site_values_of table =
     admin_keys_of table >>= (λ admin.
     protection_of bind table >>= (λ protection.
     drain_of (value_at key.Drain table) >>= (λ drain.
+    data_keys_of table >>= (λ disk.
     log_level_of (value_at key.LogLevel table) >>= (λ log_level.
     max_memory_of (value_at key.MaxMemory table) >>= (λ max_memory.
     site_seed_of site (value_at key.Seed table) >>= (λ seed.
@@ -180,11 +182,12 @@ site_values_of table =
       admin = admin;
       protection = protection;
       drain = drain;
+      disk = disk;
       log_level = log_level;
       max_memory = max_memory;
       seed = seed;
       secret = secret;
-    }))))))))))))))))))
+    })))))))))))))))))))
 
 -- the settings that a table has, or the first rule that it breaks
 abbrev pub site_settings_of : Members → Result SiteSettings Why

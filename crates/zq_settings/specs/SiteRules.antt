@@ -9,10 +9,12 @@ use Rattle.toml.specs.View.{items_of}
 use Rattle.zq_settings.specs.Accepting.{accept_word}
 use Rattle.zq_settings.specs.Addresses.{IsLoopback, IsLoopbackIp, localhost}
 use Rattle.zq_settings.specs.AdminKeys.{is_token}
+use Rattle.zq_settings.specs.DataKeys.{sync_word}
+use Rattle.zq_settings.specs.Folders.{is_folder}
+use Rattle.zq_settings.specs.Paths.{is_path}
 use Rattle.zq_settings.specs.Keys.{is_known}
 use Rattle.zq_settings.specs.PeerAddresses.{IsLocalPeer, IsPeerText}
 use Rattle.zq_settings.specs.Peers.{ArePeers}
-use Rattle.zq_settings.specs.Paths.{is_path}
 use Rattle.zq_settings.specs.Rules.{AreClientLimits, IsLimit, IsLogLevel, IsNumber, IsRule}
 use Rattle.zq_settings.specs.Site.{if_given, site_settings_of}
 use Rattle.zq_settings.specs.Tables.{names_in, value_at}
@@ -22,8 +24,11 @@ use Rattle.zq_settings.specs.declared.form.Form.TheVariants as form
 use Rattle.zq_settings.specs.declared.key.Key.TheVariants as key
 use Rattle.zq_settings.specs.declared.peer.Peer.{Peer}
 use Rattle.zq_settings.specs.declared.peer_address.PeerAddress.{PeerAddress}
+use Rattle.zq_settings.specs.declared.sync_mode.SyncMode.{SyncMode}
+use Rattle.zq_settings.specs.declared.sync_mode.SyncMode.TheVariants.{Always}
 use Rattle.zq_settings.specs.declared.values.AdminSettings.{AdminSettings}
 use Rattle.zq_settings.specs.declared.values.Protection.{Protection}
+use Rattle.zq_settings.specs.declared.values.DiskSettings.{DiskSettings}
 use Rattle.zq_settings.specs.declared.values.SiteSettings.{SiteSettings}
 
 -- the value is the number, which lies between the bounds
@@ -130,6 +135,22 @@ pub record IsProtection (table : Members) (bind : IpAddr) (protection : Protecti
   pub unprotected : IsUnprotected (value_at key.Unprotected table) protection.unprotected
   pub near : protection.password_file ≡ None → protection.unprotected ≡ false → IsLoopbackIp bind
 
+-- there is neither a value nor a folder, or the value is the folder's path, a text of 1 to 3072 bytes
+-- with no byte 0
+abbrev pub IsData : Option Data → Option (List ℕ) → Type 0
+IsData value path = ((value ≡ None) × (path ≡ None))
+    ⊎ ((text : List ℕ) × (value ≡ Some (string text)) × IsTrue (is_folder text)
+    × (path ≡ Some text))
+
+-- there is no value, and all replies wait, or the value is the word of what waits
+abbrev pub IsSync : Option Data → SyncMode → Type 0
+IsSync value sync = ((value ≡ None) × (sync ≡ Always)) ⊎ (value ≡ Some (string (sync_word sync)))
+
+-- what a site keeps, key by key
+pub record AreDataKeys (table : Members) (disk : DiskSettings) : Type 0 where
+  pub path : IsData (value_at key.Data table) disk.path
+  pub sync : IsSync (value_at key.Sync table) disk.sync
+
 -- each key of the table is known, and each value is as its key wants it
 pub record IsSiteSettings (table : Members) (settings : SiteSettings) : Type 0 where
   pub known : All (λ name. IsTrue (is_known form.Site name)) (names_in table)
@@ -150,6 +171,7 @@ pub record IsSiteSettings (table : Members) (settings : SiteSettings) : Type 0 w
   pub admin : AreAdminKeys table settings.admin
   pub protection : IsProtection table settings.bind settings.protection
   pub drain : IsNumber 0 1000000 10 (value_at key.Drain table) settings.drain
+  pub disk : AreDataKeys table settings.disk
   pub log_level : IsLogLevel (value_at key.LogLevel table) settings.log_level
   pub max_memory : IsNumber 0 1099511627776 0 (value_at key.MaxMemory table) settings.max_memory
   pub seed : IsNumber 0 9223372036854775807 (settings.site + 1) (value_at key.Seed table)

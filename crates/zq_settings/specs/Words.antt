@@ -38,6 +38,8 @@ takes_of key.AdminBind = codes "an IP address, as \"127.0.0.1\""
 takes_of key.PasswordFile = codes "the name of a file, a text of 1 to 4096 bytes"
 takes_of key.Unprotected = codes "true or false"
 takes_of key.Drain = codes "a whole number from 0 to 1000000"
+takes_of key.Data = codes "the path of a folder, a text of 1 to 3072 bytes with no byte 0"
+takes_of key.Sync = codes "\"always\" or \"soon\""
 takes_of key.LogLevel = codes "\"warn\", \"info\" or \"debug\""
 takes_of key.MaxMemory = codes "a whole number from 0 to 1099511627776"
 takes_of key.Seed = codes "a whole number from 0 to 9223372036854775807"
@@ -68,7 +70,7 @@ abbrev pub keys_text : Form → List ℕ
 keys_text form.Sites =
     codes "settings, which are ports, heaps, workers, connections, clients, timeout, write_timeout, output, log_level, seed and rule"
 keys_text form.Site =
-    codes "a site's settings, which are site, port, bind, secret, listen, peers, heaps, workers, connections, clients, timeout, write_timeout, output, link_backlog, alone, accept, admin, admin_token, admin_bind, password_file, unprotected, drain, log_level, max_memory, seed and rule"
+    codes "a site's settings, which are site, port, bind, secret, listen, peers, heaps, workers, connections, clients, timeout, write_timeout, output, link_backlog, alone, accept, admin, admin_token, admin_bind, password_file, unprotected, drain, data, sync, log_level, max_memory, seed and rule"
 keys_text form.Peer = codes "a peer, which are site and address"
 
 -- what is wrong with a key's value, and what the key takes

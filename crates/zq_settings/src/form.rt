@@ -36,7 +36,7 @@ impl Form {
                 "settings, which are ports, heaps, workers, connections, clients, timeout, write_timeout, output, log_level, seed and rule"
             }
             Form::Site => {
-                "a site's settings, which are site, port, bind, secret, listen, peers, heaps, workers, connections, clients, timeout, write_timeout, output, link_backlog, alone, accept, admin, admin_token, admin_bind, password_file, unprotected, drain, log_level, max_memory, seed and rule"
+                "a site's settings, which are site, port, bind, secret, listen, peers, heaps, workers, connections, clients, timeout, write_timeout, output, link_backlog, alone, accept, admin, admin_token, admin_bind, password_file, unprotected, drain, data, sync, log_level, max_memory, seed and rule"
             }
             Form::Peer => "a peer, which are site and address",
         }
@@ -91,6 +91,8 @@ fn is_key_of_site(name: &str) -> bool
             | "password_file"
             | "unprotected"
             | "drain"
+            | "data"
+            | "sync"
             | "log_level"
             | "max_memory"
             | "seed"

@@ -41,6 +41,10 @@ pub enum Key {
     Unprotected,
     /// How long the one site waits, as it is told to end, until its peers have what it made.
     Drain,
+    /// The folder in which the one site keeps its log.
+    Data,
+    /// What waits until it is on the disk.
+    Sync,
     /// How much the program's log says.
     LogLevel,
     /// How many bytes of memory the one site may take before it refuses what adds.
@@ -90,6 +94,8 @@ impl Key {
             Key::PasswordFile => "password_file",
             Key::Unprotected => "unprotected",
             Key::Drain => "drain",
+            Key::Data => "data",
+            Key::Sync => "sync",
             Key::LogLevel => "log_level",
             Key::MaxMemory => "max_memory",
             Key::Seed => "seed",
@@ -127,6 +133,8 @@ impl Key {
             }
             Key::Clients => "a whole number from 1 to 1000000",
             Key::Output | Key::LinkBacklog => "a whole number from 1048576 to 1099511627776",
+            Key::Data => "the path of a folder, a text of 1 to 3072 bytes with no byte 0",
+            Key::Sync => "\"always\" or \"soon\"",
             Key::LogLevel => "\"warn\", \"info\" or \"debug\"",
             Key::MaxMemory => "a whole number from 0 to 1099511627776",
             Key::Seed => "a whole number from 0 to 9223372036854775807",

@@ -9,6 +9,8 @@ mod admin;
 mod admin_port;
 mod admin_token;
 mod common;
+mod data_keys;
+mod data_path;
 mod entries;
 mod fault;
 mod form;
@@ -30,6 +32,7 @@ mod ports;
 mod protection;
 mod read;
 mod secret;
+mod sync_mode;
 mod table;
 mod unknown;
 mod values;
@@ -38,6 +41,7 @@ mod within;
 
 pub use accept::Accept;
 pub use admin_token::AdminToken;
+pub use data_path::DataPath;
 pub use fault::SettingsFault;
 pub use form::Form;
 pub use host_name::HostName;
@@ -51,9 +55,11 @@ pub use peers::{MOST_PEERS, Peers};
 pub use ports::{MOST_PORTS, Port, Ports};
 pub use read::{settings, site_settings};
 pub use secret::{LEAST_SECRET, Secret};
+pub use sync_mode::SyncMode;
 pub use values::{
-    AdminSettings, BacklogSize, ClientCount, ClientLimits, ConnectionCount, HeapCount, MemorySize,
-    OutputSize, Protection, Seconds, Seed, Settings, SiteSettings, WorkerCount,
+    AdminSettings, BacklogSize, ClientCount, ClientLimits, ConnectionCount, DiskSettings,
+    HeapCount, MemorySize, OutputSize, Protection, Seconds, Seed, Settings, SiteSettings,
+    WorkerCount,
 };
 pub use why::Why;
 pub use within::Within;

@@ -65,6 +65,8 @@ pub fn settings(alloc: Global, text: &str) -> Result<Settings, SettingsFault>
 /// | `password_file` | the file whose first line is the SHA-256 digest of the password of its clients, a text of 1 to 4096 bytes | they need none |
 /// | `unprotected` | whether `bind` may be an address that others reach where there is no `password_file`: `true` or `false` | `false` |
 /// | `drain` | 0 to 1000000 | 10 |
+/// | `data` | the folder in which the site keeps its log, a text of 1 to 3072 bytes with no byte 0 | it keeps nothing |
+/// | `sync` | `"always"` or `"soon"` | `"always"` |
 /// | `max_memory` | 0 to 1099511627776, where 0 is no bound | 0 |
 /// | `seed` | 0 to 9223372036854775807 | the site's number and 1 |
 /// | `heaps`, `connections`, `clients`, `timeout`, `write_timeout`, `output`, `log_level`, `rule` | as of [`settings`] | as of [`settings`] |

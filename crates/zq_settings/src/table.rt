@@ -12,6 +12,7 @@ use crate::accepting::read_accept;
 use crate::address::{read_address, read_bind};
 use crate::admin::read_admin_keys;
 use crate::common::{read_common, read_rule, read_seed};
+use crate::data_keys::read_data_keys;
 use crate::entries::read_ports;
 use crate::fault::SettingsFault;
 use crate::form::Form;
@@ -80,6 +81,7 @@ fn read_site_values(alloc: Global, table: &Table) -> Result<SiteSettings, Settin
     let admin = read_admin_keys(alloc, table)?;
     let protection = read_protection(alloc, table, &bind)?;
     let drain = read_number(table, Key::Drain, Within::of(10))?;
+    let disk = read_data_keys(alloc, table)?;
     let log_level = read_log_level(table)?;
     let max_memory = read_number(table, Key::MaxMemory, Within::of(0))?;
     let seed = read_number(table, Key::Seed, seed_of_site(site))?;
@@ -101,6 +103,7 @@ fn read_site_values(alloc: Global, table: &Table) -> Result<SiteSettings, Settin
         admin,
         protection,
         drain,
+        disk,
         log_level,
         max_memory,
         seed,

@@ -2,11 +2,13 @@
 
 use crate::accept::Accept;
 use crate::admin_token::AdminToken;
+use crate::data_path::DataPath;
 use crate::log_level::LogLevel;
 use crate::password_file::PasswordFile;
 use crate::peers::Peers;
 use crate::ports::{Port, Ports};
 use crate::secret::Secret;
+use crate::sync_mode::SyncMode;
 use crate::within::Within;
 use std::net::{IpAddr, SocketAddr};
 use zq_dots::{Rule, SiteNo};
@@ -95,6 +97,15 @@ pub struct Protection {
     pub unprotected: bool,
 }
 
+/// What a site keeps on disk.
+#[derive(Debug, Drop)]
+pub struct DiskSettings {
+    /// The folder of its log. With `None` it keeps nothing.
+    pub path: Option<DataPath>,
+    /// What waits until it is on the disk, where it keeps a log.
+    pub sync: SyncMode,
+}
+
 /// The settings of one site in a process of its own.
 #[derive(Debug, Drop)]
 pub struct SiteSettings {
@@ -135,6 +146,8 @@ pub struct SiteSettings {
     /// How many seconds it waits at most, as it is told to end, until its peers have what it made.
     /// With 0 it does not wait.
     pub drain: Seconds,
+    /// What it keeps on disk.
+    pub disk: DiskSettings,
     /// How much the program's log says.
     pub log_level: LogLevel,
     /// How many bytes of memory the process may take before commands that add are refused. With 0

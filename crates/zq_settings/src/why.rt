@@ -19,9 +19,9 @@ use zq_dots::SiteNo;
 /// and `rule`, in this order. Of one site they are `site`, `port`, `bind`, `secret`, `listen`,
 /// `peers`, and then `heaps` and the others, with `link_backlog`, `alone`, `accept`, `admin`,
 /// `admin_token`, `admin_bind`, `password_file`, `unprotected`, that `bind` is not open to others
-/// without one of these two, and `drain` after `output`, and `max_memory` after `log_level`. The
-/// entries of `peers` come one by one: that it is a table, that it has no other keys, then the
-/// rules of its `site` and of its `address`.
+/// without one of these two, `drain`, `data` and `sync` after `output`, and `max_memory` after
+/// `log_level`. The entries of `peers` come one by one: that it is a table, that it has no other
+/// keys, then the rules of its `site` and of its `address`.
 #[derive(Debug, Drop)]
 pub enum Why {
     /// The text is not TOML.

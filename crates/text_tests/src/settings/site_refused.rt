@@ -5,7 +5,7 @@ use std::test::Fail;
 use zq_settings::{SettingsFault, site_settings};
 
 const UNKNOWN: &str =
-    "is not a key of a site's settings, which are site, port, bind, secret, listen, peers, heaps, workers, connections, clients, timeout, write_timeout, output, link_backlog, alone, accept, admin, admin_token, admin_bind, password_file, unprotected, drain, log_level, max_memory, seed and rule";
+    "is not a key of a site's settings, which are site, port, bind, secret, listen, peers, heaps, workers, connections, clients, timeout, write_timeout, output, link_backlog, alone, accept, admin, admin_token, admin_bind, password_file, unprotected, drain, data, sync, log_level, max_memory, seed and rule";
 
 const LISTEN: &str = "it takes an IP address with a port from 1 to 65535, as \"127.0.0.1:7101\"";
 
