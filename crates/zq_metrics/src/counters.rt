@@ -59,11 +59,22 @@ impl WorkerCounters {
 
     /// How many requests were answered since this was asked last.
     pub fn untimed(&self) -> u64 {
+        let all = self.answered();
+        all.wrapping_sub(self.timed.swap(all, Ordering::SeqCst))
+    }
+
+    /// Whether requests were answered since it was asked last how many.
+    pub fn has_untimed(&self) -> bool {
+        self.answered() != self.timed.load(Ordering::SeqCst)
+    }
+
+    /// How many requests were answered, within 64 bits.
+    fn answered(&self) -> u64 {
         let mut all = 0u64;
         for cell in &self.commands {
             all = all.wrapping_add(cell.answered.load(Ordering::SeqCst));
         }
-        all.wrapping_sub(self.timed.swap(all, Ordering::SeqCst))
+        all
     }
 
     /// So many requests took so many nanoseconds each.
