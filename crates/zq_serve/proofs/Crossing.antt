@@ -1,5 +1,5 @@
--- A worker, an acceptor and a linker may go to another thread, and so may what names mailboxes and
--- a gate.
+-- A worker, an acceptor and a linker may go to another thread, and so may what names mailboxes, a
+-- gate and what stands before replies.
 use denote.Param.Send.{IsSend, IsSync, sendable}
 use denote.Ref.{NamedLft}
 use Rattle.std.proofs.Crossing.{crosses}
@@ -9,7 +9,9 @@ use Rattle.zq_peers.proofs.Crossing.{mailbox_sync}
 use Rattle.zq_peers.specs.contracts.attending.Link as Link
 use Rattle.zq_serve.specs.contracts.admission.Admission as Admission
 use Rattle.zq_serve.specs.contracts.client_acceptor.ClientAcceptor as ClientAcceptor
+use Rattle.zq_serve.specs.contracts.commits.Commits as Commits
 use Rattle.zq_serve.specs.contracts.desk.Desk as Desk
+use Rattle.zq_serve.specs.contracts.durable.Durable as Durable
 use Rattle.zq_serve.specs.contracts.gate.Gate as Gate
 use Rattle.zq_serve.specs.contracts.inboxes.Inboxes as Inboxes
 use Rattle.zq_serve.specs.contracts.linker.Linker as Linker
@@ -41,5 +43,11 @@ admission_sync = search (sendable, crosses) depth 30
 pub desk_sync : IsSync Desk.the_row
 desk_sync = search (sendable, crosses) depth 30
 
+pub commits_sync : IsSync Commits.the_row
+commits_sync = search (sendable, crosses) depth 30
+
+pub durable_send : (κ : NamedLft) → IsSend (Durable.the_row κ)
+durable_send κ = search (mailbox_sync, commits_sync, sendable, crosses) depth 30 fits 50000
+
 pub inboxes_send : (κ : NamedLft) → IsSend (Inboxes.the_row κ)
-inboxes_send κ = search (mailbox_sync, gate_sync, admission_sync, counters_sync, desk_sync, sendable, crosses) depth 30 fits 50000
+inboxes_send κ = search (mailbox_sync, gate_sync, admission_sync, counters_sync, desk_sync, durable_send, sendable, crosses) depth 30 fits 50000

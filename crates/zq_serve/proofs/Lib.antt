@@ -1,4 +1,5 @@
 pub mod Crossing
 mod Desks
 mod OwnPass
+pub mod Tickets
 pub mod ThreadLists

@@ -8,4 +8,4 @@ use Rattle.zq_serve.specs.declared.inboxes.Inboxes.TheVariants.{Each, One}
 -- the mailbox of a site: the one at its place, where there is one, or the one that there is
 abbrev pub inbox_of : Inboxes → ℕ → Option Mailbox
 inbox_of (Each mailboxes) site = slice_get mailboxes.now site
-inbox_of (One mailbox gate admission counters desk) site = Some mailbox.now
+inbox_of (One mailbox gate admission counters desk durable) site = Some mailbox.now

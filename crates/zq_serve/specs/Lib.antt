@@ -9,5 +9,7 @@ pub mod Ports
 pub mod Mailboxes
 pub mod Memory
 pub mod Announced
+pub mod Commits
+pub mod CommitLaws
 pub mod Limits
 pub mod Rewriting

@@ -40,7 +40,7 @@ impl ClientAcceptor<'_> {
             port,
             acceptor,
         } = self;
-        let watch = Warner::new(log, site.number(), inboxes.counters(), None);
+        let watch = Warner::new(log, site.number(), inboxes.counters(), None, None);
         acceptor.run(log, port, &watch);
     }
 }

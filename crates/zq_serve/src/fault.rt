@@ -29,6 +29,35 @@ pub enum Cause {
     Output,
     /// There were no random bytes.
     Random(ErrorKind),
+    /// The folder of a site's log is not taken, or its log failed.
+    Data(DataFault),
+}
+
+/// Why the folder of a site's log is not taken, or its log failed.
+#[derive(Clone, Copy, Debug, PartialEq, Eq)]
+pub enum DataFault {
+    /// Another process has the folder.
+    Busy,
+    /// What has the log's name is no regular file of this one name.
+    NotAFile,
+    /// The system refused something.
+    System(ErrorKind),
+    /// The disk is full.
+    Full,
+    /// The log is gone from its folder.
+    Gone,
+    /// The log has damage that no crash leaves.
+    Damaged,
+    /// The log was written by a newer version.
+    OtherFormat,
+    /// The log is of another site.
+    OtherSite,
+    /// The log is of a site with another number of heaps.
+    OtherHeaps,
+    /// The log is of a site with another rule.
+    OtherRule,
+    /// The log has records that do not follow from those before them.
+    Unfit,
 }
 
 impl From<AllocError> for ServeFault {
@@ -50,6 +79,28 @@ impl fmt::Display for Cause {
             Cause::Thread => f.write_str("cannot start a thread"),
             Cause::Output => f.write_str("cannot write to standard output"),
             Cause::Random(kind) => write!(f, "the system gives no random bytes: {kind}"),
+            Cause::Data(fault) => write!(f, "{fault}"),
+        }
+    }
+}
+
+impl fmt::Display for DataFault {
+    /// Why, on one line.
+    fn fmt<W: fmt::Write>(&self, f: &mut fmt::Formatter<W>) -> fmt::Result {
+        match self {
+            DataFault::Busy => f.write_str("another process has the folder"),
+            DataFault::NotAFile => f.write_str("the log is no regular file of one name"),
+            DataFault::System(kind) => write!(f, "{kind}"),
+            DataFault::Full => f.write_str("the disk is full"),
+            DataFault::Gone => f.write_str("the log is gone from its folder"),
+            DataFault::Damaged => f.write_str("the log is damaged"),
+            DataFault::OtherFormat => f.write_str("the log is of a newer version"),
+            DataFault::OtherSite => f.write_str("the log is of another site"),
+            DataFault::OtherHeaps => {
+                f.write_str("the log is of a site with another number of heaps")
+            }
+            DataFault::OtherRule => f.write_str("the log is of a site with another rule"),
+            DataFault::Unfit => f.write_str("the log has records that do not fit"),
         }
     }
 }

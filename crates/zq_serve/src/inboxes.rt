@@ -5,6 +5,7 @@ ghost use Rattle.zq_serve.specs.Inboxes.{inbox_of};
 
 use crate::admission::Admission;
 use crate::desk::Desk;
+use crate::durable::Durable;
 use crate::gate::Gate;
 use zq_dots::SiteNo;
 use zq_metrics::Counters;
@@ -15,9 +16,10 @@ use zq_peers::Mailbox;
 pub enum Inboxes<'a> {
     /// Site N's is at place N; a site that has none is not linked.
     Each(&'a [Mailbox]),
-    /// That of the one site, the gate before its calls, which commands it answers, what counts
-    /// them, and what its connections answer themselves by.
-    One(&'a Mailbox, &'a Gate, &'a Admission, &'a Counters, &'a Desk),
+    /// That of the one site, the gate before its calls, which commands it answers, what counts them,
+    /// what its connections answer themselves by, and what stands before its replies, where it keeps
+    /// a log.
+    One(&'a Mailbox, &'a Gate, &'a Admission, &'a Counters, &'a Desk, Option<Durable<'a>>),
 }
 
 impl<'a> Inboxes<'a> {
@@ -60,7 +62,7 @@ impl<'a> Inboxes<'a> {
     pub(crate) fn counters(self) -> Option<&'a Counters> {
         match self {
             Inboxes::Each(_) => None,
-            Inboxes::One(_, _, _, counters, _) => Some(counters),
+            Inboxes::One(_, _, _, counters, ..) => Some(counters),
         }
     }
 
@@ -68,7 +70,15 @@ impl<'a> Inboxes<'a> {
     pub(crate) fn desk(self) -> Option<&'a Desk> {
         match self {
             Inboxes::Each(_) => None,
-            Inboxes::One(_, _, _, _, desk) => Some(desk),
+            Inboxes::One(_, _, _, _, desk, _) => Some(desk),
+        }
+    }
+
+    /// What stands before replies, where the site keeps a log.
+    pub(crate) fn durable(self) -> Option<Durable<'a>> {
+        match self {
+            Inboxes::Each(_) => None,
+            Inboxes::One(.., durable) => durable,
         }
     }
 }

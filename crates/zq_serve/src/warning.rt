@@ -1,14 +1,17 @@
 //! What is said of a port where something goes wrong.
 
+use crate::durable::Durable;
 use log::{Log, warn};
 use std::fmt;
+use std::sync::Wait;
 use std::time::{Clock, Duration};
 use zq_dots::SiteNo;
 use zq_loop::{PortFault, Watch};
 use zq_metrics::{Closing, Counters, WorkerCounters};
 
 /// Warns of what goes wrong at a site's port, and counts it and the time that turns take, where
-/// there are counters.
+/// there are counters. Where the site keeps a log, replies are written once what they tell of is on
+/// the disk.
 #[derive(Drop)]
 pub struct Warner<'a, 'b, L: Log> {
     log: &'a L,
@@ -17,26 +20,31 @@ pub struct Warner<'a, 'b, L: Log> {
     counters: Option<&'b Counters>,
     /// What counts the answers of the thread's turns.
     own: Option<&'b WorkerCounters>,
+    /// What stands before replies.
+    durable: Option<Durable<'b>>,
 }
 
 impl<'a, 'b, L: Log> Warner<'a, 'b, L> {
-    /// At this site's port, in this log and by these counters.
+    /// At this site's port, in this log and by these counters, and behind what stands before
+    /// replies.
     pub fn new(
         log: &'a L,
         site: SiteNo,
         counters: Option<&'b Counters>,
         own: Option<&'b WorkerCounters>,
+        durable: Option<Durable<'b>>,
     ) -> Warner<'a, 'b, L> {
         Warner {
             log,
             site,
             counters,
             own,
+            durable,
         }
     }
 }
 
-impl<L: Log + Clock> Watch for Warner<'_, '_, L> {
+impl<L: Log + Clock + Wait> Watch for Warner<'_, '_, L> {
     fn tell(&self, fault: PortFault) {
         if let Some(counters) = self.counters {
             counters.close(closing_of(fault));
@@ -48,14 +56,28 @@ impl<L: Log + Clock> Watch for Warner<'_, '_, L> {
         warn!(self.log; site = self.site.value(); "{}", warning);
     }
 
-    // Nothing is kept on disk.
-    fn settle(&self) {}
+    /// Where nothing was answered nothing is waited for.
+    fn settle(&self) {
+        if let Some(durable) = &self.durable
+            && answers(self.own)
+        {
+            durable.settle(self.log);
+        }
+    }
 
     /// The clock is read where something was answered.
     fn end(&self, began: Duration) {
         if let Some(own) = self.own {
             time_turn(self.log, own, began);
         }
+    }
+}
+
+/// Whether a turn has answered something: it has where that is not counted.
+fn answers(own: Option<&WorkerCounters>) -> bool {
+    match own {
+        Some(own) => own.has_untimed(),
+        None => true,
     }
 }
 

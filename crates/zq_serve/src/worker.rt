@@ -37,7 +37,13 @@ impl<'b> Worker<'b, '_> {
         }
         let Worker { own, port, poller } = self;
         let counters = own_counters(inboxes);
-        let watch = Warner::new(log, own.site.number(), inboxes.counters(), counters);
+        let watch = Warner::new(
+            log,
+            own.site.number(),
+            inboxes.counters(),
+            counters,
+            inboxes.durable(),
+        );
         let answerer = attending_of(log, own, Draws::new(seed), inboxes, port, counters);
         let mut attending = Attended::new(answerer);
         poller.run(log, alloc, port, &mut attending, &watch);
