@@ -1,0 +1,5 @@
+use Rattle.zq_node.specs.Node.{IsNode, IsSameHome}
+use Rattle.zq_store.proofs.writer.Writer.copy_some.Given as goal
+
+abbrev pub invariant-loop : goal.invariant-loop
+invariant-loop g l = IsNode l.node × IsSameHome l.initial.node l.node

@@ -1,0 +1,72 @@
+//! The loop of the thread that keeps a site on disk.
+
+ghost use Rattle.std.specs.Prelude.{IfErr};
+ghost use Rattle.zq_node.specs.Node.{IsNode, IsSameHome};
+ghost use Rattle.zq_store.specs.Faults.{HasStopped};
+
+use crate::intake::{Called, Intake};
+use crate::switch::Switched;
+use crate::writer::Writer;
+use std::sync::Wait;
+use std::time::Clock;
+use zq_keeper::KeeperFault;
+use zq_links::Message;
+use zq_node::Node;
+use zq_peers::{Inbox, Incoming, Mailbox};
+use zq_serve::Commits;
+use zq_wal::Disk;
+
+/// What else the thread does that keeps a site on disk.
+pub trait Beside {
+    ghost use Rattle.zq_node.specs.Node.{IsNode, IsSameHome};
+
+    /// Works with the node of the site between two turns.
+    fn between(&mut self, node: &mut Node<'_>)
+        requires { IsNode node.old }
+        ensures node { IsNode node.new }
+        ensures home { IsSameHome node.old node.new };
+
+    /// The log was switched to another file.
+    fn tell(&mut self, switched: Switched);
+}
+
+impl<D: Disk> Writer<D> {
+    /// Takes what is made and heard into the logs and onto the disk, turn by turn as the mailbox is
+    /// told, until it is told to stop: then all that there is goes onto the disk, and nobody waits
+    /// for it any more. While the log is switched one turn follows the other.
+    ///
+    /// `Failed`, `Stopped`: nothing more can be written, and nobody who waits goes on.
+    pub fn keep<R: Clock + Wait, P: Called, B: Beside>(
+        &mut self,
+        rt: &R,
+        intake: &Intake<'_, P>,
+        commits: &Commits,
+        mailbox: &Mailbox,
+        beside: &mut B,
+        node: &mut Node<'_>,
+    ) -> Result<(), KeeperFault>
+        requires { IsNode node.old }
+        ensures node { IsNode node.new }
+        ensures home { IsSameHome node.old node.new }
+        ensures fault { IfErr result HasStopped }
+    {
+        let mut calls = Incoming::new(rt, mailbox);
+        for _ in rt.forever() {
+            if let Message::Stop = calls.next() {
+                self.finish(rt, intake, commits, node)?;
+                commits.close(rt);
+                break;
+            }
+            commits.gather(rt, self.crowd, self.patience);
+            self.turn(rt, intake, commits, node)?;
+            if self.switch.is_some() {
+                mailbox.tick(rt);
+            }
+            if let Some(switched) = self.switched.take() {
+                beside.tell(switched);
+            }
+            beside.between(node);
+        }
+        Ok(())
+    }
+}

@@ -1,0 +1,35 @@
+//! What has a site on disk: how its folder is opened, its heaps are given back to it, and what it
+//! makes and hears is taken into the logs for its peers and into the log on disk.
+//!
+//! One thread does all of that, so that the files stay with it. A turn of it
+//!
+//! 1. takes the last ticket of those who wait for the disk;
+//! 2. takes what the heaps have made into the logs for peers, and writes it to the disk, again and
+//!    again until nothing is left;
+//! 3. wakes those who wait, and goes some steps on with a switch of the log, where one goes on.
+//!
+//! A heap *jumps* where it takes what the log cannot take as operations: a merge, an exchange, or
+//! what was lost for want of memory. From then on nothing that is made is on the disk, and nobody is
+//! woken, until a switch is done: a copy of each heap at the begin of the next file.
+#![tactic(auto)]
+
+mod copying;
+mod fault;
+mod folder;
+mod intake;
+mod keeping;
+mod recalling;
+mod restoring;
+mod site_keeper;
+mod started;
+mod switch;
+mod turn;
+mod writer;
+mod writing;
+
+pub use folder::{Place, open};
+pub use intake::{Called, Intake};
+pub use keeping::Beside;
+pub use started::Started;
+pub use switch::Switched;
+pub use writer::Writer;

@@ -1,0 +1,197 @@
+//! Writing what was taken out of the heaps, in rounds.
+
+ghost use Rattle.std.specs.Prelude.{IfErr, ◌≡◌};
+ghost use Rattle.zq_store.specs.Faults.{HasStopped, goes_on_after};
+
+use crate::writer::{Writer, now_of};
+use std::alloc::Global;
+use std::sync::Wait;
+use std::time::{Clock, Duration};
+use zq_dots::Vector;
+use zq_entries::Batch;
+use zq_keeper::KeeperFault;
+use zq_replica::Logs;
+use zq_wal::Disk;
+
+/// How many seconds have to pass without a round before it is noted that all is there.
+const REST: u64 = 1;
+
+impl<D: Disk> Writer<D> {
+    /// Writes all operations that were drained, in rounds of a batch for each heap. Where a round is
+    /// refused, or memory for it, its heaps have jumped.
+    ///
+    /// `Failed`, `Stopped`: nothing more can be written.
+    pub(crate) fn write<R: Wait + Clock>(
+        &mut self,
+        rt: &R,
+        alloc: Global,
+        logs: &Logs,
+    ) -> Result<(), KeeperFault>
+        ensures fault { IfErr result HasStopped }
+    {
+        for _ in 0..u64::MAX {
+            let (batches, ahead) = self.next_batches(rt, alloc, logs);
+            if batches.is_empty() && ahead.is_empty() {
+                break;
+            }
+            self.round(rt, alloc, logs, &batches)?;
+            self.round_next(rt, alloc, logs, &ahead)?;
+            self.wrote_at = now_of(rt);
+        }
+        Ok(())
+    }
+
+    /// Writes the operations of a heap that were drained and that a heap of this vector has.
+    pub(crate) fn write_within<R: Wait>(
+        &mut self,
+        rt: &R,
+        alloc: Global,
+        logs: &Logs,
+        heap: u8,
+        vector: &Vector,
+    ) -> Result<(), KeeperFault>
+        ensures fault { IfErr result HasStopped }
+    {
+        for _ in 0..u64::MAX {
+            let Some(batch) = next_batch(rt, alloc, logs, heap, Some(vector)) else {
+                break;
+            };
+            let mut batches = Vec::new(alloc);
+            if batches.push(batch).is_err() {
+                logs.lose(rt, heap);
+                break;
+            }
+            if self.keeper.is_ahead(heap) {
+                self.round_next(rt, alloc, logs, &batches)?;
+            } else {
+                self.round(rt, alloc, logs, &batches)?;
+            }
+        }
+        Ok(())
+    }
+
+    /// The next batch of each heap, where something was drained: those of heaps of which the next
+    /// file has what the log lacks are apart.
+    fn next_batches<R: Wait>(
+        &self,
+        rt: &R,
+        alloc: Global,
+        logs: &Logs,
+    ) -> (Vec<Batch>, Vec<Batch>) {
+        let mut batches = Vec::new(alloc);
+        let mut ahead = Vec::new(alloc);
+        for heap in 0..logs.heaps() {
+            let Some(batch) = next_batch(rt, alloc, logs, heap, None) else {
+                continue;
+            };
+            let is_pushed = if self.keeper.is_ahead(heap) {
+                ahead.push(batch).is_ok()
+            } else {
+                batches.push(batch).is_ok()
+            };
+            if !is_pushed {
+                logs.lose(rt, heap);
+            }
+        }
+        (batches, ahead)
+    }
+
+    /// Writes a round to the log, where there is anything.
+    fn round<R: Wait>(
+        &mut self,
+        rt: &R,
+        alloc: Global,
+        logs: &Logs,
+        batches: &[Batch],
+    ) -> Result<(), KeeperFault>
+        ensures fault { IfErr result HasStopped }
+    {
+        if batches.is_empty() {
+            return Ok(());
+        }
+        if let Err(fault) = self.keeper.round(alloc, batches) {
+            go_on_after(fault)?;
+            lose_all(rt, logs, batches);
+        }
+        Ok(())
+    }
+
+    /// Writes a round to the next file alone, where there is anything.
+    fn round_next<R: Wait>(
+        &mut self,
+        rt: &R,
+        alloc: Global,
+        logs: &Logs,
+        batches: &[Batch],
+    ) -> Result<(), KeeperFault>
+        ensures fault { IfErr result HasStopped }
+    {
+        if batches.is_empty() {
+            return Ok(());
+        }
+        if let Err(fault) = self.keeper.round_next(alloc, batches) {
+            go_on_after(fault)?;
+            lose_all(rt, logs, batches);
+        }
+        Ok(())
+    }
+
+    /// Notes that all is there, where no round was written for a second.
+    pub(crate) fn rest<R: Clock>(&mut self, rt: &R, alloc: Global) -> Result<(), KeeperFault>
+        ensures fault { IfErr result HasStopped }
+    {
+        let idle = now_of(rt).saturating_sub(self.wrote_at);
+        if idle < Duration::from_secs(REST) {
+            return Ok(());
+        }
+        match self.keeper.rest(alloc) {
+            Ok(()) => Ok(()),
+            Err(fault) => go_on_after(fault),
+        }
+    }
+}
+
+/// That a keeper goes on after a fault. `Failed`, `Stopped` where it does not.
+pub(crate) fn go_on_after(fault: KeeperFault) -> Result<(), KeeperFault>
+    ensures on { result ≡ goes_on_after fault }
+    ensures fault { IfErr result HasStopped }
+{
+    match fault {
+        KeeperFault::Failed(_) | KeeperFault::Stopped => Err(fault),
+        KeeperFault::NoMemory | KeeperFault::Refused(_) | KeeperFault::NoSwitch => Ok(()),
+    }
+}
+
+/// The heaps of these batches have jumped.
+fn lose_all<R: Wait>(rt: &R, logs: &Logs, batches: &[Batch]) {
+    for batch in batches {
+        if let Some(op) = batch.ops().first() {
+            logs.lose(rt, op.heap());
+        }
+    }
+}
+
+/// The next batch of a heap, of operations that a heap of this vector has, where one is given.
+/// Where memory for it is refused the heap has jumped.
+fn next_batch<R: Wait>(
+    rt: &R,
+    alloc: Global,
+    logs: &Logs,
+    heap: u8,
+    within: Option<&Vector>,
+) -> Option<Batch> {
+    let Ok(ops) = logs.take_unwritten(rt, alloc, heap, within) else {
+        logs.lose(rt, heap);
+        return None;
+    };
+    if ops.is_empty() {
+        return None;
+    }
+    match Batch::new(alloc, ops) {
+        Ok(Some(batch)) => Some(batch),
+        Ok(None) | Err(_) => {
+            logs.lose(rt, heap);
+            None
+        }
+    }
+}
