@@ -5,6 +5,7 @@ use Rattle.std.proofs.Crossing.{crosses}
 use Rattle.std.specs.contracts.net.socket_addr.SocketAddr as SocketAddr
 use Rattle.zq_serve.specs.contracts.fault.Cause as Cause
 use Rattle.zq_serve.specs.contracts.fault.ServeFault as ServeFault
+use Rattle.zq_site.specs.contracts.begun.Begun as Begun
 use Rattle.zq_site.specs.contracts.ending.Ending as Ending
 use Rattle.zq_site.specs.contracts.ending.Stage as Stage
 use Rattle.zq_site.specs.contracts.front.Front as Front
@@ -17,10 +18,11 @@ use Rattle.zq_metrics.proofs.Crossing.{counters_sync}
 use Rattle.zq_admin.proofs.Crossing.{found_send}
 use Rattle.zq_peers.proofs.Crossing.{mailbox_sync}
 use Rattle.zq_replica.specs.contracts.logs.Logs as Logs
-use Rattle.zq_serve.proofs.Crossing.{admission_sync, desk_sync, gate_sync}
+use Rattle.zq_serve.proofs.Crossing.{admission_sync, commits_sync, desk_sync, gate_sync}
 use Rattle.zq_settings.specs.contracts.values.SiteSettings as SiteSettings
 use Rattle.zq_site.specs.contracts.hiring.Hiring as Hiring
 use Rattle.zq_site.specs.contracts.survey.Survey as Survey
+use Rattle.zq_store.specs.contracts.started.Started as Started
 
 traffic_sync : IsSync Traffic.the_row
 traffic_sync = search (sendable, crosses) depth 100 fits 100000
@@ -55,6 +57,12 @@ stage_send = search (fault_send, sendable, crosses) depth 100 fits 100000
 pub ending_sync : IsSync Ending.the_row
 ending_sync = search (stage_send, sendable, crosses) depth 100 fits 100000
 
+started_send : IsSend Started.the_row
+started_send = search (sendable, crosses) depth 100 fits 100000
+
+begun_sync : IsSync Begun.the_row
+begun_sync = search (started_send, fault_send, sendable, crosses) depth 100 fits 100000
+
 survey_sync : IsSync Survey.the_row
 survey_sync = search (found_send, sendable, crosses) depth 100 fits 100000
 
@@ -65,4 +73,4 @@ settings_sync : IsSync SiteSettings.the_row
 settings_sync = search (address_send, sendable, crosses) depth 100 fits 100000
 
 pub shared_send : (κ : NamedLft) → IsSend (Shared.the_row κ)
-shared_send κ = search (settings_sync, link_sync, post_sync, logs_sync, hiring_sync, ending_sync, front_sync, meters_sync, admission_sync, desk_sync, gate_sync, mailbox_sync, sendable, crosses) depth 60 fits 100000
+shared_send κ = search (settings_sync, begun_sync, commits_sync, link_sync, post_sync, logs_sync, hiring_sync, ending_sync, front_sync, meters_sync, admission_sync, desk_sync, gate_sync, mailbox_sync, sendable, crosses) depth 60 fits 100000

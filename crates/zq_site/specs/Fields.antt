@@ -44,6 +44,12 @@ count_pairs report = append_known (field (codes "heap") number_text report.heap)
     (append_known (field (codes "known") number_text report.known)
     (field (codes "made") number_text report.made))
 
+-- how it stands with the log on disk
+abbrev pub disk_pairs : Report → Option (List Pair)
+disk_pairs report = append_known (field (codes "start") number_text report.start)
+    (append_known (field (codes "bytes") number_text report.bytes)
+    (field (codes "was") number_text report.was))
+
 -- where the site listens
 abbrev pub place_pairs : Report → Option (List Pair)
 place_pairs report = append_known (field (codes "clients") address_text report.clients)
@@ -53,4 +59,5 @@ place_pairs report = append_known (field (codes "clients") address_text report.c
 -- all of them: of each field that is none there is no pair
 abbrev pub pairs_of : Report → Option (List Pair)
 pairs_of report = append_known (peer_pairs report)
-    (append_known (link_pairs report) (append_known (count_pairs report) (place_pairs report)))
+    (append_known (link_pairs report)
+    (append_known (count_pairs report) (append_known (disk_pairs report) (place_pairs report))))

@@ -4,7 +4,7 @@ use Rattle.log.specs.declared.level.Level.{Level}
 use Rattle.log.specs.declared.level.Level.TheVariants.{Debug, Info, Warn}
 use Rattle.std.specs.Prelude.{List, codes, ℕ}
 use Rattle.zq_site.specs.declared.happening.Happening.{Happening}
-use Rattle.zq_site.specs.declared.happening.Happening.TheVariants.{AcceptedByPeer, CallerLeft, CaughtUp, DialFailed, DrainUnfinished, Fenced, FrameDropped, FrameTooLong, Joined, LinkLost, LinkNotOpened, LinkUp, Listening, NoPeerHeard, NumberUsedTwice, PeerNotHeard, PeerReachable, PeerRefused, PeerUnreachable, RefusedByPeer, Stopped, Stopping}
+use Rattle.zq_site.specs.declared.happening.Happening.TheVariants.{AcceptedByPeer, CallerLeft, CaughtUp, DialFailed, DrainUnfinished, Fenced, FrameDropped, FrameTooLong, Joined, LinkLost, LinkNotOpened, LinkUp, Listening, LogRead, LogSwitched, NoPeerHeard, NumberUsedTwice, PeerNotHeard, PeerReachable, PeerRefused, PeerUnreachable, RefusedByPeer, Stopped, Stopping}
 
 -- which lines say it
 abbrev pub level_of : Happening → Level
@@ -21,6 +21,8 @@ level_of FrameTooLong = Warn
 level_of PeerUnreachable = Warn
 level_of DrainUnfinished = Warn
 level_of Listening = Info
+level_of LogRead = Info
+level_of LogSwitched = Info
 level_of LinkUp = Info
 level_of PeerReachable = Info
 level_of AcceptedByPeer = Info
@@ -46,6 +48,8 @@ words_of FrameTooLong = codes "frame too long"
 words_of PeerUnreachable = codes "peer unreachable"
 words_of DrainUnfinished = codes "drain unfinished"
 words_of Listening = codes "listening"
+words_of LogRead = codes "log read"
+words_of LogSwitched = codes "log switched"
 words_of LinkUp = codes "link up"
 words_of PeerReachable = codes "peer reachable"
 words_of AcceptedByPeer = codes "accepted by peer"

@@ -1,6 +1,5 @@
 pub mod Pause
 pub mod Times
-pub mod Draining
 pub mod LinkStates
 pub mod Meetings
 pub mod Words

@@ -7,7 +7,6 @@ use Rattle.zq_site.specs.declared.notice.Notice.{Notice}
 use Rattle.zq_site.specs.declared.notice.Notice.TheVariants.{Kept, Refused, Unwelcome}
 use Rattle.zq_site.specs.declared.notice.Reason.{Reason}
 use Rattle.zq_site.specs.declared.notice.Reason.TheVariants.{Secret, Unexpected}
-use Rattle.zq_site.specs.declared.warning.Warning.{Warning}
 use Rattle.zq_site.specs.declared.warning.Warning.TheVariants as warning
 use Rattle.zq_site.specs.declared.outcome.Outcome.{Outcome}
 use Rattle.zq_site.specs.declared.outcome.Outcome.TheVariants.{Ends, Nothing, Warns}

@@ -10,6 +10,8 @@ use Rattle.zq_site.specs.declared.happening.Happening.TheVariants as what
 use Rattle.zq_site.specs.declared.loss.Loss.{Loss}
 use Rattle.zq_site.specs.declared.note.LinkUp.{LinkUp}
 use Rattle.zq_site.specs.declared.note.Listening.{Listening}
+use Rattle.zq_site.specs.declared.note.LogRead.{LogRead}
+use Rattle.zq_site.specs.declared.note.LogSwitched.{LogSwitched}
 use Rattle.zq_site.specs.declared.note.Note.{Note}
 use Rattle.zq_site.specs.declared.note.Note.TheVariants as note
 use Rattle.zq_site.specs.declared.report.Report.{Report}
@@ -30,6 +32,9 @@ of happening = record {
   heap = None;
   known = None;
   made = None;
+  start = None;
+  bytes = None;
+  was = None;
   clients = None;
   links = None;
   admin = None;
@@ -91,10 +96,27 @@ of_listening listening = record (of what.Listening) {
 abbrev pub of_link : LinkUp → Report
 of_link link = record (at what.LinkUp link.caller) { version = Some link.version; run = link.run }
 
+-- a log on disk that was read
+abbrev pub of_read : LogRead → Report
+of_read read = record (of what.LogRead) {
+  run = Some read.folder;
+  start = Some read.start;
+  bytes = Some read.bytes;
+}
+
+-- one that was switched to another file
+abbrev pub of_switch : LogSwitched → Report
+of_switch switched = record (of what.LogSwitched) {
+  bytes = Some switched.bytes;
+  was = Some switched.was;
+}
+
 -- what is noted
 abbrev pub of_note : Note → Report
 of_note (note.Listening listening) = of_listening listening
 of_note (note.LinkUp link) = of_link link
+of_note (note.LogRead read) = of_read read
+of_note (note.LogSwitched switched) = of_switch switched
 of_note (note.Accepted caller) = at what.AcceptedByPeer caller
 of_note note.Joined = of what.Joined
 of_note note.CaughtUp = of what.CaughtUp

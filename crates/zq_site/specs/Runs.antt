@@ -1,67 +1,74 @@
 -- Which run of a peer's number has its link, and whose operations are known.
 
-use Rattle.std.specs.Prelude.{Bool, List, None, Option, Some, [], false, if◌then◌else◌, true, ℕ, ◌∷◌, ◌≡◌}
+use Rattle.std.specs.Prelude.{Bool, List, None, Option, Some, [], false, if◌then◌else◌, nat_le, true, ◌&&◌, ◌<◌, ◌∷◌, ◌≡◌, ◌≢◌, ◌≤◌, ◌⊎◌}
 use Rattle.std.specs.Str.{bytes_eq}
+use Rattle.zq_site.specs.declared.run_order.RunId.{RunId}
 use Rattle.zq_wire.specs.declared.run.Run.{Run}
 
--- whether the run that came is the one that is there
-abbrev pub is_run : List ℕ → Option (List ℕ) → Bool
-is_run run None = false
-is_run run (Some other) = bytes_eq run other
+-- whether the other is of the name of the run, and no earlier start than that
+abbrev pub goes_on : RunId → RunId → Bool
+goes_on run other = bytes_eq run.name other.name && nat_le run.start other.start
 
 -- whether the link of the run that came may take the place of the one of the run that is there
-abbrev pub may_take : Option (List ℕ) → Option (List ℕ) → Bool → Bool
+abbrev pub may_take : Option RunId → Option RunId → Bool → Bool
 may_take there came false = true
 may_take None came true = true
-may_take (Some run) came true = is_run run came
+may_take (Some run) None true = false
+may_take (Some run) (Some other) true = goes_on run other
 
--- the name of a run that was told
-abbrev pub name_of : Option Run → Option (List ℕ)
-name_of None = None
-name_of (Some run) = Some run.name
+-- what tells a run from others: its name and its start
+abbrev pub run_id : Run → RunId
+run_id run = record { name = run.name; start = run.start }
 
--- What is known of the runs of a peer's number: the name of the run of the latest link, the name of
--- the run whose operations the site may have, and the run of the latest link where it is another
--- one, until it is judged.
+-- the same of a run that was told
+abbrev pub id_of : Option Run → Option RunId
+id_of None = None
+id_of (Some run) = Some (run_id run)
+
+-- What is known of the runs of a peer's number: the run of the latest link, the run whose
+-- operations the site may have, and the run of the latest link where it is another one, until it is
+-- judged.
 pub record KnownRuns : Type 0 where
-  pub latest : Option (List ℕ)
-  pub known : Option (List ℕ)
+  pub latest : Option RunId
+  pub known : Option RunId
   pub newcomer : Option Run
 
 abbrev pub no_runs : KnownRuns
 no_runs = record { latest = None; known = None; newcomer = None }
 
--- the one that is there, and else the other
-abbrev pub first_of : Option (List ℕ) → Option (List ℕ) → Option (List ℕ)
-first_of None other = other
-first_of (Some there) other = Some there
+-- the run that is known once the other took its place: the other, where none is known, or where it
+-- goes on from the one that is
+abbrev pub kept_of : Option RunId → Option RunId → Option RunId
+kept_of None other = other
+kept_of (Some known) None = Some known
+kept_of (Some known) (Some other) = if goes_on known other then Some other else Some known
 
--- a run that was told, where it is another one than is known
-abbrev pub newcomer_to : Option (List ℕ) → Option Run → Option Run
+-- a run that was told, where it does not go on from the one that is known
+abbrev pub newcomer_to : Option RunId → Option Run → Option Run
 newcomer_to None run = None
 newcomer_to (Some known) None = None
-newcomer_to (Some known) (Some run) = if bytes_eq known run.name then None else Some run
+newcomer_to (Some known) (Some run) = if goes_on known (run_id run) then None else Some run
 
 -- a link of this run has taken its place
 abbrev pub taken : Option Run → KnownRuns → KnownRuns
 taken run runs = record {
-  latest = name_of run;
-  known = first_of runs.known (name_of run);
+  latest = id_of run;
+  known = kept_of runs.known (id_of run);
   newcomer = newcomer_to runs.known run;
 }
 
 -- whether a link of this run takes the place of the latest, which is up or is not
 abbrev pub is_taken : Option Run → Bool → KnownRuns → Bool
-is_taken run is_up runs = may_take runs.latest (name_of run) is_up
+is_taken run is_up runs = may_take runs.latest (id_of run) is_up
 
 -- a link of this run has come, and has taken its place or has been let go
 abbrev pub came : Option Run → Bool → KnownRuns → KnownRuns
 came run is_up runs = if is_taken run is_up runs then taken run runs else runs
 
 -- the run that is known once the newcomer was judged
-abbrev pub known_after : Option Run → Option (List ℕ) → Option (List ℕ)
+abbrev pub known_after : Option Run → Option RunId → Option RunId
 known_after None known = known
-known_after (Some run) known = Some run.name
+known_after (Some run) known = Some (run_id run)
 
 -- the newcomer was judged: it counts as known
 abbrev pub judged : KnownRuns → KnownRuns
@@ -86,19 +93,35 @@ abbrev pub all_came_up : List (Option Run) → KnownRuns → KnownRuns
 all_came_up [] runs = runs
 all_came_up (run ∷ later) runs = all_came_up later (came run true runs)
 
--- While a link is up that told its run, no other run takes its place, whichever links come.
+-- the latest run is of the name of this one, and no earlier start of it
+abbrev pub IsNoEarlier : RunId → Option RunId → Type 0
+IsNoEarlier run None = ⊥
+IsNoEarlier run (Some latest) = (latest.name ≡ run.name) × (run.start ≤ latest.start)
+
+-- While a link is up that told its run, the latest keeps that name, and its start never falls,
+-- whichever links come.
 abbrev pub RunKeepsItsLink : Type 0
-RunKeepsItsLink = (comings : List (Option Run)) (runs : KnownRuns) (run : List ℕ) →
-    runs.latest ≡ Some run → (all_came_up comings runs).latest ≡ Some run
+RunKeepsItsLink = (comings : List (Option Run)) (runs : KnownRuns) (run : RunId) →
+    runs.latest ≡ Some run → IsNoEarlier run (all_came_up comings runs).latest
 
--- Whichever links come, the run that is known stays the one that was known before: another run
--- counts as known only once it was judged.
+-- Whichever links come, the run that is known keeps its name, and its start never falls: another
+-- name, or an earlier start, counts as known only once it was judged.
 abbrev pub KnownStaysKnown : Type 0
-KnownStaysKnown = (comings : List Coming) (runs : KnownRuns) (known : List ℕ) →
-    runs.known ≡ Some known → (all_came comings runs).known ≡ Some known
+KnownStaysKnown = (comings : List Coming) (runs : KnownRuns) (known : RunId) →
+    runs.known ≡ Some known → IsNoEarlier known (all_came comings runs).known
 
--- A run that took its place, and is another one than is known, waits to be judged.
+-- A run that took its place, and has another name or an earlier start than the one that is known,
+-- waits to be judged.
 abbrev pub NewcomerIsJudged : Type 0
-NewcomerIsJudged = (run : Run) (is_up : Bool) (runs : KnownRuns) (known : List ℕ) →
-    runs.known ≡ Some known → bytes_eq known run.name ≡ false →
+NewcomerIsJudged = (run : Run) (is_up : Bool) (runs : KnownRuns) (known : RunId) →
+    runs.known ≡ Some known → (known.name ≢ run.name) ⊎ (run.start < known.start) →
     is_taken (Some run) is_up runs ≡ true → (came (Some run) is_up runs).newcomer ≡ Some run
+
+-- A later start of the run that is known, which took its place, is what is known then, and does not
+-- wait.
+abbrev pub LaterStartIsKnown : Type 0
+LaterStartIsKnown = (run : Run) (is_up : Bool) (runs : KnownRuns) (known : RunId) →
+    runs.known ≡ Some known → known.name ≡ run.name → known.start ≤ run.start →
+    is_taken (Some run) is_up runs ≡ true →
+    ((came (Some run) is_up runs).known ≡ Some (run_id run)) ×
+    ((came (Some run) is_up runs).newcomer ≡ None)

@@ -1,10 +1,13 @@
-//! What is written once both addresses are listened on.
+//! What is said once both addresses are listened on.
 
 ghost use Rattle.std.specs.Io.KnownBytes.{Appends};
-ghost use Rattle.std.specs.Prelude.{OnOk};
+ghost use Rattle.std.specs.Net.Socket.{socket_ip, socket_port};
+ghost use Rattle.std.specs.Prelude.{OnOk, ◌≡◌};
 ghost use Rattle.zq_site.specs.Site.{announced};
 
+use crate::note::Listening;
 use std::io::Write;
+use std::net::SocketAddr;
 use zq_serve::{Cause, ServeFault};
 use zq_settings::SiteSettings;
 
@@ -22,4 +25,21 @@ pub fn announce<W: Write>(settings: &SiteSettings, out: &mut W) -> Result<(), Se
         return Err(ServeFault::Device(Cause::Output));
     }
     Ok(())
+}
+
+/// Where a site of these settings listens.
+pub fn listening_of(settings: &SiteSettings) -> Listening {
+    Listening {
+        clients: clients_address(settings),
+        links: settings.listen,
+        admin: settings.admin.heard_at(),
+    }
+}
+
+/// Where clients connect: the port of the settings at the address of `bind`.
+pub fn clients_address(settings: &SiteSettings) -> SocketAddr
+    ensures ip { socket_ip result ≡ settings.now.bind }
+    ensures port { socket_port result ≡ settings.now.port }
+{
+    SocketAddr::new(settings.bind, settings.port.value() as u16)
 }

@@ -34,6 +34,10 @@ pub enum Happening {
     DrainUnfinished,
     /// The site listens for clients, for peers, and for who asks how it is.
     Listening,
+    /// The log on disk was read, and the site goes on with what it has.
+    LogRead,
+    /// The log on disk was switched to another file, which begins with copies of the heaps.
+    LogSwitched,
     /// A link is up, and a frame of the peer came.
     LinkUp,
     /// A peer can be dialled again.
@@ -74,6 +78,8 @@ impl Happening {
             | Happening::PeerUnreachable
             | Happening::DrainUnfinished => Level::Warn,
             Happening::Listening
+            | Happening::LogRead
+            | Happening::LogSwitched
             | Happening::LinkUp
             | Happening::PeerReachable
             | Happening::AcceptedByPeer
@@ -104,6 +110,8 @@ impl Happening {
             Happening::PeerUnreachable => "peer unreachable",
             Happening::DrainUnfinished => "drain unfinished",
             Happening::Listening => "listening",
+            Happening::LogRead => "log read",
+            Happening::LogSwitched => "log switched",
             Happening::LinkUp => "link up",
             Happening::PeerReachable => "peer reachable",
             Happening::AcceptedByPeer => "accepted by peer",

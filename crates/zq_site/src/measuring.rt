@@ -2,6 +2,7 @@
 
 ghost use Rattle.zq_node.specs.Node.{IsNode, IsSameHome};
 
+use crate::peer_link::PeerLink;
 use crate::shared::Shared;
 use std::sync::Wait;
 use std::time::{Clock, Duration};
@@ -121,9 +122,9 @@ pub fn measure_process<R: Clock, M: Memory>(
     }
 }
 
-/// A second went by at each link.
-pub fn tick_links(shared: Shared<'_>) {
-    for peer_link in shared.peer_links {
+/// A second went by at each of these links.
+pub fn tick_links(peer_links: &[PeerLink]) {
+    for peer_link in peer_links {
         peer_link.traffic.tick();
     }
 }

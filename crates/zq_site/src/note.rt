@@ -15,6 +15,10 @@ use std::net::SocketAddr;
 pub enum Note {
     /// It listens.
     Listening(Listening),
+    /// The log on disk was read.
+    LogRead(LogRead),
+    /// The log on disk was switched to another file.
+    LogSwitched(LogSwitched),
     /// A link is up.
     LinkUp(LinkUp),
     /// A peer takes this site again.
@@ -42,6 +46,26 @@ pub struct Listening {
     pub admin: Option<SocketAddr>,
 }
 
+/// A log on disk that was read.
+#[derive(Clone, Copy)]
+pub struct LogRead {
+    /// What names its folder.
+    pub folder: RunName,
+    /// The number of this start.
+    pub start: u64,
+    /// How long the log is.
+    pub bytes: u64,
+}
+
+/// A log on disk that was switched to another file.
+#[derive(Clone, Copy, Debug, PartialEq, Eq)]
+pub struct LogSwitched {
+    /// How long it was.
+    pub was: u64,
+    /// How long it is.
+    pub bytes: u64,
+}
+
 /// A link that is up.
 #[derive(Clone, Copy)]
 pub struct LinkUp {
@@ -60,6 +84,8 @@ impl Note {
     {
         match self {
             Note::Listening(listening) => report_of_listening(listening),
+            Note::LogRead(read) => report_of_read(read),
+            Note::LogSwitched(switched) => report_of_switch(switched),
             Note::LinkUp(link) => report_of_link(link),
             Note::Accepted(caller) => Report::at(Happening::AcceptedByPeer, caller),
             Note::Joined => Report::of(Happening::Joined),
@@ -82,6 +108,29 @@ fn report_of_listening(listening: Listening) -> Report
         links: Some(listening.links),
         admin: listening.admin,
         ..Report::of(Happening::Listening)
+    }
+}
+
+/// What the log says of a log on disk that was read.
+fn report_of_read(read: LogRead) -> Report
+    ensures { result ≡ wanted.of_read read }
+{
+    Report {
+        run: Some(read.folder),
+        start: Some(read.start),
+        bytes: Some(read.bytes),
+        ..Report::of(Happening::LogRead)
+    }
+}
+
+/// What the log says of one that was switched.
+fn report_of_switch(switched: LogSwitched) -> Report
+    ensures { result ≡ wanted.of_switch switched }
+{
+    Report {
+        bytes: Some(switched.bytes),
+        was: Some(switched.was),
+        ..Report::of(Happening::LogSwitched)
     }
 }
 

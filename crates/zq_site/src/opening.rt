@@ -29,12 +29,6 @@ const SPOKEN: Versions = Versions {
     highest: STREAMING,
 };
 
-/// The number of the start of a site that keeps nothing over it.
-const START: u64 = 1;
-
-/// The most heaps of a site.
-const MOST_HEAPS: usize = 16;
-
 /// How a stream came to be.
 #[derive(Clone, Copy, Debug, PartialEq, Eq)]
 pub enum Way {
@@ -97,8 +91,7 @@ pub fn open_link<R: RandomSource + Clock + Wait>(
         Way::Dials(form) => form,
         Way::Accepts => Form::New,
     };
-    // A site that keeps nothing begins with no operation.
-    let counters = [0u64; MOST_HEAPS];
+    let counters = shared.run.counters;
     let heaps = shared.settings.heaps.value() as usize;
     let side = side_of(shared, peers, secret, form, &counters[..heaps]);
     let mut reader = Hasty::new(rt, shared, stream, times::opening())?;
@@ -130,7 +123,8 @@ fn side_of<'a>(
     ensures peers { result.peers.now ≡ peers.now }
     ensures secret { result.secret ≡ secret.entry }
     ensures form { result.form ≡ form }
-    ensures run { result.run ≡ shared.entry.run }
+    ensures run { result.run ≡ shared.entry.run.name }
+    ensures start { result.start ≡ shared.entry.run.start }
     ensures counters { result.counters.now ≡ counters.now }
 {
     Side {
@@ -141,8 +135,8 @@ fn side_of<'a>(
         secret,
         versions: SPOKEN,
         form,
-        run: shared.run,
-        start: START,
+        run: shared.run.name,
+        start: shared.run.start,
         counters,
     }
 }

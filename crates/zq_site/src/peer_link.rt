@@ -116,8 +116,8 @@ impl PeerLink {
     }
 
     /// A link is up over this stream, with this protocol, to the run of the peer that it told, in
-    /// the place of an older link to the same run, whose stream is shut down. Where a link to
-    /// another run is up, that one stays.
+    /// the place of an older link to the same run or to an earlier start, whose stream is shut
+    /// down. Where a link to a run of another name or to a later start is up, that one stays.
     pub fn raise<R: Wait>(
         &self,
         rt: &R,

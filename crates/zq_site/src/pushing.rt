@@ -7,6 +7,7 @@ use crate::beginning::Beginning;
 use crate::measuring::measure_links;
 use crate::notice::{Notice, read_notice, write_notice};
 use crate::outcome::{Outcome, outcome_of};
+use crate::peer_link::PeerLink;
 use crate::peer_links::peer_link_of;
 use crate::post::{Delivery, Event};
 use crate::running::MOST_PARKED;
@@ -23,7 +24,10 @@ use zq_node::Node;
 use zq_posheap::Seeded;
 use zq_replica::{PORTION, Parcels, Portioning, Protocol, Replica, window_for};
 use zq_serve::NodeWork;
-use zq_wire::RUN;
+use zq_wire::Run;
+
+/// How many lives of a heap there are between those of one start and the next.
+const STARTS_APART: u64 = 1 << 32;
 
 /// Pushing to the peers of a site.
 #[derive(Drop)]
@@ -66,11 +70,15 @@ impl<L: Log + Wait> NodeWork for Pushing<'_, L> {
     }
 }
 
-/// The first life of this run's heaps: another run begins with another one.
-fn life_of(run: &[u8; RUN]) -> u64 {
-    run.iter()
+/// The first life of this run's heaps at this start of it: another run, and another start, begins
+/// with another one, since the members of the heaps lie at other places.
+fn life_of(run: &Run) -> u64 {
+    let life = run
+        .name
+        .iter()
         .take(8)
-        .fold(0, |life: u64, byte| life << 8 | u64::from(*byte))
+        .fold(0, |life: u64, byte| life << 8 | u64::from(*byte));
+    life.wrapping_add(run.start.wrapping_mul(STARTS_APART))
 }
 
 /// Hears what comes over the links, and pushes to the peers what they lack, until the site ends, or
@@ -116,20 +124,20 @@ fn serve<L: Log + Wait>(
         beats,
     } = delivery;
     let heard = !events.is_empty();
-    hear_all(log, shared, node, replica, events);
+    let mut out = Vec::new(shared.alloc);
+    hear_all(log, shared, node, replica, events, &mut out);
     if shared.admission.is_fenced() {
         return false;
     }
+    let peers = without_those_of(with_room(log, shared.peer_links), &out);
     if heard || beats {
         beginning.go_on(log, shared, node, replica, beats);
     }
     if heard || beats {
         shared.mailbox.tick(log);
     }
-    let mut out = Vec::new(shared.alloc);
     beat(log, shared, node, replica, beats, &mut out);
     tell(log, shared, node, replica, calls, &mut out);
-    let peers = with_room(log, shared);
     let more = replica.push(log, shared.alloc, node, &peers, &mut out);
     post_all(log, shared, out);
     if shared.front.leaves() {
@@ -193,30 +201,48 @@ fn tell<L: Log + Wait>(
     let _ = replica.tell_haves(log, shared.alloc, node, out);
 }
 
-/// Does what these events ask for, in their order, until it is found that another run used the
-/// site's number. Then no link is up any more, so that what waits for a peer is not sent.
+/// Does what these events ask for, in their order, and appends what is to be sent then, until it is
+/// found that another run used the site's number. Then no link is up any more, so that what waits
+/// for a peer is not sent.
 fn hear_all<L: Log + Wait>(
     log: &L,
     shared: Shared<'_>,
     node: &mut Node<'_>,
     replica: &mut Replica<'_>,
     events: VecDeque<Event>,
+    out: &mut Parcels,
 )
     requires { IsNode node.old }
     ensures node { IsNode node.new }
     ensures home { IsSameHome node.old node.new }
 {
     for event in events {
-        let mut out = Vec::new(shared.alloc);
-        hear(log, shared, node, replica, event, &mut out);
+        let mut made = Vec::new(shared.alloc);
+        hear(log, shared, node, replica, event, &mut made);
         if let Some(fenced) = replica.fenced() {
             fence(log, shared, Warning::Fenced(fenced));
         }
         if shared.admission.is_fenced() {
             break;
         }
-        post_all(log, shared, out);
+        append(made, out);
     }
+}
+
+/// Appends frames. What there is no memory for is lost.
+fn append(made: Parcels, out: &mut Parcels) {
+    for parcel in made {
+        let _ = out.push(parcel);
+    }
+}
+
+/// These peers, but for those to which a frame goes.
+fn without_those_of(peers: SiteSet, out: &Parcels) -> SiteSet {
+    let mut left = peers;
+    for parcel in out {
+        left = left.without(parcel.0);
+    }
+    left
 }
 
 /// Another run used the site's number: no command is answered any more, all links are taken down,
@@ -387,8 +413,12 @@ fn window_of(shared: Shared<'_>, links: usize) -> u64 {
     window_for(MOST_PARKED, links.max(listed), heaps)
 }
 
-/// Has each frame wait for its peer.
+/// Has each frame wait for its peer, once all that it may tell of is on the disk, where the site
+/// keeps a log.
 fn post_all<L: Wait>(rt: &L, shared: Shared<'_>, out: Parcels) {
+    if out.is_empty() || !is_kept(rt, shared) {
+        return;
+    }
     for (to, frame) in out {
         if let Some(peer_link) = peer_link_of(shared.peer_links, to) {
             peer_link.send(rt, frame);
@@ -396,10 +426,19 @@ fn post_all<L: Wait>(rt: &L, shared: Shared<'_>, out: Parcels) {
     }
 }
 
-/// The peers for which nothing waits.
-fn with_room<L: Wait>(rt: &L, shared: Shared<'_>) -> SiteSet {
+/// Waits until all that was made by now is on the disk, and says whether it is; where the site
+/// keeps no log there is nothing to wait for.
+fn is_kept<L: Wait>(rt: &L, shared: Shared<'_>) -> bool {
+    match shared.durable() {
+        Some(durable) => durable.confirm(rt),
+        None => true,
+    }
+}
+
+/// The peers of these links for which nothing waits.
+fn with_room<L: Wait>(rt: &L, peer_links: &[PeerLink]) -> SiteSet {
     let mut peers = SiteSet::empty();
-    for peer_link in shared.peer_links {
+    for peer_link in peer_links {
         if peer_link.has_room(rt) {
             peers = peers.with(peer_link.site);
         }

@@ -48,6 +48,12 @@ pub struct Report {
     pub known: Option<u64>,
     /// How many this run made.
     pub made: Option<u64>,
+    /// Which start of the site it is, of those that its log on disk has.
+    pub start: Option<u64>,
+    /// How many bytes that log has.
+    pub bytes: Option<u64>,
+    /// How many it had before.
+    pub was: Option<u64>,
     /// Where this site listens for clients.
     pub clients: Option<SocketAddr>,
     /// Where it listens for peers.
@@ -71,6 +77,9 @@ impl Report {
             heap: None,
             known: None,
             made: None,
+            start: None,
+            bytes: None,
+            was: None,
             clients: None,
             links: None,
             admin: None,
@@ -119,6 +128,7 @@ impl Source for Report {
         self.visit_peer(visitor)?;
         self.visit_link(visitor)?;
         self.visit_counts(visitor)?;
+        self.visit_disk(visitor)?;
         self.visit_places(visitor)
     }
 }
@@ -126,7 +136,13 @@ impl Source for Report {
 impl Report {
     ghost use Rattle.std.specs.List.{FoldsTo};
     ghost use Rattle.std.specs.Prelude.{IfSome, OnOk};
-    ghost use Rattle.zq_site.specs.Fields.{count_pairs, link_pairs, peer_pairs, place_pairs};
+    ghost use Rattle.zq_site.specs.Fields.{
+      count_pairs,
+      disk_pairs,
+      link_pairs,
+      peer_pairs,
+      place_pairs,
+    };
 
     /// Of whom it is.
     fn visit_peer<V: VisitSource>(&self, visitor: &mut V) -> Result<(), kv::Error>
@@ -155,6 +171,16 @@ impl Report {
         visit_some(visitor, "heap", self.heap)?;
         visit_some(visitor, "known", self.known)?;
         visit_some(visitor, "made", self.made)
+    }
+
+    /// How it stands with the log on disk.
+    fn visit_disk<V: VisitSource>(&self, visitor: &mut V) -> Result<(), kv::Error>
+        ensures { OnOk result (IfSome (disk_pairs self.now)
+            (λ ps. FoldsTo V.visit_pair_gives visitor.old ps visitor.new)) }
+    {
+        visit_some(visitor, "start", self.start)?;
+        visit_some(visitor, "bytes", self.bytes)?;
+        visit_some(visitor, "was", self.was)
     }
 
     /// Where the site listens.

@@ -1,20 +1,31 @@
 //! Which run of a peer's number has its link, and whose operations are known.
 
 ghost use Rattle.std.specs.Prelude.{◌≡◌};
-ghost use Rattle.zq_site.specs.Runs.{came, first_of, is_taken, judged, may_take, name_of, newcomer_to, no_runs};
+ghost use Rattle.zq_site.specs.Runs.{came, goes_on, id_of, is_taken, judged, kept_of, may_take, newcomer_to, no_runs};
 
 use std::marker::Model;
 use zq_wire::{RUN, Run};
 
+/// What tells runs apart: the name of a run's folder, and the number of its start. A copy of a
+/// folder has the same name.
+#[derive(Clone, Copy, Debug)]
+pub struct RunId {
+    /// What names the folder.
+    pub name: [u8; RUN],
+    /// The number of the start.
+    pub start: u64,
+}
+
 /// Whether a link of the run that came may take the place of the one of the run that is there:
-/// where that is up no more, where it told no run, and where both are of one run.
-pub fn may_take(there: Option<[u8; RUN]>, came: Option<[u8; RUN]>, is_up: bool) -> bool
+/// where that is up no more, where it told no run, and where both are of one name and the run that
+/// came is no earlier start than the one that is there.
+pub fn may_take(there: Option<RunId>, came: Option<RunId>, is_up: bool) -> bool
     ensures { result ≡ may_take there came is_up }
 {
     match (is_up, there, came) {
         (false, _, _) | (true, None, _) => true,
         (true, Some(_), None) => false,
-        (true, Some(run), Some(other)) => run.as_slice() == other.as_slice(),
+        (true, Some(run), Some(other)) => goes_on(run, other),
     }
 }
 
@@ -22,10 +33,12 @@ pub fn may_take(there: Option<[u8; RUN]>, came: Option<[u8; RUN]>, is_up: bool) 
 #[derive(Clone, Copy, Debug)]
 pub struct Runs {
     /// The run of the latest link, where it told it.
-    latest: Option<[u8; RUN]>,
-    /// The run whose operations this site may have, where a link was ever up.
-    known: Option<[u8; RUN]>,
-    /// The run of the latest link, where it is another one than is known, until it is judged.
+    latest: Option<RunId>,
+    /// The run whose operations this site may have, where a link was ever up: the latest start of
+    /// its name that came.
+    known: Option<RunId>,
+    /// The run of the latest link, where it does not go on from the one that is known, until it is
+    /// judged.
     newcomer: Option<Run>,
 }
 
@@ -65,21 +78,21 @@ impl Runs {
         ensures after { self.new ≡ came run is_up self.old }
     {
         let Runs { latest, known, .. } = *self;
-        let name = name_of(run);
-        if !may_take(latest, name, is_up) {
+        let id = id_of(run);
+        if !may_take(latest, id, is_up) {
             return false;
         }
         let newcomer = newcomer_to(known, run);
-        let known = first_of(known, name);
+        let known = kept_of(known, id);
         *self = Runs {
-            latest: name,
+            latest: id,
             known,
             newcomer,
         };
         true
     }
 
-    /// The run of the latest link, where it is another one than is known.
+    /// The run of the latest link, where it does not go on from the one that is known.
     pub fn newcomer(&self) -> Option<Run>
         ensures { result ≡ self.now.newcomer }
     {
@@ -96,7 +109,7 @@ impl Runs {
             newcomer,
         } = *self;
         let known = match newcomer {
-            Some(_) => name_of(newcomer),
+            Some(_) => id_of(newcomer),
             None => known,
         };
         *self = Runs {
@@ -107,35 +120,44 @@ impl Runs {
     }
 }
 
-/// The name of a run that was told.
-fn name_of(run: Option<Run>) -> Option<[u8; RUN]>
-    ensures { result ≡ name_of run }
+/// What tells a run that was told from others.
+fn id_of(run: Option<Run>) -> Option<RunId>
+    ensures { result ≡ id_of run }
 {
     match run {
         Some(run) => {
-            let name = run.name;
-            Some(name)
+            let Run { name, start, .. } = run;
+            Some(RunId { name, start })
         }
         None => None,
     }
 }
 
-/// The one that is there, and else the other.
-fn first_of(there: Option<[u8; RUN]>, other: Option<[u8; RUN]>) -> Option<[u8; RUN]>
-    ensures { result ≡ first_of there other }
+/// Whether the other is of the name of the run, and no earlier start than that.
+fn goes_on(run: RunId, other: RunId) -> bool
+    ensures { result ≡ goes_on run other }
 {
-    match there {
-        Some(_) => there,
-        None => other,
+    run.name.as_slice() == other.name.as_slice() && run.start <= other.start
+}
+
+/// The run that is known once the other took its place: the other, where none is known, or where it
+/// goes on from the one that is.
+fn kept_of(known: Option<RunId>, other: Option<RunId>) -> Option<RunId>
+    ensures { result ≡ kept_of known other }
+{
+    match (known, other) {
+        (None, _) => other,
+        (Some(run), Some(id)) if goes_on(run, id) => other,
+        (Some(_), _) => known,
     }
 }
 
-/// A run that was told, where it is another one than is known.
-fn newcomer_to(known: Option<[u8; RUN]>, run: Option<Run>) -> Option<Run>
+/// A run that was told, where it does not go on from the one that is known.
+fn newcomer_to(known: Option<RunId>, run: Option<Run>) -> Option<Run>
     ensures { result ≡ newcomer_to known run }
 {
-    match (known, name_of(run)) {
-        (Some(known), Some(name)) if known.as_slice() != name.as_slice() => run,
+    match (known, id_of(run)) {
+        (Some(known), Some(id)) if !goes_on(known, id) => run,
         _ => None,
     }
 }

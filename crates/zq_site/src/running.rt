@@ -5,18 +5,24 @@ ghost use Rattle.zq_site.specs.Site.{acceptors_for};
 
 use crate::accepting::accept_peers;
 use crate::administering::{pass_on, serve_admin};
+use crate::announcing::{announce, listening_of};
 use crate::dialing::dial_line;
 use crate::draining::Draining;
 use crate::hired::hire_all;
 use crate::measuring::{measure_process, tick_links};
+use crate::note::Note;
 use crate::peer_links::is_dialled;
 use crate::peer_listener::PeerListener;
 use crate::pushing::Pushing;
 use crate::shared::Shared;
 use crate::times::{beat, fencing};
+use crate::warning_log::note_of;
 use log::Log;
+use std::fs::File;
+use std::io::Write;
 use std::net::{Net, TcpListener, TcpStream};
 use std::random::RandomSource;
+use std::rt::Files;
 use std::sync::Wait;
 use std::thread;
 use std::thread::Threads;
@@ -28,6 +34,8 @@ use zq_serve::{
     Cause, ClientThreads, Inboxes, Linker, Memory, MemoryGuard, ServeFault, SiteThreads,
     run_clients,
 };
+use zq_store::Started;
+use zq_wire::Run;
 
 /// How many threads accept peers at first.
 const FIRST_ACCEPTORS: usize = 1;
@@ -42,15 +50,18 @@ pub struct Seeds {
     pub draws: u64,
 }
 
-/// Runs the threads of a site: its link thread, what takes what calls make into the logs, what
-/// tells of each second and looks at the memory of the process, what dials each peer of a smaller
-/// number, what accepts peers, what starts more threads as links come, what answers at the admin
-/// port, if there is one, and what serves clients. When all clients are served the site ends: where
-/// it was told to end it waits until its peers have what it made; the threads of its links are told
-/// to halt, and then the link thread to stop, and all are waited for.
+/// Runs the threads of a site. First what takes what calls make into the logs, and onto the disk
+/// where the site keeps a log there: it says how the site begins. Then it is written to `out` where
+/// the site listens, and the others start: its link thread, what tells of each second and looks at
+/// the memory of the process, what dials each peer of a smaller number, what accepts peers, what
+/// starts more threads as links come, what answers at the admin port, if there is one, and what
+/// serves clients. When all clients are served the site ends: where it was told to end it waits until
+/// its peers have what it made; the threads of its links are told to halt, and then the link thread
+/// to stop, and all are waited for.
 ///
-/// `Device` where a thread did not start. Then no client is served.
-pub fn run_site<N, L>(
+/// `Device` where a thread did not start, `out` was not written, or the folder of its log is not
+/// taken, `NoMemory` where there is none to read that. Then no client is served.
+pub fn run_site<N, L, W>(
     net: &N,
     log: &L,
     shared: Shared<'_>,
@@ -59,24 +70,34 @@ pub fn run_site<N, L>(
     drainers: Vec<Linker<'_, '_>>,
     admin: Option<AdminPort>,
     seeds: Seeds,
+    out: &mut W,
 ) -> Result<(), ServeFault>
 where
-    N: Net<Listener = TcpListener, Stream = TcpStream> + Memory + Sync,
+    N: Net<Listener = TcpListener, Stream = TcpStream> + Files<File = File> + Memory + Sync,
+    N::Dir: Send,
     L: Log + RandomSource + Clock + Threads + Wait + Sync,
+    W: Write,
 {
     let SiteThreads { clients, linkers } = threads;
     thread::scope(thread::scope_env(), log, move |scope| {
         let mut ended = Ok(());
-        let port = first_port(&clients);
-        for linker in linkers {
-            let work = move || link_site(log, shared, linker, port, seeds.hasher);
+        let mut shared = shared;
+        for drainer in drainers {
+            let work = move || drain_site(net, log, shared, drainer, seeds.hasher);
             if scope.spawn(work).is_err() {
                 ended = Err(ServeFault::Device(Cause::Thread));
             }
         }
-        for drainer in drainers {
-            let work = move || drain_site(log, shared, drainer, seeds.hasher);
-            if scope.spawn(work).is_err() {
+        if ended.is_ok() {
+            match begin(log, shared, out) {
+                Ok(run) => shared.run = run,
+                Err(fault) => ended = Err(fault),
+            }
+        }
+        let port = first_port(&clients);
+        for linker in linkers {
+            let work = move || link_site(log, shared, linker, port, seeds.hasher);
+            if ended.is_ok() && scope.spawn(work).is_err() {
                 ended = Err(ServeFault::Device(Cause::Thread));
             }
         }
@@ -132,6 +153,7 @@ where
                 shared.admission,
                 &shared.meters.counters,
                 shared.desk,
+                shared.durable(),
             );
             ended = run_clients(log, shared.alloc, clients, inboxes, seeds.draws);
         }
@@ -145,6 +167,24 @@ where
         shared.post.stop(log);
         ended
     })
+}
+
+/// Waits until the site has begun, and says where it listens. A site whose log has operations of its
+/// own knows what its number has made, so that it waits for no peer before it takes writes. It gives
+/// the site's run.
+fn begin<L: Log + Wait, W: Write>(
+    log: &L,
+    shared: Shared<'_>,
+    out: &mut W,
+) -> Result<Run, ServeFault> {
+    let Started { run, .. } = shared.begun.wait(log)?;
+    if run.counters.iter().any(|counter| *counter > 0) {
+        shared.admission.open();
+    }
+    announce(shared.settings, out)?;
+    let listening = listening_of(shared.settings);
+    note_of(log, shared.settings.site, Note::Listening(listening));
+    Ok(run)
 }
 
 /// The port of the first site.
@@ -179,19 +219,24 @@ fn link_site<L: Log + Clock + Wait>(
     }
 }
 
-/// Takes what calls make into the logs, until the site is to stop.
-fn drain_site<L: Clock + Wait>(
+/// Takes what calls make into the logs, and onto the disk where the site keeps a log there, until
+/// the site is to stop. Where the site's pass is not there, nobody waits for how it begins.
+fn drain_site<N: Files<File = File>, L: Log + Clock + Wait>(
+    net: &N,
     log: &L,
     shared: Shared<'_>,
     drainer: Linker<'_, '_>,
     hasher: Seeded,
 ) {
     let draining = Draining {
+        net,
         log,
         shared,
         hasher,
     };
     drainer.lend(shared.alloc, 0, draining);
+    let lost = ServeFault::Device(Cause::Thread);
+    shared.begun.tell(log, Err(lost));
 }
 
 /// Looks each second how much memory the process has, measures it and the port, and tells the link
@@ -210,8 +255,11 @@ fn beat_time<M: Memory, L: Log + Wait + Clock>(
         if shared.halt.wait(log, beat()) {
             break;
         }
-        tick_links(shared);
+        tick_links(shared.peer_links);
         shared.post.beat(log);
+        if shared.durable().is_some() {
+            shared.mailbox.tick(log);
+        }
     }
 }
 

@@ -1,6 +1,5 @@
 //! Serving a site.
 
-ghost use Rattle.std.specs.Net.Socket.{socket_ip, socket_port};
 ghost use Rattle.std.specs.List.{AllZip};
 ghost use Rattle.std.specs.Prelude.{◌≡◌, IfSome, List, None, Some, ◌≤◌};
 ghost use Rattle.zq_journal.specs.Limits.{limits_of};
@@ -11,13 +10,14 @@ ghost use Rattle.zq_session.specs.declared.site_plan.SitePlan.{SitePlan as Plans
 ghost use Rattle.zq_site.specs.Site.{IsPlanOf, ended_by};
 
 use crate::administering::open_admin;
-use crate::announcing::announce;
+use crate::announcing::clients_address;
+use crate::begun::Begun;
 use crate::ending::Ending;
 use crate::front::Front;
 use crate::halt::Halt;
 use crate::hiring::Hiring;
 use crate::meters::Meters;
-use crate::note::{Listening, Note};
+use crate::note::Note;
 use crate::opening::draw_run;
 use crate::peer_links::{dialers_of, open_peer_links, others_of};
 use crate::peer_listener::PeerListener;
@@ -28,9 +28,11 @@ use crate::shared::Shared;
 use crate::warning_log::note_of;
 use log::Log;
 use std::alloc::{AllocError, Global};
+use std::fs::File;
 use std::io::Write;
-use std::net::{Net, SocketAddr, TcpListener, TcpStream};
+use std::net::{Net, TcpListener, TcpStream};
 use std::random::RandomSource;
+use std::rt::Files;
 use std::sync::Wait;
 use std::thread::{Threads, available_parallelism};
 use std::time::Clock;
@@ -40,11 +42,12 @@ use zq_peers::{Link, Mailbox};
 use zq_posheap::Seeded;
 use zq_replica::Logs;
 use zq_serve::{
-    Admission, Gate, Linker, Memory, ServeFault, SiteThreads, draw_hasher, guarded, limits_of,
-    listen, most_clients, most_waiting, open_port, plan_of, warn_few,
+    Admission, Commits, Gate, Linker, Memory, ServeFault, SiteThreads, draw_hasher, guarded,
+    limits_of, listen, most_clients, most_waiting, open_port, plan_of, warn_few,
 };
 use zq_session::{LentSite, close_sites, end_loan, lend_sites, open_sites};
 use zq_settings::{SiteSettings, WorkerCount};
+use zq_store::Started;
 
 // At most so many workers are taken where the settings do not say how many.
 const MOST_WORKERS: usize = 4;
@@ -88,6 +91,13 @@ const ADMIN_CONNECTIONS: u64 = 36;
 /// no connection any more, answers what was read, waits until its peers have what it made, for as
 /// many seconds as `drain` says, and ends.
 ///
+/// Where the settings have a folder the site keeps a log there, and begins with what it had: the
+/// line to `out` is written behind that. Where the log has operations of the site's own it waits for
+/// no peer before it takes writes. No frame that tells of an operation goes to a peer before that is
+/// on the disk, and no reply to a client unless the settings say so; what the admin port shows does
+/// not wait. Where the disk fails no frame and no reply leaves the site any more, `ending` tells who
+/// waits for it at once, and this call may not return.
+///
 /// What goes wrong at a connection, with a peer or on a link ends that alone, and is warned of in
 /// the log. The log's own handle does not connect within a time, so the net is passed beside it.
 ///
@@ -105,7 +115,8 @@ pub fn serve_site<N, L, W>(
     ending: &Ending,
 ) -> Result<(), ServeFault>
 where
-    N: Net<Listener = TcpListener, Stream = TcpStream> + Memory + Sync,
+    N: Net<Listener = TcpListener, Stream = TcpStream> + Files<File = File> + Memory + Sync,
+    N::Dir: Send,
     L: Log + RandomSource + Clock + Threads + Wait + Sync,
     W: Write,
 {
@@ -147,7 +158,8 @@ fn serve_lent<'a, N, L, W>(
     sites: &mut [LentSite<'a>],
 ) -> Result<(), ServeFault>
 where
-    N: Net<Listener = TcpListener, Stream = TcpStream> + Memory + Sync,
+    N: Net<Listener = TcpListener, Stream = TcpStream> + Files<File = File> + Memory + Sync,
+    N::Dir: Send,
     L: Log + RandomSource + Clock + Threads + Wait + Sync,
     W: Write,
     requires { (plans : List Plans) × IsPlanOf settings.now workers plans
@@ -175,7 +187,8 @@ fn serve_one<'a, N, L, W>(
     site: &mut LentSite<'a>,
 ) -> Result<(), ServeFault>
 where
-    N: Net<Listener = TcpListener, Stream = TcpStream> + Memory + Sync,
+    N: Net<Listener = TcpListener, Stream = TcpStream> + Files<File = File> + Memory + Sync,
+    N::Dir: Send,
     L: Log + RandomSource + Clock + Threads + Wait + Sync,
     W: Write,
     requires { IsManned workers site.old }
@@ -199,11 +212,11 @@ where
     let dialers = dialers_of(alloc, settings.site, &link.others)?;
     let mailbox = open_mailbox(alloc, settings)?;
     let gate = Gate::new();
+    let commits = Commits::new();
     let post = Post::new(alloc);
-    let run = draw_run(log)?;
+    let begun = Begun::new();
+    let Started { run, .. } = Started::anew(draw_run(log)?);
     let admin = open_admin(net, log, alloc, settings.admin.heard_at())?;
-    announce(settings, out)?;
-    note_of(log, settings.site, Note::Listening(listening_of(settings)));
     let number = u64::from(settings.site.value());
     warn_few(log, number, settings.limits.clients, most);
     let halt = Halt::new();
@@ -217,6 +230,7 @@ where
         alloc,
         settings,
         run,
+        begun: &begun,
         peer_links: &peer_links,
         dialers: &dialers,
         admission: &admission,
@@ -225,6 +239,7 @@ where
         mailbox: &mailbox,
         logs: &logs,
         gate: &gate,
+        commits: &commits,
         post: &post,
         halt: &halt,
         ending,
@@ -235,7 +250,9 @@ where
         hasher,
         draws: settings.seed.value(),
     };
-    let ended = run_site(net, log, shared, &listener, threads, drainers, admin, seeds);
+    let ended = run_site(
+        net, log, shared, &listener, threads, drainers, admin, seeds, out,
+    );
     note_of(log, settings.site, Note::Stopped);
     ended_by(admission.is_fenced(), ended)
 }
@@ -294,28 +311,14 @@ fn tails() -> TailLimits
     }
 }
 
-/// Where a site of these settings listens.
-fn listening_of(settings: &SiteSettings) -> Listening {
-    Listening {
-        clients: clients_address(settings),
-        links: settings.listen,
-        admin: settings.admin.heard_at(),
-    }
-}
-
-/// Where clients connect: the port of the settings at the address of `bind`.
-fn clients_address(settings: &SiteSettings) -> SocketAddr
-    ensures ip { socket_ip result ≡ settings.now.bind }
-    ensures port { socket_port result ≡ settings.now.port }
-{
-    SocketAddr::new(settings.bind, settings.port.value() as u16)
-}
-
 /// The logs of the site's heaps, which have as many bytes together as the settings say.
 fn open_logs(alloc: Global, settings: &SiteSettings) -> Result<Logs, AllocError> {
     let heaps = settings.heaps.value() as u8;
     let most = settings.link_backlog.value() as u64 / u64::from(heaps.max(1));
-    Logs::new(alloc, heaps, most)
+    match &settings.disk.path {
+        Some(_) => Logs::kept(alloc, heaps, most),
+        None => Logs::new(alloc, heaps, most),
+    }
 }
 
 /// Where it is noted what is shown of the site.

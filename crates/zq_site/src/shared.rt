@@ -1,5 +1,6 @@
 //! What the threads of a site's links share.
 
+use crate::begun::Begun;
 use crate::ending::Ending;
 use crate::front::Front;
 use crate::halt::Halt;
@@ -12,17 +13,19 @@ use std::sync::Wait;
 use zq_dots::SiteNo;
 use zq_peers::Mailbox;
 use zq_replica::Logs;
-use zq_serve::{Admission, Desk, Gate};
-use zq_settings::SiteSettings;
-use zq_wire::RUN;
+use zq_serve::{Admission, Commits, Desk, Durable, Gate};
+use zq_settings::{SiteSettings, SyncMode};
+use zq_wire::Run;
 
 /// What the threads of a site's links share.
 #[derive(Clone, Copy)]
 pub struct Shared<'a> {
     pub alloc: Global,
     pub settings: &'a SiteSettings,
-    /// What names this run of the site.
-    pub run: [u8; RUN],
+    /// The run of the site; before it has begun, as it is where it keeps no log on disk.
+    pub run: Run,
+    /// Where it is told how the site begins.
+    pub begun: &'a Begun,
     pub peer_links: &'a [PeerLink],
     /// The sites that may dial this one.
     pub dialers: &'a [SiteNo],
@@ -38,6 +41,8 @@ pub struct Shared<'a> {
     pub logs: &'a Logs,
     /// Where calls wait while the logs lack too much of what was made.
     pub gate: &'a Gate,
+    /// Where it is told what is on the disk, where the site keeps a log there.
+    pub commits: &'a Commits,
     /// Where the link thread is told what to do.
     pub post: &'a Post,
     pub halt: &'a Halt,
@@ -47,6 +52,18 @@ pub struct Shared<'a> {
     pub front: &'a Front,
     /// What is noted for those who ask.
     pub meters: &'a Meters,
+}
+
+impl<'a> Shared<'a> {
+    /// What stands before what leaves the site, where it keeps a log on disk.
+    pub fn durable(self) -> Option<Durable<'a>> {
+        self.settings.disk.path.as_ref()?;
+        Some(Durable {
+            commits: self.commits,
+            mailbox: self.mailbox,
+            replies_wait: self.settings.disk.sync == SyncMode::Always,
+        })
+    }
 }
 
 impl Shared<'_> {

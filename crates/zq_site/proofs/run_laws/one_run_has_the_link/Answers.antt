@@ -9,3 +9,6 @@ returns-clause-known c = runs.stays
 
 pub returns-clause-newcomer : goal.returns-clause-newcomer
 returns-clause-newcomer c = runs.judged
+
+pub returns-clause-later : goal.returns-clause-later
+returns-clause-later c = runs.later

@@ -1,5 +1,0 @@
-use Rattle.zq_node.specs.Node.{IsNode, IsSameHome}
-use Rattle.zq_site.proofs.draining.drain_round.Given as goal
-
-abbrev pub invariant-loop-heap : goal.invariant-loop-heap
-invariant-loop-heap g l = IsNode l.node × IsSameHome l.initial.node l.node
