@@ -14,8 +14,10 @@ use log::{LevelFilter, Logged};
 use places::{Place, free_places, settings_at, settings_of, settings_with};
 use recorded::{version_1, version_2, version_3};
 use std::alloc::Global;
+use std::fs::File;
 use std::net::{Net, TcpListener, TcpStream};
 use std::random::RandomSource;
+use std::rt::Files;
 use std::sync::Wait;
 use std::test::Fail;
 use std::thread::Threads;
@@ -65,12 +67,14 @@ fn steps_to(last: usize) -> [Step<'static>; 6] {
 fn meet<R>(rt: &R, alloc: Global, places: &[Place], secret: Option<&str>) -> Result<bool, Fail>
 where
     R: Memory
+        + Files<File = File>
         + Net<Listener = TcpListener, Stream = TcpStream>
         + RandomSource
         + Clock
         + Threads
         + Wait
         + Sync,
+    R::Dir: Send,
 {
     let mut settings = Vec::new(alloc);
     for place in places {
@@ -102,12 +106,14 @@ fn lets_go<R>(
 ) -> Result<bool, Fail>
 where
     R: Memory
+        + Files<File = File>
         + Net<Listener = TcpListener, Stream = TcpStream>
         + RandomSource
         + Clock
         + Threads
         + Wait
         + Sync,
+    R::Dir: Send,
 {
     let [_, own, _] = places else {
         return Err("three places".into());

@@ -4,6 +4,8 @@
 #[cfg(test)]
 mod apart;
 #[cfg(test)]
+mod commits;
+#[cfg(test)]
 mod drill;
 #[cfg(test)]
 mod gate;

@@ -12,6 +12,7 @@ use crate::settling::{read_file, settled};
 use crate::site_thread::serve_in_thread;
 use log::{LevelFilter, Logged};
 use std::alloc::{AllocError, Global};
+use std::fs::File;
 use std::io;
 use std::io::{BufWriter, Printer};
 use std::net::{Net, TcpListener, TcpStream};
@@ -21,12 +22,12 @@ use std::sync::Wait;
 use std::thread::Threads;
 use std::time::Clock;
 use zq_log::{LogQueue, QueueLog};
-use zq_server::{LogLevel, Memory, ServeFault, serve};
+use zq_server::{Cause, LogLevel, Memory, ServeFault, SiteSettings, serve};
 
 /// Serves the sites of the settings file of this name, and returns when all connections are done:
 /// then with the status of the program, whose last line is written. Warnings go to standard output,
-/// by a thread of their own (`open_log`, `close_log`). Where the settings break a rule standard error
-/// names the file and the rule, and where something of the system failed it says what.
+/// by a thread of their own (`open_log`, `close_log`). Where the settings break a rule standard
+/// error names the file and the rule, and where something of the system failed it says what.
 pub fn serve_file<R>(rt: R, alloc: Global, path: &str) -> Result<u8, Refusal>
 where
     R: Files
@@ -61,7 +62,7 @@ where
 /// `serve_file`.
 pub fn serve_site_file<R>(rt: R, alloc: Global, path: &str) -> Result<u8, Refusal>
 where
-    R: Files
+    R: Files<File = File>
         + Memory
         + Net<Listener = TcpListener, Stream = TcpStream>
         + RandomSource
@@ -75,13 +76,17 @@ where
         + Send
         + Sync
         + 'static,
+    R::Dir: Send,
 {
     let bytes = read_file(&rt, path)?;
     let settings = settled(&rt, path, site_configured(alloc, &bytes))?;
     let password = read_password(&rt, &settings)?;
+    let Ok(folder) = folder_of(alloc, &settings) else {
+        return Err(Refusal::Memory);
+    };
     let queue = open_log(rt, alloc)?;
     let served = serve_in_thread(rt, alloc, settings, password, &queue);
-    tell_cause(&rt, &served);
+    tell_data_fault(&rt, folder, &served);
     Ok(close_log(&rt, alloc, &*queue, ended(served)))
 }
 
@@ -112,6 +117,23 @@ fn filter_of(level: LogLevel) -> LevelFilter
         LogLevel::Warn => LevelFilter::Warn,
         LogLevel::Info => LevelFilter::Info,
         LogLevel::Debug => LevelFilter::Debug,
+    }
+}
+
+/// The folder of a site's log, and nothing where it keeps none.
+fn folder_of(alloc: Global, settings: &SiteSettings) -> Result<String, AllocError> {
+    match &settings.disk.path {
+        Some(path) => String::from_str(alloc, path.as_str()),
+        None => Ok(String::new(alloc)),
+    }
+}
+
+/// Standard error says what failed of the system, where something did, and of which folder it was.
+fn tell_data_fault<R: Eprint>(rt: &R, folder: String, served: &Result<(), ServeFault>) {
+    if let Err(ServeFault::Device(Cause::Data(fault))) = served {
+        let _ = eprintln!(rt; "zqueue: {folder}/log: {fault}");
+    } else {
+        tell_cause(rt, served);
     }
 }
 

@@ -2,8 +2,10 @@
 
 use crate::serving::{log_of, start_lines};
 use std::alloc::{AllocError, Global};
+use std::fs::File;
 use std::net::{Net, TcpListener, TcpStream};
 use std::random::RandomSource;
+use std::rt::Files;
 use std::sync::{Arc, Wait};
 use std::thread;
 use std::thread::Threads;
@@ -27,6 +29,7 @@ pub fn serve_in_thread<R>(
 ) -> Result<(), ServeFault>
 where
     R: Memory
+        + Files<File = File>
         + Net<Listener = TcpListener, Stream = TcpStream>
         + RandomSource
         + Clock
@@ -37,6 +40,7 @@ where
         + Send
         + Sync
         + 'static,
+    R::Dir: Send,
 {
     let ending = Arc::new(alloc, Ending::new()).map_err(AllocError::from)?;
     let (lines, told) = (Arc::try_clone(queue)?, Arc::try_clone(&ending)?);
@@ -61,6 +65,7 @@ fn serve_here<R>(
 ) -> Result<(), ServeFault>
 where
     R: Memory
+        + Files<File = File>
         + Net<Listener = TcpListener, Stream = TcpStream>
         + RandomSource
         + Clock
@@ -68,6 +73,7 @@ where
         + Wait
         + Print
         + Sync,
+    R::Dir: Send,
 {
     let mut out = start_lines(rt, alloc)?;
     let log = log_of(rt, alloc, queue, settings.log_level);

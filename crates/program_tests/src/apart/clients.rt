@@ -4,9 +4,11 @@ use super::places::{Place, connect};
 use crate::patience::{LOOKS, nap};
 use log::Log;
 use std::alloc::Global;
+use std::fs::File;
 use std::io::{Read, Write};
 use std::net::{Net, TcpListener, TcpStream};
 use std::random::RandomSource;
+use std::rt::Files;
 use std::sync::{Mutex, Wait};
 use std::test::Fail;
 use std::thread;
@@ -109,7 +111,8 @@ pub fn serve_one<N, L>(
     wrong: &Mutex<bool>,
 )
 where
-    N: Net<Listener = TcpListener, Stream = TcpStream> + Memory + Sync,
+    N: Net<Listener = TcpListener, Stream = TcpStream> + Files<File = File> + Memory + Sync,
+    N::Dir: Send,
     L: Log + RandomSource + Clock + Threads + Wait + Sync,
 {
     let mut written = Vec::new(alloc);
@@ -138,7 +141,8 @@ pub fn serve_all<N, L>(
     steps: &[Step<'_>],
 ) -> Result<bool, Fail>
 where
-    N: Net<Listener = TcpListener, Stream = TcpStream> + Memory + Sync,
+    N: Net<Listener = TcpListener, Stream = TcpStream> + Files<File = File> + Memory + Sync,
+    N::Dir: Send,
     L: Log + RandomSource + Clock + Threads + Wait + Sync,
 {
     let wrong = Mutex::new(false);

@@ -6,9 +6,11 @@ use super::recorded::{accept_as_recorded, dial_as_recorded, let_newer_go};
 use log::sink::Locked;
 use log::{LevelFilter, Logged};
 use std::alloc::Global;
+use std::fs::File;
 use std::io::{Read, Write};
 use std::net::{Net, Shutdown, SocketAddr, TcpListener, TcpStream};
 use std::random::RandomSource;
+use std::rt::Files;
 use std::sync::Wait;
 use std::test::Fail;
 use std::thread::Threads;
@@ -334,12 +336,14 @@ pub fn logged_with<R>(
 ) -> Result<Vec<u8>, Fail>
 where
     R: Memory
+        + Files<File = File>
         + Net<Listener = TcpListener, Stream = TcpStream>
         + RandomSource
         + Clock
         + Threads
         + Wait
         + Sync,
+    R::Dir: Send,
 {
     let log = Logged::new(rt, LevelFilter::Warn, Locked::new(rt, Vec::new(alloc)));
     let mut written = Vec::new(alloc);
