@@ -67,10 +67,10 @@ def linked(program):
 
 @contextlib.contextmanager
 def held(site):
-    """Holds the site's link thread, the third that it starts: the first one writes its log, and the second serves the site. False
-    where the system does not let us."""
+    """Holds the site's link thread, the fourth that it starts: the first one writes what is said, the second serves the site, and the
+    third takes what the site makes into its logs. False where the system does not let us."""
     system = ctypes.CDLL(None, use_errno=True)
-    thread = sorted(map(int, os.listdir(f"/proc/{site.pid}/task")))[3]
+    thread = sorted(map(int, os.listdir(f"/proc/{site.pid}/task")))[4]
     if system.ptrace(SEIZE, thread, None, None) or system.ptrace(INTERRUPT, thread, None, None):
         yield False
         return

@@ -45,7 +45,7 @@ class Member:
                                             stderr=subprocess.STDOUT, env=served.ENVIRONMENT)
         group.held.callback(self.process.wait)
         group.held.callback(self.process.kill)
-        if not holds(lambda: self.process.poll() is not None or self.has_said(f"site {number} port {port}")):
+        if not holds(lambda: self.process.poll() is not None or self.has_said(f"site {number} port {port}"), group.patience):
             raise RuntimeError(f"site {number} does not serve: {self.said()!r}")
 
     def said(self):
@@ -94,10 +94,10 @@ class Member:
 
 
 class Members:
-    """A set of such sites. They end with the `with` that it is used in."""
+    """A set of such sites, each of which has to serve within so many seconds. They end with the `with` that it is used in."""
 
-    def __init__(self, program, heaps=HEAPS):
-        self.program, self.heaps, self.held, self.runs = program, heaps, contextlib.ExitStack(), 0
+    def __init__(self, program, heaps=HEAPS, patience=PATIENCE):
+        self.program, self.heaps, self.patience, self.held, self.runs = program, heaps, patience, contextlib.ExitStack(), 0
         self.folder = pathlib.Path(self.held.enter_context(tempfile.TemporaryDirectory(prefix="zqueue-members-")))
         ports = served.free_ports(32)
         self.ports, self.listens = ports[:16], ports[16:]
