@@ -1,0 +1,8 @@
+use Rattle.std.proofs.Common.{take, ◌++◌, ◌≡◌}
+use Rattle.std.specs.List.{flat_map}
+use Rattle.zq_inspect.specs.Lines.{quoted_byte}
+use Rattle.zq_inspect.proofs.quoting.add_bytes.Given as goal
+
+abbrev pub invariant-loop-byte : goal.invariant-loop-byte
+invariant-loop-byte l =
+    l.text.items ≡ l.initial.text.items ++ flat_map quoted_byte (take l.byte-index l.bytes)
