@@ -1,8 +1,8 @@
 -- What the words of a command line ask for.
 
-use Rattle.zqueue.specs.declared.asked.Command.TheVariants.{Drill, Pipe, Serve, Site, Status, Stop}
+use Rattle.zqueue.specs.declared.asked.Command.TheVariants.{Check, Drill, Inspect, Members, Pipe, Serve, Site, Status, Stop}
 use Rattle.zqueue.specs.declared.asked.Command.{Command}
-use Rattle.std.specs.Prelude.{List, None, Option, Some, [], codes, ℕ, ◌∷◌, ◌≡◌, ◌≤◌}
+use Rattle.std.specs.Prelude.{List, None, Option, Some, [], codes, ℕ, ◌∷◌, ◌≡◌, ◌≤◌, ◌⊎◌}
 use Rattle.std.specs.Str.Parse.{IsNumeral, digits_value}
 
 -- the greatest seed, and the greatest number of rounds
@@ -26,14 +26,40 @@ pub record AreNumbers (rest : List (List ℕ)) (seed rounds : ℕ) : Type 0 wher
   pub most : IsNumber second ROUNDS
   pub rounds_is : rounds ≡ digits_value 10 second
 
+-- the words behind the name of a command that is of a log
+abbrev pub NamesOfLog : List (List ℕ) → Command → Type 0
+NamesOfLog rest (Inspect path) = rest ≡ path.bytes.items ∷ []
+NamesOfLog rest (Check path) = rest ≡ codes "--check" ∷ path.bytes.items ∷ []
+NamesOfLog rest (Members key path) =
+    rest ≡ codes "--members" ∷ key.bytes.items ∷ path.bytes.items ∷ []
+NamesOfLog rest _ = ⊥
+
+-- what these words ask for of a log, where they ask for anything
+abbrev pub AsksOfLog : List (List ℕ) → Option Command → Type 0
+AsksOfLog rest None = (command : Command) → ¬ NamesOfLog rest command
+AsksOfLog rest (Some command) = NamesOfLog rest command
+
+-- the name of any other command, and the words behind it
+abbrev pub NamesOther : List ℕ → List (List ℕ) → Command → Type 0
+NamesOther name rest Pipe = (name ≡ codes "pipe") × (rest ≡ [])
+NamesOther name rest (Serve path) = (name ≡ codes "serve") × (rest ≡ path.bytes.items ∷ [])
+NamesOther name rest (Site path) = (name ≡ codes "site") × (rest ≡ path.bytes.items ∷ [])
+NamesOther name rest (Stop path) = (name ≡ codes "stop") × (rest ≡ path.bytes.items ∷ [])
+NamesOther name rest (Status path) = (name ≡ codes "status") × (rest ≡ path.bytes.items ∷ [])
+NamesOther name rest (Drill seed rounds) = (name ≡ codes "drill") × AreNumbers rest seed rounds
+NamesOther name rest (Inspect path) = ⊥
+NamesOther name rest (Check path) = ⊥
+NamesOther name rest (Members key path) = ⊥
+
+-- what these words ask for beside a log, where they ask for anything
+abbrev pub AsksOther : List ℕ → List (List ℕ) → Option Command → Type 0
+AsksOther name rest None = (command : Command) → ¬ NamesOther name rest command
+AsksOther name rest (Some command) = NamesOther name rest command
+
 -- the command's name, and the words behind it
 abbrev pub Names : List ℕ → List (List ℕ) → Command → Type 0
-Names name rest Pipe = (name ≡ codes "pipe") × (rest ≡ [])
-Names name rest (Serve path) = (name ≡ codes "serve") × (rest ≡ path.bytes.items ∷ [])
-Names name rest (Site path) = (name ≡ codes "site") × (rest ≡ path.bytes.items ∷ [])
-Names name rest (Stop path) = (name ≡ codes "stop") × (rest ≡ path.bytes.items ∷ [])
-Names name rest (Status path) = (name ≡ codes "status") × (rest ≡ path.bytes.items ∷ [])
-Names name rest (Drill seed rounds) = (name ≡ codes "drill") × AreNumbers rest seed rounds
+Names name rest command = ((name ≡ codes "inspect") × NamesOfLog rest command)
+    ⊎ NamesOther name rest command
 
 -- what these words ask for, where they ask for anything
 abbrev pub Asks : List ℕ → List (List ℕ) → Option Command → Type 0

@@ -3,3 +3,4 @@ pub mod Configured
 pub mod Asked
 pub mod Told
 pub mod Levels
+pub mod Inspected

@@ -1,6 +1,6 @@
 //! What the command line asks for.
 
-ghost use Rattle.zqueue.specs.Asked.{AreNumbers, Asks, IsAsked, IsNumber, ROUNDS, SEEDS};
+ghost use Rattle.zqueue.specs.Asked.{AreNumbers, Asks, AsksOfLog, AsksOther, IsAsked, IsNumber, ROUNDS, SEEDS};
 ghost use Rattle.std.specs.Prelude.{IfOk, SomeIff, map, string_bytes};
 ghost use Rattle.std.specs.Str.Parse.{digits_value};
 
@@ -23,6 +23,12 @@ pub enum Command {
     Stop(String),
     /// To say how ready the site of the settings file of this name is.
     Status(String),
+    /// To say what the log in the folder of this path holds.
+    Inspect(String),
+    /// To say what is wrong with it, if anything is.
+    Check(String),
+    /// To say which members of a key it holds.
+    Members { key: String, path: String },
     /// To drill three sites by a seed, each called so many times.
     Drill { seed: u64, rounds: u32 },
 }
@@ -51,12 +57,22 @@ fn command_of(alloc: Global, words: &[String]) -> Result<Option<Command>, AllocE
     let Some((name, rest)) = words.split_first() else {
         return Ok(None);
     };
-    named(alloc, name.as_str(), rest)
+    called(alloc, name.as_str(), rest)
 }
 
 /// The command of this name, with the words behind it.
-fn named(alloc: Global, name: &str, rest: &[String]) -> Result<Option<Command>, AllocError>
+fn called(alloc: Global, name: &str, rest: &[String]) -> Result<Option<Command>, AllocError>
     ensures { IfOk result (λ command. Asks name.now (map string_bytes rest.now) command) }
+{
+    match name {
+        "inspect" => inspected(alloc, rest),
+        _ => named(alloc, name, rest),
+    }
+}
+
+/// The command of this name, which is of no log, with the words behind it.
+fn named(alloc: Global, name: &str, rest: &[String]) -> Result<Option<Command>, AllocError>
+    ensures { IfOk result (λ command. AsksOther name.now (map string_bytes rest.now) command) }
 {
     match (name, rest) {
         ("pipe", []) => Ok(Some(Command::Pipe)),
@@ -77,6 +93,34 @@ fn named(alloc: Global, name: &str, rest: &[String]) -> Result<Option<Command>, 
             Ok(Some(Command::Status(path)))
         }
         ("drill", [seed, rounds]) => Ok(drill_of(seed.as_str(), rounds.as_str())),
+        _ => Ok(None),
+    }
+}
+
+/// What of a log these words ask for: a folder, behind what is wanted of its log.
+fn inspected(alloc: Global, rest: &[String]) -> Result<Option<Command>, AllocError>
+    ensures { IfOk result (λ command. AsksOfLog (map string_bytes rest.now) command) }
+{
+    match rest {
+        [path] => {
+            let path = String::from_str(alloc, path.as_str())?;
+            Ok(Some(Command::Inspect(path)))
+        }
+        [option, path] => match option.as_str() {
+            "--check" => {
+                let path = String::from_str(alloc, path.as_str())?;
+                Ok(Some(Command::Check(path)))
+            }
+            _ => Ok(None),
+        },
+        [option, key, path] => match option.as_str() {
+            "--members" => {
+                let key = String::from_str(alloc, key.as_str())?;
+                let path = String::from_str(alloc, path.as_str())?;
+                Ok(Some(Command::Members { key, path }))
+            }
+            _ => Ok(None),
+        },
         _ => Ok(None),
     }
 }

@@ -5,6 +5,7 @@ mod administering;
 mod asked;
 mod configured;
 mod drilling;
+mod inspecting;
 mod logging;
 mod number;
 mod password;
@@ -19,6 +20,7 @@ mod tests;
 use administering::{status_file, stop_file};
 use asked::{Command, asked};
 use drilling::drill_out;
+use inspecting::{check_folder, inspect_folder, list_members};
 use piping::pipe;
 use refusal::{DEVICE, Refusal, conclude, refuse};
 use serving::{serve_file, serve_site_file};
@@ -36,6 +38,11 @@ const HELP: &str = "usage:
   zqueue site FILE    serves the one site of a settings file, and links it to its peers in other processes
   zqueue stop FILE    has the site of a settings file end, by its admin port, and waits until it has
   zqueue status FILE  says how ready the site of a settings file is, by its admin port
+  zqueue inspect DIR  says what the log in a folder holds that a site keeps, and changes nothing
+  zqueue inspect --check DIR
+                      says what is wrong with it, if anything is
+  zqueue inspect --members KEY DIR
+                      says which members of a key it holds, with their scores
   zqueue drill SEED ROUNDS
                       drills three sites over links that fail, and writes whether they end equal
 README.md says what each of them does, and docs/COMMANDS.md what clients can send.";
@@ -57,6 +64,19 @@ fn main(rt: HostRuntime) -> ExitCode {
         }
         Ok(Some(Command::Status(path))) => {
             let told = status_file(&rt, rt.alloc(), path.as_str());
+            conclude(told, &mut io::writer(&rt))
+        }
+        Ok(Some(Command::Inspect(path))) => {
+            let told = inspect_folder(&rt, rt.alloc(), path.as_str(), &mut io::writer(&rt));
+            conclude(told, &mut io::writer(&rt))
+        }
+        Ok(Some(Command::Check(path))) => {
+            let checked = check_folder(&rt, rt.alloc(), path.as_str());
+            conclude(checked, &mut io::writer(&rt))
+        }
+        Ok(Some(Command::Members { key, path })) => {
+            let (key, path) = (key.as_bytes(), path.as_str());
+            let told = list_members(&rt, rt.alloc(), path, key, &mut io::writer(&rt));
             conclude(told, &mut io::writer(&rt))
         }
         Ok(Some(Command::Drill { seed, rounds })) => {

@@ -54,13 +54,16 @@ fn words_of(command: &Option<Command>) -> (&str, &str) {
         Some(Command::Site(path)) => ("site", path.as_str()),
         Some(Command::Stop(path)) => ("stop", path.as_str()),
         Some(Command::Status(path)) => ("status", path.as_str()),
+        Some(Command::Inspect(path)) => ("inspect", path.as_str()),
+        Some(Command::Check(path)) => ("check", path.as_str()),
+        Some(Command::Members { key, .. }) => ("members", key.as_str()),
         Some(Command::Drill { .. }) => ("drill", ""),
     }
 }
 
 #[test]
 fn a_command_has_its_words_and_no_others(rt: HostRuntime) -> Result<(), Fail> {
-    let rows: [(&[&[u8]], (&str, &str)); 16] = [
+    let rows: [(&[&[u8]], (&str, &str)); 23] = [
         (&[b"zqueue", b"pipe"], ("pipe", "")),
         (&[b"zqueue"], ("none", "")),
         (&[b"zqueue", b"PIPE"], ("none", "")),
@@ -80,6 +83,22 @@ fn a_command_has_its_words_and_no_others(rt: HostRuntime) -> Result<(), Fail> {
             ("status", "three.toml"),
         ),
         (&[b"zqueue", b"stop"], ("none", "")),
+        (&[b"zqueue", b"inspect", b"dir"], ("inspect", "dir")),
+        (
+            &[b"zqueue", b"inspect", b"--check", b"dir"],
+            ("check", "dir"),
+        ),
+        (
+            &[b"zqueue", b"inspect", b"--members", b"k", b"dir"],
+            ("members", "k"),
+        ),
+        (&[b"zqueue", b"inspect"], ("none", "")),
+        (&[b"zqueue", b"inspect", b"--members", b"dir"], ("none", "")),
+        (&[b"zqueue", b"inspect", b"--other", b"dir"], ("none", "")),
+        (
+            &[b"zqueue", b"inspect", b"--check", b"k", b"dir"],
+            ("none", ""),
+        ),
     ];
     for (words, named) in rows {
         let command = asked(&(Line { words }, rt.alloc()))?;
