@@ -5,10 +5,12 @@ use crate::ports::{free_ports, two_ports};
 use log::sink::Locked;
 use log::{LevelFilter, Logged};
 use std::alloc::Global;
+use std::fs::File;
 use std::hash::{BuildHasher, Hasher};
 use std::io::ErrorKind;
 use std::net::{Net, TcpListener, TcpStream};
 use std::random::RandomSource;
+use std::rt::Files;
 use std::sync::Wait;
 use std::test::Fail;
 use std::thread::Threads;
@@ -96,12 +98,14 @@ fn answered_apart<R>(
 ) -> Result<(Result<(), ServeFault>, Vec<u8>), Fail>
 where
     R: Memory
+        + Files<File = File>
         + Net<Listener = TcpListener, Stream = TcpStream>
         + RandomSource
         + Clock
         + Threads
         + Wait
         + Sync,
+    R::Dir: Send,
 {
     let settings = apart_settings_of(alloc, ports, seed)?;
     let bytes = requests(alloc)?;
