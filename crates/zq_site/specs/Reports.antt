@@ -83,6 +83,7 @@ of_warning (warning.Drops peer unheard) =
     since (with_peer what.FrameDropped peer) (why.Unheard unheard)
 of_warning (warning.Keeps peer) = with_peer what.FrameTooLong peer
 of_warning warning.Leaves = since (of what.DrainUnfinished) why.Lacking
+of_warning warning.DiskFull = of what.DiskFull
 
 -- a site that listens
 abbrev pub of_listening : Listening → Report
@@ -117,6 +118,7 @@ of_note (note.Listening listening) = of_listening listening
 of_note (note.LinkUp link) = of_link link
 of_note (note.LogRead read) = of_read read
 of_note (note.LogSwitched switched) = of_switch switched
+of_note note.DiskFree = of what.DiskFree
 of_note (note.Accepted caller) = at what.AcceptedByPeer caller
 of_note note.Joined = of what.Joined
 of_note note.CaughtUp = of what.CaughtUp

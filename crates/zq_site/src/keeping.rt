@@ -9,7 +9,8 @@ use crate::report::RunName;
 use crate::shared::Shared;
 use crate::times::gathering;
 use crate::walking::{Walk, go_on};
-use crate::warning_log::note_of;
+use crate::warning::Warning;
+use crate::warning_log::{note_of, warn_of};
 use log::Log;
 use std::fs::File;
 use std::rt::Files;
@@ -37,6 +38,16 @@ impl<L: Log + Clock + Wait> Beside for Aside<'_, L> {
         go_on(self.log, self.shared, node, self.hasher, &mut self.walk);
         if self.shared.settings.disk.sync == SyncMode::Soon {
             let _ = self.shared.halt.wait(self.log, gathering());
+        }
+    }
+
+    fn fill(&mut self, is_full: bool) {
+        self.shared.admission.fill_disk(is_full);
+        let site = self.shared.settings.site;
+        if is_full {
+            warn_of(self.log, site, Warning::DiskFull);
+        } else {
+            note_of(self.log, site, Note::DiskFree);
         }
     }
 

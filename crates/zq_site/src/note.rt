@@ -19,6 +19,8 @@ pub enum Note {
     LogRead(LogRead),
     /// The log on disk was switched to another file.
     LogSwitched(LogSwitched),
+    /// The disk has room again.
+    DiskFree,
     /// A link is up.
     LinkUp(LinkUp),
     /// A peer takes this site again.
@@ -86,6 +88,7 @@ impl Note {
             Note::Listening(listening) => report_of_listening(listening),
             Note::LogRead(read) => report_of_read(read),
             Note::LogSwitched(switched) => report_of_switch(switched),
+            Note::DiskFree => Report::of(Happening::DiskFree),
             Note::LinkUp(link) => report_of_link(link),
             Note::Accepted(caller) => Report::at(Happening::AcceptedByPeer, caller),
             Note::Joined => Report::of(Happening::Joined),

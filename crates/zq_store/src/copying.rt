@@ -5,6 +5,7 @@ ghost use Rattle.zq_node.specs.Node.{IsNode, IsSameHome};
 ghost use Rattle.zq_store.specs.Faults.{HasStopped};
 
 use crate::intake::{Called, Intake};
+use crate::room::AHEAD;
 use crate::switch::{Switch, Switched};
 use crate::writer::{Writer, now_of};
 use crate::writing::go_on_after;
@@ -17,7 +18,7 @@ use zq_links::Piece;
 use zq_node::Node;
 use zq_replica::{Logs, PORTION};
 use zq_stage::Portion;
-use zq_wal::Disk;
+use zq_wal::{Behind, Disk};
 
 /// After how many seconds a switch begins again that was given up.
 const PAUSE: u64 = 1;
@@ -33,13 +34,15 @@ enum Step {
     GoesOn,
     /// Its heap has jumped: the next look begins it anew.
     Vain,
+    /// There was no room: the step is done again once there is.
+    Waits,
     /// It is given up.
     GivenUp,
 }
 
 impl<D: Disk> Writer<D> {
-    /// Begins a switch where one is wanted: where a heap has jumped, or the log is long. Where a
-    /// heap has jumped of which a copy was begun, the switch begins anew.
+    /// Begins a switch where one is wanted, and there is room: where a heap has jumped, or the log is
+    /// long. Where a heap has jumped of which a copy was begun, the switch begins anew.
     pub(crate) fn look<R: Wait + Clock>(
         &mut self,
         rt: &R,
@@ -56,10 +59,14 @@ impl<D: Disk> Writer<D> {
             }
         }
         let is_wanted = self.switch.is_none() && (self.is_behind || self.keeper.size().is_long());
-        if (is_vain || is_wanted) && now_of(rt) >= self.again_at {
-            return self.begin_switch(rt, alloc, logs);
+        if !(is_vain || is_wanted) || self.lacks_room() || now_of(rt) < self.again_at {
+            return Ok(());
         }
-        Ok(())
+        if !self.has_room_behind(rt, Behind::Next, AHEAD)? {
+            self.pause(rt);
+            return Ok(());
+        }
+        self.begin_switch(rt, alloc, logs)
     }
 
     /// Whether a copy of this heap was begun.
@@ -111,6 +118,9 @@ impl<D: Disk> Writer<D> {
         ensures home { IsSameHome node.old node.new }
         ensures fault { IfErr result HasStopped }
     {
+        if self.lacks_room() || !self.has_room(rt, AHEAD)? {
+            return Ok(false);
+        }
         let Some(mut switch) = self.switch.take() else {
             return Ok(false);
         };
@@ -120,7 +130,7 @@ impl<D: Disk> Writer<D> {
         }
         let step = self.copy(rt, intake, node, &mut switch)?;
         match step {
-            Step::GoesOn | Step::Vain => self.switch = Some(switch),
+            Step::GoesOn | Step::Vain | Step::Waits => self.switch = Some(switch),
             Step::GivenUp => {
                 let_go(rt, intake.logs, switch);
                 self.pause(rt);
@@ -157,7 +167,7 @@ impl<D: Disk> Writer<D> {
 
     /// Copies the next portion of the switch's heap. What the heap took before it, and the log
     /// lacks, goes into the log first.
-    fn copy<R: Wait, P: Called>(
+    fn copy<R: Wait + Clock, P: Called>(
         &mut self,
         rt: &R,
         intake: &Intake<'_, P>,
@@ -185,8 +195,8 @@ impl<D: Disk> Writer<D> {
         let vector = *portion.part.vector();
         if switch.had_jumped(heap) && switch.sending.vector.is_none() {
             drop_within(rt, alloc, logs, heap, &vector);
-        } else {
-            self.write_within(rt, alloc, logs, heap, &vector)?;
+        } else if !self.write_within(rt, alloc, logs, heap, &vector)? {
+            return Ok(Step::Waits);
         }
         if logs.has_jumped(rt, heap) {
             return Ok(Step::Vain);
