@@ -109,6 +109,22 @@ moved_skip low (suc d) base v stays =
     let here = stays (low + d) (omega arith) in
     omega (arith, ap (λ k. moved k 0 base v) next, moved_push (low + d) base v, none_more (get_or base (low + d) 0) (get_or v (low + d) 0) (omega arith), moved_skip low d base v stays)
 
+-- where none has moved, nothing is written
+pub changes_unmoved : (k s : ℕ) (base v : List ℕ) → moved k s base v ≡ 0 → changes k s base v ≡ []
+changes_unmoved zero s base v none = changes_none s base v
+changes_unmoved (suc k) s base v none =
+    let stays : get_or v s 0 ≤ get_or base s 0 = elim (cases_lt (get_or base s 0) (get_or v s 0)) [
+      | inl rises ↦ absurd (omega (arith, none, moved_front k s base v, one_more (get_or base s 0) (get_or v s 0) rises))
+      | inr stays ↦ stays
+    ] in
+    let rest : moved k (s + 1) base v ≡ 0 = omega (arith, none, moved_front k s base v) in
+    changes_front k s base v ∙ (ap (λ x. x ++ changes k (s + 1) base v) (change_none s (get_or base s 0) (get_or v s 0) stays) ∙ changes_unmoved k (s + 1) base v rest)
+
+-- what is seen has not moved from itself
+pub moved_still : (k s : ℕ) (v : List ℕ) → moved k s v v ≡ 0
+moved_still zero s v = moved_none s v v
+moved_still (suc k) s v = omega (arith, moved_front k s v v, none_more (get_or v s 0) (get_or v s 0) (omega arith), moved_still k (s + 1) v)
+
 -- ---- reading
 
 changes_more : (whole own top k low s n : ℕ) (v bytes rest : List ℕ) → change_at whole own top low v bytes ≡ Ok ((s, n), rest) → changes_at whole own top (suc k) low v bytes ≡ changes_at whole own top k (s + 1) (set v s (get_or v s 0 + n)) rest

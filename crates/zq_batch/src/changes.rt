@@ -91,6 +91,10 @@ pub(crate) fn count_changes(own: SiteNo, base: &Base, seen: &Vector) -> Option<u
     if base.top < seen.get(own) {
         return None;
     }
+    // (mostly a site has seen no more than what it made)
+    if base.known == *seen {
+        return Some(0);
+    }
     let mut count = 0;
     for number in 0..PAST {
         let site = site_of(number);
@@ -120,14 +124,29 @@ fn site_of(number: u8) -> SiteNo
     SiteNo::new(number).unwrap()
 }
 
-/// Appends the changes from what is known to what is seen. Where memory is refused a part of them
-/// may stand behind what stood there.
-#[tactic(auto, unfolding(zq_model::specs::Sets::SITES))]
-pub(crate) fn write_changes(
+/// Appends the changes from what is known to what is seen, of which there are so many. Where memory
+/// is refused a part of them may stand behind what stood there.
+pub(crate) fn write_counted(
     out: &mut Vec<u8>,
+    count: u8,
     known: &Vector,
     seen: &Vector,
 ) -> Result<(), AllocError>
+    requires count { count ≡ spell.moved sets.SITES 0 known.now seen.now }
+    ensures written { OnOk result
+        (out.new.items ≡ out.old.items ++ spell.changes sets.SITES 0 known.now seen.now) }
+    ensures kept { take (length out.old.items) out.new.items ≡ out.old.items }
+{
+    if count == 0 {
+        return Ok(());
+    }
+    write_changes(out, known, seen)
+}
+
+/// Appends the changes from what is known to what is seen. Where memory is refused a part of them
+/// may stand behind what stood there.
+#[tactic(auto, unfolding(zq_model::specs::Sets::SITES))]
+fn write_changes(out: &mut Vec<u8>, known: &Vector, seen: &Vector) -> Result<(), AllocError>
     ensures written { OnOk result
         (out.new.items ≡ out.old.items ++ spell.changes sets.SITES 0 known.now seen.now) }
     ensures kept { take (length out.old.items) out.new.items ≡ out.old.items }

@@ -11,7 +11,7 @@ ghost use Rattle.zq_model.specs.Sets as sets;
 
 use crate::act::{kind_of, read_act, write_act};
 use crate::before::{Base, base_of, repeats_key, repeats_site};
-use crate::changes::{count_changes, read_changes, write_changes};
+use crate::changes::{count_changes, read_changes, write_counted};
 use crate::head::{read_count, read_head, read_own, write_front};
 use crate::names::{read_key, read_name, write_key, write_name};
 use crate::varint::place;
@@ -120,7 +120,7 @@ fn write_next(
     let again = repeats_site(before, site);
     let same_key = repeats_key(before, view.key());
     write_front(out, kind_of(view.act()), same_key, again, site, count)?;
-    write_changes(out, &base.known, view.seen())?;
+    write_counted(out, count, &base.known, view.seen())?;
     write_act(out, view.act())?;
     write_key(out, same_key, view.key())?;
     write_name(out, view.member())

@@ -1,8 +1,9 @@
-use Rattle.std.proofs.Common.{ap, arith, get_or, subst, sym, ◌∙◌, ◌≡◌}
+use Rattle.std.proofs.Common.{ap, arith, get_or, subst, sym, ◌∙◌, ◌≡◌, ◌≤◌}
 use Rattle.zq_dots.proofs.Counters.{sites_is}
+use Rattle.std.specs.Cmp.Lexicographic.{same_text}
 use Rattle.zq_batch.specs.Spelling.{moved}
 use Rattle.zq_model.specs.Sets.{SITES}
-use Rattle.zq_batch.proofs.Risen.{all_rise, counted_more, moved_none, rises_more}
+use Rattle.zq_batch.proofs.Risen.{all_rise, counted_more, moved_none, moved_still, rises_more}
 use Rattle.zq_batch.proofs.changes.count_changes.Goals as goal
 
 pub loop-number-init : goal.loop-number-init
@@ -21,6 +22,17 @@ loop-number-preserved c =
       few = omega arith;
       rises = rises_more c.loop-number.number c.get-known.result c.get-n.result c.args.base.now.known c.args.seen.now from to (omega arith) c.loop-number.invariant.rises;
     }
+
+pub returns-then-eq : goal.returns-then-eq
+returns-then-eq c =
+    let same : c.args.base.now.known ≡ c.args.seen.now = same_text c.args.base.now.known c.args.seen.now c.if-eq.ensures in
+    let top = c.get.ensures.counter in (
+      subst (λ v. 0 ≡ moved SITES 0 c.args.base.now.known v) same (sym (moved_still SITES 0 c.args.base.now.known)),
+      record {
+        rises = λ t. subst (λ v. get_or c.args.base.now.known t 0 ≤ get_or v t 0) same (omega arith);
+        own = omega arith;
+      },
+    )
 
 pub returns : goal.returns
 returns c =
