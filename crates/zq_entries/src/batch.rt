@@ -16,6 +16,8 @@ use zq_dots::Op;
 #[derive(Drop)]
 pub struct Batch {
     ops: Vec<Op>,
+    /// Their spelling, where it was made: a batch that was read has none.
+    spelling: Option<Vec<u8>>,
 }
 
 impl Model for Batch {
@@ -24,11 +26,13 @@ impl Model for Batch {
 
     ghost Value = { List Placed };
 
-    ghost use Rattle.zq_entries.specs.Together.{AreTogether};
+    ghost use Rattle.std.specs.Prelude.{IfSome, ◌≡◌};
+    ghost use Rattle.zq_entries.specs.Together.{AreTogether, batch_of};
 
     ghost view = { λ b. b.ops.items };
 
-    ghost invariant = { λ b. AreTogether b.ops.items };
+    ghost invariant = { λ b. AreTogether b.ops.items
+        × IfSome b.spelling (λ v. v.items ≡ batch_of b.ops.items) };
 }
 
 impl Batch {
@@ -40,7 +44,10 @@ impl Batch {
             (λ b. b ≡ ops.items)) }
     {
         match write_batch(alloc, &ops)? {
-            Some(_) => Ok(Some(Batch { ops })),
+            Some(bytes) => Ok(Some(Batch {
+                ops,
+                spelling: Some(bytes),
+            })),
             None => Ok(None),
         }
     }
@@ -51,7 +58,10 @@ impl Batch {
         ensures found { IfOk result (λ b. bytes.now ≡ batch_of b) }
     {
         match read_batch(alloc, bytes) {
-            Ok(ops) => Ok(Batch { ops }),
+            Ok(ops) => Ok(Batch {
+                ops,
+                spelling: None,
+            }),
             Err(fault) => Err(fault),
         }
     }
@@ -60,6 +70,9 @@ impl Batch {
     pub fn write(&self, alloc: Global) -> Result<Vec<u8>, AllocError>
         ensures { IfOk result (λ v. v.items ≡ batch_of self.now) }
     {
+        if let Some(bytes) = &self.spelling {
+            return Ok(Vec::from_slice(alloc, bytes)?);
+        }
         let written = write_batch(alloc, &self.ops)?;
         Ok(written.unwrap())
     }
