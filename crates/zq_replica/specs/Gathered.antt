@@ -1,6 +1,7 @@
 -- A heap that comes in pieces, and takes the place of a site's own.
 
-use Rattle.std.specs.Prelude.{Bool, List, None, Option, Some, [], false, if◌then◌else◌, nat_lt, suc, true, zero, ℕ, ◌&&◌, ◌-◌, ◌==◌, ◌∷◌, ◌≡◌, ◌≢◌, ◌⊎◌}
+use Rattle.std.specs.List.{All}
+use Rattle.std.specs.Prelude.{Bool, List, None, Option, Some, [], false, if◌then◌else◌, length, nat_lt, suc, true, zero, ℕ, ◌&&◌, ◌-◌, ◌<◌, ◌==◌, ◌∷◌, ◌≡◌, ◌≢◌, ◌⊎◌}
 use Rattle.zq_dots.specs.Placed.{Placed}
 use Rattle.zq_journal.specs.declared.since.Since.{Since}
 use Rattle.zq_journal.specs.declared.since.Since.TheVariants.{Ops, TooOld}
@@ -124,11 +125,15 @@ IsFedIn ops None after = after ≡ None
 IsFedIn ops (Some g) after = (h : Gathering) × (after ≡ Some h) × (h.from ≡ g.from)
     × AreFed ops g.receiving h.receiving
 
--- What came is as it was. Or the frame is operations of the peer from which the heap comes: it took
--- them, or was given up.
+-- there are operations, and all of them are of this heap
+abbrev pub AreOfHeap : ℕ → List Placed → Type 0
+AreOfHeap heap ops = (0 < length ops) × All (λ o. o.operation.heap ≡ heap) ops
+
+-- What came is as it was. Or the frame is operations of the peer from which the heap comes, all of
+-- that heap: it took them, or was given up.
 abbrev pub IsGatheringBy : ℕ → Replica → code.Frame → Option Gathering → Type 0
 IsGatheringBy peer was frame after = (after ≡ was.gathering)
-    ⊎ ((heap : ℕ) × (ops : List Placed) × IsOpsOf frame ops
+    ⊎ ((heap : ℕ) × (ops : List Placed) × IsOpsOf frame ops × AreOfHeap heap ops
     × (is_gathered peer heap was ≡ true)
     × (IsFedIn ops was.gathering after ⊎ (after ≡ None)))
 

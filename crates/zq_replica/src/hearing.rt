@@ -11,6 +11,7 @@ ghost use Rattle.zq_replica.specs.Nodes.{Heard, Hears, IsGiven, IsOpsOf, Shows};
 ghost use Rattle.zq_replica.specs.Sites.{fence_of, is_heeded};
 
 use crate::parcels::{Parcels, address};
+use crate::piecing::are_of;
 use crate::replica::Replica;
 use std::alloc::Global;
 use std::sync::Wait;
@@ -236,9 +237,9 @@ impl Replica<'_> {
         self.caught(rt, alloc, node, out)
     }
 
-    /// Hears operations of the peer at this place. Where they are of a heap that comes from the peer
+    /// Hears operations of the peer at this place. Where all are of a heap that comes from the peer
     /// in pieces that takes them, and else the node does. `WrongHeap` where this site has no such
-    /// heap.
+    /// heap as that of the first.
     fn hear_ops<R: Wait>(
         &mut self,
         rt: &R,
@@ -265,7 +266,7 @@ impl Replica<'_> {
         if heap >= self.heaps {
             return Err(NodeFault::WrongHeap);
         }
-        if self.gathers(from, heap) {
+        if self.gathers(from, heap) && are_of(heap, ops) {
             return self.gather_ops(alloc, place, heap, ops, out);
         }
         self.take_ops(rt, alloc, node, place, from, heap, ops, out)

@@ -1,6 +1,6 @@
 //! Hearing the pieces of a heap that a peer gives, and the operations between them.
 
-ghost use Rattle.std.specs.Prelude.{IfNone, IfOk, IfSome, MatchResult, None, OnErr, OnOk, false, true, ◌≡◌, ◌⊎◌};
+ghost use Rattle.std.specs.Prelude.{All, IfNone, IfOk, IfSome, MatchResult, None, OnErr, OnOk, false, true, ◌≡◌, ◌⊎◌};
 ghost use Rattle.zq_node.specs.Node.{IsNode, IsSameHome};
 ghost use Rattle.zq_replica.specs.Brought.{IsBrought, IsCompleted, IsGathering};
 ghost use Rattle.zq_replica.specs.Fence.{IsStanding, IsWeighedByBytes, IsWeighedByPiece};
@@ -287,4 +287,17 @@ impl Replica<'_> {
             Stray::Unfit => self.ask_for(alloc, place, heap, None, out),
         }
     }
+}
+
+/// Whether all of these operations are of this heap.
+pub(crate) fn are_of(heap: u8, ops: &[Op]) -> bool
+    ensures all { result ≡ true → All (λ o. o.operation.heap ≡ heap) ops.now }
+    ensures other { All (λ o. o.operation.heap ≡ heap) ops.now → result ≡ true }
+{
+    for op in ops {
+        if op.heap() != heap {
+            return false;
+        }
+    }
+    true
 }
