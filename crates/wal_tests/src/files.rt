@@ -97,6 +97,25 @@ fn zeros_are_ahead_and_damage_is_told(rt: HostRuntime) -> Result<(), Fail> {
 }
 
 #[test]
+fn room_is_ahead_and_what_is_read_stays(rt: HostRuntime) -> Result<(), Fail> {
+    let folder = "roomy";
+    fs::create_dir(&rt, folder)?;
+    let rows = [
+        ("cone r ctwo R", "", 1 << 18),
+        ("R b nthree f r nfour R p cfive", "one,two,", 1 << 22),
+        ("R r b", "three,four,five,", 0),
+        ("", "three,four,five,", 0),
+    ];
+    for (script, expected, length) in rows {
+        let read = start(&rt, folder, script)?;
+        assert!(rt; read.as_slice() == expected.as_bytes(), "{script}");
+        let bytes = fs::read(&rt, "roomy/log")?;
+        assert!(rt; length == 0 || bytes.len() == length, "{script}");
+    }
+    Ok(())
+}
+
+#[test]
 fn a_folder_that_is_used_is_not_opened(rt: HostRuntime) -> Result<(), Fail> {
     let folder = "used";
     assert!(rt; matches!(log_of(&rt, folder)?, Err(OpenFault::Io(_))));

@@ -10,7 +10,7 @@ use std::alloc::{AllocError, Global};
 use std::process::Abort;
 use std::test::Fail;
 use vectors::SCRIPTS;
-use zq_wal::{Disk, MemoryDisk, MemorySource, Wal, WalError, read_records, reopen};
+use zq_wal::{Behind, Disk, MemoryDisk, MemorySource, Wal, WalError, read_records, reopen};
 
 /// Makes a step of a script, and says whether it is done.
 fn step<D: Disk>(alloc: Global, log: &mut Wal<D>, word: &[u8]) -> bool
@@ -27,6 +27,8 @@ fn step<D: Disk>(alloc: Global, log: &mut Wal<D>, word: &[u8]) -> bool
         b's' => log.sync().is_ok(),
         b'b' => log.begin_next().is_ok(),
         b'f' => log.sync_next().is_ok(),
+        b'r' => matches!(log.room(Behind::Log, 200_000), Ok(true)),
+        b'R' => matches!(log.room(Behind::Next, 200_000), Ok(true)),
         b'n' if switching => log.add_next(alloc, body).is_ok(),
         b'p' if switching => log.publish_next().is_ok(),
         _ => false,

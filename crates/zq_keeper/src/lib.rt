@@ -9,6 +9,7 @@
 //! | `rest` | one Rest, committed, where something came since the last one | damage of all before it is told |
 //! | `begin_switch` | a Start in a next file | a switch is going on |
 //! | `piece`, `seal` | one piece of a heap, or that all of them are there, in the next file | one step of the switch is done |
+//! | `room` | nothing | there is room for what follows, or the disk is full and the keeper as it was |
 //! | `flush` | nothing | what is written of the next file is on the disk |
 //! | `publish` | nothing | the next file is the log |
 //!
@@ -39,6 +40,7 @@ mod pieces;
 mod publishing;
 mod reader;
 mod resting;
+mod room;
 mod rounds;
 mod size;
 mod switching;

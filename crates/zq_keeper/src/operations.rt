@@ -4,11 +4,12 @@
 ghost use Rattle.std.specs.Prelude.{IfErr, OnOk, [], true, ◌∷◌, ◌≡◌, ◌⊎◌};
 ghost use Rattle.zq_dots.specs.Placed.{IsRanged};
 ghost use Rattle.zq_keeper.specs.Operations as spec;
+ghost use Rattle.zq_model.specs.Sets.{covers};
 ghost use Rattle.zq_recovery.specs.declared.refusal.Refusal.{Refusal as refusal};
 
 use crate::next::Part;
 use crate::outline::Outline;
-use zq_dots::{Dot, Op, heap_of};
+use zq_dots::{Dot, Op, Vector, heap_of};
 use zq_entries::Batch;
 use zq_recovery::{Identity, Refusal};
 
@@ -122,6 +123,13 @@ fn is_placed(identity: &Identity, op: &Op) -> bool
     op.heaps() == identity.heaps && heap_of(op.key(), op.member(), op.heaps()) == op.heap()
 }
 
+/// Whether a vector knows all that another one knows. Mostly they are the same.
+fn knows(vector: &Vector, seen: &Vector) -> bool
+    ensures { result ≡ covers vector.now seen.now }
+{
+    vector == seen || vector.covers(seen)
+}
+
 /// Notes an operation; one that is known changes nothing.
 fn note_in(outline: &mut Outline, op: &Op) -> Result<(), Refusal>
     ensures noted { OnOk result (spec.Takes op.now outline.old outline.new) }
@@ -130,7 +138,7 @@ fn note_in(outline: &mut Outline, op: &Op) -> Result<(), Refusal>
     if outline.vector.has(op.dot()) {
         return Ok(());
     }
-    if !outline.vector.covers(op.seen()) {
+    if !knows(&outline.vector, op.seen()) {
         return Err(Refusal::Gap);
     }
     let Dot { site, n } = op.dot();

@@ -4,6 +4,15 @@ ghost use Rattle.zq_wal.specs.Disk.{Cut, Elapses, Follows, HasCause, NoLonger, O
 
 use crate::WalError;
 
+/// Behind the end of which file room is asked for.
+#[derive(Clone, Copy, Debug, PartialEq, Eq)]
+pub enum Behind {
+    /// The log.
+    Log,
+    /// The next file, which need not be begun.
+    Next,
+}
+
 /// The file of a log, and the next file, which is to take its place.
 ///
 /// Nothing is read through it: `Source` reads a log. What a call may leave behind is said for a
@@ -99,6 +108,21 @@ pub trait Disk {
             may_leave self.old c ⊎ staged_may_leave self.old c }
         ensures time { Elapses (moment self.old) (moment self.new)
             (left_since self.old) (left_since self.new) (may_leave self.new) }
+        ensures cause { HasCause (faults self.old) (faults self.new) result };
+
+    /// Has room on the disk for so many bytes more behind the end of a file, as zeros that are no
+    /// part of it, and says whether it has: it has not where the disk is full. Nothing else changes,
+    /// whatever the answer: what the files have, and what a crash may leave of them, is what it was,
+    /// and after `Ok` each later call does what it did before.
+    fn room(&mut self, behind: Behind, bytes: u64) -> Result<bool, WalError>
+        ensures seen { seen self.new ≡ seen self.old }
+        ensures staged { staged self.new ≡ staged self.old }
+        ensures crash { (c : List ℕ) → may_leave self.new c → may_leave self.old c }
+        ensures crash_next { (c : List ℕ) →
+            staged_may_leave self.new c → staged_may_leave self.old c }
+        ensures time { Elapses (moment self.old) (moment self.new)
+            (left_since self.old) (left_since self.new) (may_leave self.new) }
+        ensures same { OnOk result (faults self.new ≡ faults self.old) }
         ensures cause { HasCause (faults self.old) (faults self.new) result };
 
     /// This moment is one of those since an earlier one.

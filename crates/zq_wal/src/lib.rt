@@ -37,6 +37,10 @@
 //! which renames it. A crash at any moment leaves the old file's records that were synced, or all
 //! of the new file's.
 //!
+//! **Room** is asked for ahead (`room`), so that a disk that is full is told before anything is
+//! written: then the log is as it was and goes on once there is room. No clause says that what is
+//! written afterwards has room.
+//!
 //! The contracts are said over the trait `Disk`: what its calls do to the files, and what a crash
 //! at any moment of them may leave.
 //!
@@ -47,6 +51,7 @@
 //! | `add` | make one record more; at any moment the synced records are kept, and no part of one |
 //! | `commit`, `commit_bytes` | do the same, and after `Ok` all records are synced |
 //! | `sync` | leave all records synced |
+//! | `room` | leave the log and the next file, and what a crash leaves of both, whatever it says |
 //! | `begin_next`, `add_next` | leave the log; the next file is whole records |
 //! | `sync_next` | leave the log and the next file; after `Ok` a crash leaves all of the next file |
 //! | `publish_next` | leave the next file's records, all synced; at any moment old or new, whole |
@@ -71,7 +76,7 @@ mod wal;
 mod walk;
 
 pub use committed::Committed;
-pub use disk::Disk;
+pub use disk::{Behind, Disk};
 pub use error::{Stopped, WalError};
 pub use image::Image;
 pub use laws::{records_again, synced_stays};

@@ -4,7 +4,7 @@ ghost use Rattle.std.proofs.Common.{inl};
 ghost use Rattle.zq_wal.specs.Disk.{HasCause, Only};
 ghost use Rattle.zq_wal.specs.Image.{LeftNow, LeftOf, LeftSince, bytes_of, only_left_now};
 
-use crate::{Disk, Image, WalError};
+use crate::{Behind, Disk, Image, WalError};
 use std::alloc::{AllocError, Global};
 
 /// A disk in memory. It does a number of calls, and then each call fails; what such a call did is
@@ -20,6 +20,8 @@ pub struct MemoryDisk {
     pub next: Image,
     /// What a crash might have left at earlier moments.
     pub past: Vec<Image>,
+    /// Whether it has no room for anything more, which `room` alone looks at.
+    pub is_full: bool,
     /// How many calls it still does.
     pub calls: u64,
     /// How often it has failed.
@@ -38,6 +40,7 @@ impl MemoryDisk {
             elders: Vec::new(alloc),
             next: Image::of(alloc, Vec::new(alloc)),
             past: Vec::new(alloc),
+            is_full: false,
             calls,
             faults: 0,
         }
@@ -76,7 +79,8 @@ impl MemoryDisk {
 
 /// Whether a disk still does a call. One that does not has failed.
 pub(crate) fn spend(calls: &mut u64, faults: &mut u64) -> Result<(), WalError>
-    ensures { HasCause faults.old faults.new result }
+    ensures cause { HasCause faults.old faults.new result }
+    ensures same { OnOk result (faults.new ≡ faults.old) }
 {
     if *calls > 0 || *faults == u64::MAX {
         *calls = calls.saturating_sub(1);
@@ -147,5 +151,10 @@ impl Disk for MemoryDisk {
         let whole = self.next.copy(self.alloc)?;
         self.replace(whole)?;
         spend(&mut self.calls, &mut self.faults)
+    }
+
+    fn room(&mut self, _behind: Behind, _bytes: u64) -> Result<bool, WalError> {
+        spend(&mut self.calls, &mut self.faults)?;
+        Ok(!self.is_full)
     }
 }

@@ -5,7 +5,7 @@ ghost use Rattle.zq_wal.specs.Format.{encoded, file_of, floor_of, is_corrupt, pa
 ghost use Rattle.zq_wal.specs.Wal.{AreFloors, IsLog, Keeps, KeepsEither};
 
 use crate::record::encode;
-use crate::{Committed, Disk, WalError};
+use crate::{Behind, Committed, Disk, WalError};
 use std::alloc::{AllocError, Global};
 
 /// How many records a file has at most.
@@ -179,6 +179,34 @@ impl<D: Disk> Wal<D> {
         self.disk.sync()?;
         self.synced = self.count;
         Ok(())
+    }
+
+    /// Has room on the disk for so many bytes more behind the end of the log, or of the next file,
+    /// which need not be begun, and says whether it has. The log and the next file stay as they are,
+    /// with an `Err` too.
+    pub fn room(&mut self, behind: Behind, bytes: u64) -> Result<bool, WalError>
+        requires { IsLog D.seen D.staged D.may_leave self.old }
+
+        ensures log { IsLog D.seen D.staged D.may_leave self.new }
+        ensures seen { D.seen self.new.disk ≡ D.seen self.old.disk }
+        ensures staged { D.staged self.new.disk ≡ D.staged self.old.disk }
+        ensures left { (c : List ℕ) →
+            D.may_leave self.new.disk c → D.may_leave self.old.disk c }
+        ensures left_next { (c : List ℕ) →
+            D.staged_may_leave self.new.disk c → D.staged_may_leave self.old.disk c }
+        ensures same { (self.new.count ≡ self.old.count) × (self.new.synced ≡ self.old.synced)
+            × (self.new.next ≡ self.old.next) }
+
+        ensures any_moment { LeavesOnly D.moment D.left_since self.old.disk self.new.disk
+            (Keeps (recovered (D.seen self.old.disk)) self.old.synced) }
+
+        ensures faults { OnOk result (D.faults self.new.disk ≡ D.faults self.old.disk) }
+        ensures failed { IsErrOf result WalError.Failed →
+            D.faults self.old.disk < D.faults self.new.disk }
+        ensures sound { (IsErrOf result WalError.Corrupt → ⊥)
+            × (IsErrOf result WalError.Full → ⊥) × (IsErrOf result WalError.Stopped → ⊥) }
+    {
+        self.disk.room(behind, bytes)
     }
 
     /// A log whose records are these many, all of them synced.

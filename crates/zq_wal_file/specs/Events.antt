@@ -15,6 +15,7 @@ use Rattle.zq_wal.specs.Disk.{Cut, Torn}
 -- 5: these bytes were written behind its end
 -- 6: it was synced
 -- 7: it took the log's name
+-- 8: zeros were written ahead in the log, or in the next file, as far as there was room
 abbrev pub Event : Type 0
 Event = ℕ × ℕ × Bool × List ℕ
 
@@ -41,8 +42,10 @@ after_call (suc (suc (suc (suc (suc zero))))) n ok bytes m =
     record m { staged = if ok then m.staged ++ bytes else m.staged; faults = failed ok m.faults }
 after_call (suc (suc (suc (suc (suc (suc zero)))))) n ok bytes m =
     record m { faults = failed ok m.faults }
-after_call (suc (suc (suc (suc (suc (suc (suc more))))))) n ok bytes m =
+after_call (suc (suc (suc (suc (suc (suc (suc zero))))))) n ok bytes m =
     record m { seen = if ok then m.staged else m.seen; faults = failed ok m.faults }
+after_call (suc (suc (suc (suc (suc (suc (suc (suc more)))))))) n ok bytes m =
+    record m { faults = failed ok m.faults }
 
 -- after these calls, of which the newest comes first
 abbrev pub replay : List Event → Model
@@ -54,14 +57,15 @@ abbrev pub SyncedTo : Bool → List ℕ → List ℕ → Type 0
 SyncedTo true file c = c ≡ file
 SyncedTo false file c = Unit {0}
 
--- what a crash may leave of the next file
-abbrev pub next_left : ℕ → Bool → List ℕ → List ℕ → Type 0
-next_left (suc (suc (suc (suc (suc (suc zero)))))) ok staged c = SyncedTo ok staged c
-next_left n ok staged c = Unit {0}
+-- what a crash may leave of the next file after one call more
+abbrev pub next_left : ℕ → Bool → List ℕ → (List ℕ → Type 0) → List ℕ → Type 0
+next_left (suc (suc (suc (suc (suc (suc zero)))))) ok staged next c = SyncedTo ok staged c
+next_left (suc (suc (suc (suc (suc (suc (suc (suc more)))))))) ok staged next c = next c
+next_left n ok staged next c = Unit {0}
 
 abbrev pub NextLeft : List Event → List ℕ → Type 0
 NextLeft [] c = Unit {0}
-NextLeft (e ∷ earlier) c = next_left e.0 e.2 (replay earlier).staged c
+NextLeft (e ∷ earlier) c = next_left e.0 e.2 (replay earlier).staged (NextLeft earlier) c
 
 -- what a crash may leave of the log after one call more
 abbrev pub left_by : ℕ → ℕ → Bool → List ℕ → Model → (List ℕ → Type 0) → (List ℕ → Type 0) →
@@ -73,7 +77,8 @@ left_by (suc (suc (suc zero))) n ok bytes m next left c = left c × SyncedTo ok 
 left_by (suc (suc (suc (suc zero)))) n ok bytes m next left c = left c
 left_by (suc (suc (suc (suc (suc zero))))) n ok bytes m next left c = left c
 left_by (suc (suc (suc (suc (suc (suc zero)))))) n ok bytes m next left c = left c
-left_by (suc (suc (suc (suc (suc (suc (suc more))))))) n ok bytes m next left c = left c ⊎ next c
+left_by (suc (suc (suc (suc (suc (suc (suc zero))))))) n ok bytes m next left c = left c ⊎ next c
+left_by (suc (suc (suc (suc (suc (suc (suc (suc more)))))))) n ok bytes m next left c = left c
 
 abbrev pub MayLeave : List Event → List ℕ → Type 0
 MayLeave [] c = c ≡ []

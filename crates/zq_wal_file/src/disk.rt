@@ -10,7 +10,7 @@ use crate::record::Record;
 use crate::{FileFault, OpenFault};
 use std::fs::File;
 use std::rt::Files;
-use zq_wal::{Disk, Source, WalError};
+use zq_wal::{Behind, Disk, Source, WalError};
 
 // Which call is noted.
 const READ: u64 = 0;
@@ -28,6 +28,8 @@ const NEXT_APPENDED: u64 = 5;
 const NEXT_SYNCED: u64 = 6;
 
 const PUBLISHED: u64 = 7;
+
+const WIDENED: u64 = 8;
 
 /// The log of a folder as it is found. It is read before anything else is asked of it.
 #[derive(Drop)]
@@ -188,5 +190,14 @@ impl<R: Files<File = File> + Drop> Disk for FileDisk<R> {
         }
         self.record.note(&[PUBLISHED, 0, 1], &[]);
         Ok(())
+    }
+
+    fn room(&mut self, behind: Behind, bytes: u64) -> Result<bool, WalError> {
+        let Ok(has_room) = self.files.room(behind, bytes) else {
+            self.record.note(&[WIDENED, bytes, 0], &[]);
+            return Err(WalError::Failed);
+        };
+        self.record.note(&[WIDENED, bytes, 1], &[]);
+        Ok(has_room)
     }
 }

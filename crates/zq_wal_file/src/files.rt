@@ -3,15 +3,16 @@
 ghost use Rattle.std.specs.Prelude.{◌≡◌, ◌≤◌, IfErr, IfOk, IfSome, None, OnOk, Some, length};
 
 use crate::folder::{check_name, drop_pages, lock_folder, make, open_log, remove};
+use crate::grown::{Grown, unless_full};
 use crate::{FileFault, OpenFault};
 use std::fs;
 use std::fs::File;
 use std::io::Read;
-use std::os::unix::fs::FileExt;
 use std::rt::Files;
+use zq_wal::Behind;
 
-/// How many zeros are written at once.
-const ZEROS: usize = 1 << 16;
+/// How many pieces of zeros are written ahead at once in the next file: 4 MiB.
+const NEXT_AHEAD: u64 = 64;
 
 /// The log's file, the next file and their folder.
 #[derive(Drop)]
@@ -20,13 +21,12 @@ pub struct LogFiles<R: Files<File = File> + Drop> {
     folder: File,
     log_path: String,
     next_path: String,
-    log: File,
-    next: Option<File>,
-    /// Where the records end, and where the synced zeros behind them do.
-    end: u64,
-    room: u64,
-    next_end: u64,
-    /// How often zeros are written ahead at once.
+    log: Grown,
+    /// The next file, or zeros that it is to be written over.
+    next: Option<Grown>,
+    /// Whether the next file was begun.
+    is_begun: bool,
+    /// How many pieces of zeros are written ahead at once in the log.
     ahead: u64,
     /// The log was cut or has taken its name since the last sync.
     moved: bool,
@@ -55,11 +55,9 @@ impl<R: Files<File = File> + Drop> LogFiles<R> {
             folder,
             log_path,
             next_path,
-            log,
+            log: Grown::new(log, 0),
             next: None,
-            end: 0,
-            room: 0,
-            next_end: 0,
+            is_begun: false,
             ahead,
             moved: false,
             fault: None,
@@ -75,7 +73,7 @@ impl<R: Files<File = File> + Drop> LogFiles<R> {
         if let Some(fault) = self.fault {
             return Err(fault);
         }
-        match self.log.read(piece) {
+        match self.log.file.read(piece) {
             Ok(n) => Ok(n),
             Err(error) => Err(self.fail(FileFault::from(error))),
         }
@@ -193,38 +191,77 @@ impl<R: Files<File = File> + Drop> LogFiles<R> {
         self.keep(done)
     }
 
-    /// Writes behind the records, where zeros are ahead.
-    fn write_behind(&mut self, bytes: &[u8]) -> Result<(), FileFault> {
-        let end = self.end.saturating_add(bytes.len() as u64);
-        for _ in 0..u64::MAX {
-            if end <= self.room {
-                break;
-            }
-            self.make_room()?;
+    /// Has room for so many bytes more behind the end of the log, or of the next file, and says
+    /// whether it has: it has not where the disk is full, which is no failure.
+    pub(crate) fn room(&mut self, behind: Behind, bytes: u64) -> Result<bool, FileFault>
+        ensures over { IfSome self.old.fault
+            (λ f. (result ≡ Err f) × (self.new.fault ≡ Some f)) }
+        ensures failed { IfErr result (λ f. self.new.fault ≡ Some f) }
+        ensures done { OnOk result (self.new.fault ≡ self.old.fault) }
+    {
+        if let Some(fault) = self.fault {
+            return Err(fault);
         }
-        self.log.write_all_at(bytes, self.end)?;
-        self.end = end;
-        Ok(())
+        match self.widen(behind, bytes) {
+            Ok(has_room) => Ok(has_room),
+            Err(fault) => Err(self.fail(fault)),
+        }
     }
 
-    /// Writes zeros ahead and syncs them, so that a sync of records behind each other changes no
-    /// length of the file.
-    fn make_room(&mut self) -> Result<(), FileFault> {
-        let zeros = [0u8; ZEROS];
-        let mut room = self.room;
-        for _ in 0..self.ahead.max(1) {
-            self.log.write_all_at(&zeros, room)?;
-            room = room.saturating_add(ZEROS as u64);
+    /// Has zeros ahead, and says whether they are there.
+    fn widen(&mut self, behind: Behind, bytes: u64) -> Result<bool, FileFault>
+        ensures { self.new.fault ≡ self.old.fault }
+    {
+        match behind {
+            Behind::Log => self.log.widen(bytes, self.ahead),
+            Behind::Next => self.widen_next(bytes),
         }
-        self.log.sync_all()?;
-        self.room = room;
-        Ok(())
+    }
+
+    /// Has zeros ahead in the next file. Where none was begun they are what it is to be written
+    /// over; if they are too few then the file is removed, so that the log has its room.
+    fn widen_next(&mut self, bytes: u64) -> Result<bool, FileFault>
+        ensures { self.new.fault ≡ self.old.fault }
+    {
+        if self.next.is_none() && !self.make_spare()? {
+            return Ok(false);
+        }
+        let has_room = match &mut self.next {
+            Some(next) => next.widen(bytes, NEXT_AHEAD)?,
+            None => false,
+        };
+        if !has_room && !self.is_begun {
+            self.next = None;
+            remove(&self.rt, self.next_path.as_str())?;
+        }
+        Ok(has_room)
+    }
+
+    /// Makes the file that a next file is to be written over, and says whether there was room.
+    fn make_spare(&mut self) -> Result<bool, FileFault>
+        ensures { self.new.fault ≡ self.old.fault }
+    {
+        remove(&self.rt, self.next_path.as_str())?;
+        match make(&self.rt, self.next_path.as_str()) {
+            Ok(file) => {
+                self.is_begun = false;
+                self.next = Some(Grown::new(file, 0));
+                Ok(true)
+            }
+            Err(error) => unless_full(Err(error)),
+        }
+    }
+
+    /// Writes behind the records, where zeros are ahead.
+    fn write_behind(&mut self, bytes: &[u8]) -> Result<(), FileFault> {
+        if !self.log.widen(bytes.len() as u64, self.ahead)? {
+            return Err(FileFault::Full);
+        }
+        self.log.append(bytes)
     }
 
     fn shorten(&mut self, len: usize) -> Result<(), FileFault> {
-        self.log.set_len(len as u64)?;
-        self.end = len as u64;
-        self.room = len as u64;
+        self.log.cut(len as u64)?;
         self.moved = true;
         Ok(())
     }
@@ -243,44 +280,48 @@ impl<R: Files<File = File> + Drop> LogFiles<R> {
 
     /// That the log has its name.
     fn check_log(&self) -> Result<(), FileFault> {
-        check_name(&self.rt, &self.log, self.log_path.as_str())
+        check_name(&self.rt, &self.log.file, self.log_path.as_str())
     }
 
+    /// Begins the next file, over the zeros that there are for it, if none was begun before.
     fn make_next(&mut self) -> Result<(), FileFault> {
         self.check_log()?;
-        self.next = None;
-        self.next_end = 0;
-        remove(&self.rt, self.next_path.as_str())?;
-        self.next = Some(make(&self.rt, self.next_path.as_str())?);
+        if self.is_begun || self.next.is_none() {
+            self.is_begun = false;
+            self.next = None;
+            remove(&self.rt, self.next_path.as_str())?;
+            let file = make(&self.rt, self.next_path.as_str())?;
+            self.next = Some(Grown::new(file, 0));
+        }
+        self.is_begun = true;
         Ok(())
     }
 
     fn write_next(&mut self, bytes: &[u8]) -> Result<(), FileFault> {
-        let Some(next) = &self.next else {
-            return Err(FileFault::NotBegun);
-        };
-        next.write_all_at(bytes, self.next_end)?;
-        self.next_end = self.next_end.saturating_add(bytes.len() as u64);
-        Ok(())
+        match &mut self.next {
+            Some(next) if self.is_begun => next.append(bytes),
+            _ => Err(FileFault::NotBegun),
+        }
     }
 
     fn flush_next(&mut self) -> Result<(), FileFault> {
-        let Some(next) = &self.next else {
-            return Err(FileFault::NotBegun);
-        };
-        next.sync_all()?;
-        Ok(())
+        match &mut self.next {
+            Some(next) if self.is_begun => next.sync_all(),
+            _ => Err(FileFault::NotBegun),
+        }
     }
 
     fn rename_next(&mut self) -> Result<(), FileFault> {
         self.check_log()?;
+        if !self.is_begun {
+            return Err(FileFault::NotBegun);
+        }
         let Some(next) = self.next.take() else {
             return Err(FileFault::NotBegun);
         };
         fs::rename(&self.rt, self.next_path.as_str(), self.log_path.as_str())?;
         self.log = next;
-        self.end = self.next_end;
-        self.room = self.next_end;
+        self.is_begun = false;
         self.moved = true;
         Ok(())
     }

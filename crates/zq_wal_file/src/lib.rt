@@ -3,7 +3,7 @@
 //! | name | is |
 //! |---|---|
 //! | `log` | the records, and behind them zeros that were written and synced ahead |
-//! | `log.next` | the next log while it is written; one that is there at a start is removed |
+//! | `log.next` | the next log while it is written, or zeros that it is to be written over; one that is there at a start is removed |
 //!
 //! A start opens the folder ([`open`]), which other processes are then kept out of, reads the log
 //! to its end ([`FoundLog`]), and goes on with the disk that has what was read ([`FileDisk`]). What
@@ -12,6 +12,12 @@
 //! After a call that failed no other call is made: a sync that is tried again may succeed though
 //! bytes are lost, since Linux then takes the pages for written. [`FileDisk::fault`] says what
 //! failed. A start reads again what the disk has.
+//!
+//! Where the disk is full while zeros are written ahead, nothing has failed: what is written is
+//! synced before, so that zeros alone may be lost, and these are written again when they are asked
+//! for again. `room` then says so. A write of records for which no room was asked, and which finds
+//! the disk full, is a call that failed. A file system that takes new room for bytes that are
+//! written over others (as one that copies on write) may find the disk full there.
 //!
 //! `FileDisk` is proved to be a `Disk` over a record of its calls, which clauses alone have. So a
 //! reader has to see, and no proof shows, that
@@ -29,6 +35,7 @@ mod disk;
 mod fault;
 mod files;
 mod folder;
+mod grown;
 mod record;
 
 pub use disk::{FileDisk, FoundLog, open};
