@@ -4,7 +4,7 @@ use Rattle.std.specs.Prelude.{Bool, List, [], codes, decimal, false, not, true, 
 use Rattle.zq_resp.specs.Reply.{line, reply_bytes}
 use Rattle.zq_resp.specs.declared.reply.Reply.{Reply}
 use Rattle.zq_serve.specs.declared.admission.Admits.{Admits}
-use Rattle.zq_serve.specs.declared.admission.Admits.TheVariants.{All, NoAdditions, Pings, Readings}
+use Rattle.zq_serve.specs.declared.admission.Admits.TheVariants.{All, NoAdditions, NoChanges, Pings, Readings}
 use Rattle.zq_words.specs.Words.{Word, is}
 
 -- whether a request of this name writes
@@ -31,17 +31,20 @@ is_ping [] = false
 is_ping (name ∷ words) = is name (codes "PING")
 
 -- which commands are answered: PING alone once the site is fenced, whatever else holds, else
--- readings while it waits, else those that add nothing while the process is full, and else all
-abbrev pub admits_by : Bool → Bool → Bool → Admits
-admits_by true waits full = Pings
-admits_by false true full = Readings
-admits_by false false true = NoAdditions
-admits_by false false false = All
+-- readings while it waits, or while the disk is full, else those that add nothing while the process
+-- is full, and else all
+abbrev pub admits_by : Bool → Bool → Bool → Bool → Admits
+admits_by true waits disk full = Pings
+admits_by false true disk full = Readings
+admits_by false false true full = NoChanges
+admits_by false false false true = NoAdditions
+admits_by false false false false = All
 
 -- whether these words are answered
 abbrev pub is_admitted : Admits → List Word → Bool
 is_admitted All words = true
 is_admitted Readings words = not (is_write words)
+is_admitted NoChanges words = not (is_write words)
 is_admitted NoAdditions words = not (is_addition words)
 is_admitted Pings words = is_ping words
 
@@ -53,6 +56,7 @@ loading_of site = codes "LOADING site " ++ (decimal site ++ codes " waits for it
 abbrev pub refusal_of : ℕ → Admits → List ℕ
 refusal_of site All = []
 refusal_of site Readings = loading_of site
+refusal_of site NoChanges = codes "MISCONF the disk of this site is full"
 refusal_of site NoAdditions = codes "OOM command not allowed when used memory > 'maxmemory'."
 refusal_of site Pings = codes "ERR this site number was used by another run"
 

@@ -7,7 +7,7 @@ use Rattle.zq_serve.specs.declared.commits.Writes.TheVariants.{Failed, Goes, Ove
 
 -- no ticket was given
 abbrev pub no_rounds : Rounds
-no_rounds = record { asked = 0; done = 0; writes = Goes }
+no_rounds = record { asked = 0; done = 0; own = 0; writes = Goes }
 
 -- the ticket behind the last one, within 64 bits
 abbrev pub next_ticket : Rounds → ℕ
@@ -19,7 +19,12 @@ asked rounds = record rounds { asked = next_ticket rounds }
 
 -- a round behind this ticket was written
 abbrev pub ended : ℕ → Rounds → Rounds
-ended ticket rounds = record rounds { done = max rounds.done ticket }
+ended ticket rounds =
+    record rounds { done = max rounds.done ticket; own = max rounds.own ticket }
+
+-- all that the site itself made before this ticket was written
+abbrev pub ended_own : ℕ → Rounds → Rounds
+ended_own ticket rounds = record rounds { own = max rounds.own ticket }
 
 -- no round is written any more, since the site ends; where the disk failed nothing changes
 abbrev pub over_after : Writes → Writes
@@ -57,6 +62,14 @@ holds_while Failed ticket done = true
 abbrev pub holds : ℕ → Rounds → Bool
 holds ticket rounds = holds_while rounds.writes ticket rounds.done
 
+-- the same where what the site itself made is waited for
+abbrev pub holds_own : ℕ → Rounds → Bool
+holds_own ticket rounds = holds_while rounds.writes ticket rounds.own
+
 -- whether a round behind this ticket was written
 abbrev pub is_done : ℕ → Rounds → Bool
 is_done ticket rounds = nat_le ticket rounds.done
+
+-- whether all that the site itself made before this ticket was written
+abbrev pub is_own_done : ℕ → Rounds → Bool
+is_own_done ticket rounds = nat_le ticket rounds.own

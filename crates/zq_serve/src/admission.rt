@@ -13,6 +13,8 @@ pub enum Admits {
     All,
     /// Those that write nothing: the site waits for its peers.
     Readings,
+    /// Those that write nothing: the disk is full.
+    NoChanges,
     /// Those that add nothing: the process has more memory than it may.
     NoAdditions,
     /// PING alone: another run used the site's number.
@@ -26,6 +28,7 @@ pub struct Admission {
     waits: AtomicBool,
     is_fenced: AtomicBool,
     is_full: AtomicBool,
+    is_disk_full: AtomicBool,
 }
 
 impl Admission {
@@ -36,6 +39,7 @@ impl Admission {
             waits: AtomicBool::new(waits),
             is_fenced: AtomicBool::new(false),
             is_full: AtomicBool::new(false),
+            is_disk_full: AtomicBool::new(false),
         }
     }
 
@@ -54,6 +58,11 @@ impl Admission {
         self.is_full.store(is_full, Ordering::SeqCst);
     }
 
+    /// Whether the disk is full on which the site keeps its log.
+    pub fn fill_disk(&self, is_full: bool) {
+        self.is_disk_full.store(is_full, Ordering::SeqCst);
+    }
+
     /// Whether the site waits for its peers.
     pub fn waits(&self) -> bool {
         self.waits.load(Ordering::SeqCst)
@@ -69,22 +78,33 @@ impl Admission {
         self.is_full.load(Ordering::SeqCst)
     }
 
+    /// Whether the disk is full on which the site keeps its log.
+    pub fn is_disk_full(&self) -> bool {
+        self.is_disk_full.load(Ordering::SeqCst)
+    }
+
     /// Which commands are answered.
     pub(crate) fn admits(&self) -> Admits {
-        admits_by(self.is_fenced(), self.waits(), self.is_full())
+        admits_by(
+            self.is_fenced(),
+            self.waits(),
+            self.is_disk_full(),
+            self.is_full(),
+        )
     }
 }
 
 /// Which commands a site answers: PING alone where another run used its number, else those that
-/// write nothing while it waits for its peers, and else those that add nothing while the process
-/// has more memory than it may.
-fn admits_by(is_fenced: bool, waits: bool, is_full: bool) -> Admits
-    ensures { result ≡ admits_by is_fenced waits is_full }
+/// write nothing while it waits for its peers, or while its disk is full, and else those that add
+/// nothing while the process has more memory than it may.
+fn admits_by(is_fenced: bool, waits: bool, is_disk_full: bool, is_full: bool) -> Admits
+    ensures { result ≡ admits_by is_fenced waits is_disk_full is_full }
 {
-    match (is_fenced, waits, is_full) {
-        (true, _, _) => Admits::Pings,
-        (false, true, _) => Admits::Readings,
-        (false, false, true) => Admits::NoAdditions,
-        (false, false, false) => Admits::All,
+    match (is_fenced, waits, is_disk_full, is_full) {
+        (true, _, _, _) => Admits::Pings,
+        (false, true, _, _) => Admits::Readings,
+        (false, false, true, _) => Admits::NoChanges,
+        (false, false, false, true) => Admits::NoAdditions,
+        (false, false, false, false) => Admits::All,
     }
 }

@@ -55,6 +55,10 @@ fn held_back(site: SiteNo, admits: Admits, words: &[Vec<u8>]) -> Option<Reply>
             text: loading_text(site),
             after: None,
         }),
+        Admits::NoChanges if is_write(words) => Some(Reply::Error {
+            text: "MISCONF the disk of this site is full",
+            after: None,
+        }),
         Admits::NoAdditions if is_addition(words) => Some(Reply::Error {
             text: "OOM command not allowed when used memory > 'maxmemory'.",
             after: None,

@@ -25,6 +25,8 @@ pub struct Rounds {
     pub asked: u64,
     /// The last ticket behind which a whole round was written.
     pub done: u64,
+    /// The last ticket before which all was written that the site itself had made.
+    pub own: u64,
     /// Whether rounds are written.
     pub writes: Writes,
 }
@@ -37,6 +39,7 @@ impl Rounds {
         Rounds {
             asked: 0,
             done: 0,
+            own: 0,
             writes: Writes::Goes,
         }
     }
@@ -55,6 +58,14 @@ impl Rounds {
         ensures { self.new ≡ wanted.ended ticket self.old }
     {
         self.done = self.done.max(ticket);
+        self.own = self.own.max(ticket);
+    }
+
+    /// All that the site itself made before this ticket was written.
+    fn end_own(&mut self, ticket: u64)
+        ensures { self.new ≡ wanted.ended_own ticket self.old }
+    {
+        self.own = self.own.max(ticket);
     }
 
     /// No round is written any more, since the site ends. Where the disk failed nothing changes.
@@ -94,6 +105,24 @@ impl Rounds {
         match self.writes {
             Writes::Goes => self.waiting() < crowd,
             Writes::Over | Writes::Failed => false,
+        }
+    }
+
+    /// Whether all that the site itself made before this ticket was written.
+    fn has_own(&self, ticket: u64) -> bool
+        ensures { result ≡ wanted.is_own_done ticket self.now }
+    {
+        ticket <= self.own
+    }
+
+    /// Whether who has this ticket waits, for what the site itself made alone.
+    fn holds_own(&self, ticket: u64) -> bool
+        ensures { result ≡ wanted.holds_own ticket self.now }
+    {
+        match self.writes {
+            Writes::Goes => self.own < ticket,
+            Writes::Over => false,
+            Writes::Failed => true,
         }
     }
 
@@ -166,6 +195,13 @@ impl Commits {
         waiting
     }
 
+    /// The disk is full, and all that the site itself had made before this ticket is on it. Who
+    /// waits for that goes on.
+    pub fn end_own<R: Wait>(&self, rt: &R, ticket: u64) {
+        self.rounds.lock(rt).end_own(ticket);
+        self.changed.notify_all();
+    }
+
     /// No round is written any more, since the site ends. Who waits goes on, and is told so. Where
     /// the disk failed nothing changes.
     pub fn close<R: Wait>(&self, rt: &R) {
@@ -185,6 +221,13 @@ impl Commits {
         let held = |rounds: &mut Rounds| rounds.holds(ticket);
         let rounds = self.changed.wait_while(rt, self.rounds.lock(rt), held);
         rounds.has(ticket)
+    }
+
+    /// The same, but where the disk is full it does not wait for what the site itself did not make.
+    pub fn wait_own<R: Wait>(&self, rt: &R, ticket: u64) -> bool {
+        let held = |rounds: &mut Rounds| rounds.holds_own(ticket);
+        let rounds = self.changed.wait_while(rt, self.rounds.lock(rt), held);
+        rounds.has_own(ticket)
     }
 
     /// Does not return where the disk failed.

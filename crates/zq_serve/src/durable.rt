@@ -24,10 +24,13 @@ impl Durable<'_> {
     }
 
     /// The same before replies, where they wait; else it does not return where the disk failed, and
-    /// waits for nothing.
+    /// waits for nothing. While the disk is full a reply waits for what the site itself made alone:
+    /// what peers sent, of which it may tell too, they have.
     pub fn settle<R: Wait>(&self, rt: &R) {
         if self.replies_wait {
-            let _ = self.confirm(rt);
+            let ticket = self.commits.ask(rt);
+            self.mailbox.tick(rt);
+            let _ = self.commits.wait_own(rt, ticket);
         } else {
             self.commits.hold(rt);
         }
