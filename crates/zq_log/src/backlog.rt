@@ -25,6 +25,8 @@ pub struct Backlog {
     pub lines: VecDeque<Entry>,
     /// How many lines were dropped since the last one that found room, within 64 bits.
     pub lost: u64,
+    /// How many lines were dropped in all, within 64 bits.
+    pub dropped: u64,
     ghost few: { length lines.items ≤ 1024 },
 }
 
@@ -35,11 +37,12 @@ impl Backlog {
 
     /// No lines.
     pub fn new(alloc: Global) -> Backlog
-        ensures { (result.lines.items ≡ []) × (result.lost ≡ 0) }
+        ensures { (result.lines.items ≡ []) × (result.lost ≡ 0) × (result.dropped ≡ 0) }
     {
         Backlog {
             lines: VecDeque::new(alloc),
             lost: 0,
+            dropped: 0,
         }
     }
 
@@ -65,6 +68,7 @@ impl Backlog {
         ensures { IsLost self.old self.new }
     {
         self.lost = self.lost.saturating_add(1);
+        self.dropped = self.dropped.saturating_add(1);
     }
 
     /// The line to be written next, which waits no longer. Where none waits, but some were dropped,

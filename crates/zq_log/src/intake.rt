@@ -33,7 +33,8 @@ impl Intake {
     /// No lines.
     pub fn new(alloc: Global) -> Intake
         ensures kinds { result.kinds.known.items ≡ [] }
-        ensures lines { (result.backlog.lines.items ≡ []) × (result.backlog.lost ≡ 0) }
+        ensures lines { (result.backlog.lines.items ≡ []) × (result.backlog.lost ≡ 0)
+            × (result.backlog.dropped ≡ 0) }
     {
         Intake {
             kinds: Kinds::new(alloc),

@@ -4,6 +4,7 @@ use crate::backlog::Entry;
 use crate::intake::{Intake, Moment};
 use log::Level;
 use std::alloc::Global;
+use std::sync::atomic::{AtomicU64, Ordering};
 use std::sync::{Condvar, Mutex, Wait};
 use std::time::{Clock, Duration};
 
@@ -26,6 +27,8 @@ pub struct LogQueue {
     alloc: Global,
     desk: Mutex<Desk>,
     changed: Condvar,
+    /// How many lines were dropped: who shows that takes no lock.
+    dropped: AtomicU64,
 }
 
 impl LogQueue {
@@ -40,7 +43,19 @@ impl LogQueue {
                 is_done: false,
             }),
             changed: Condvar::new(),
+            dropped: AtomicU64::new(0),
         }
+    }
+
+    /// How many lines were dropped, since they found no room, within 64 bits.
+    pub fn dropped(&self) -> &AtomicU64 {
+        &self.dropped
+    }
+
+    /// Has how many lines were dropped be read without a lock.
+    fn note(&self, desk: &Desk) {
+        let dropped = desk.intake.backlog.dropped;
+        self.dropped.store(dropped, Ordering::SeqCst);
     }
 
     /// A message comes at this moment, with pairs as they are written. Its line waits to be written,
@@ -49,13 +64,17 @@ impl LogQueue {
         let mut desk = self.desk.lock(rt);
         desk.intake
             .take_in(self.alloc, moment, level, message, pairs);
+        self.note(&desk);
         drop(desk);
         self.changed.notify_all();
     }
 
     /// A line was dropped before it came here, and is counted.
     pub fn lose<R: Wait>(&self, rt: &R) {
-        self.desk.lock(rt).intake.backlog.lose();
+        let mut desk = self.desk.lock(rt);
+        desk.intake.backlog.lose();
+        self.note(&desk);
+        drop(desk);
         self.changed.notify_all();
     }
 
@@ -63,6 +82,7 @@ impl LogQueue {
     pub fn put<R: Wait>(&self, rt: &R, line: Vec<u8>) {
         let mut desk = self.desk.lock(rt);
         desk.intake.backlog.put(line);
+        self.note(&desk);
         drop(desk);
         self.changed.notify_all();
     }

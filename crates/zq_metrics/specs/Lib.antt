@@ -1,5 +1,6 @@
 pub mod Commands
 pub mod Timing
+pub mod Durations
 pub mod Counts
 pub mod Closings
 pub mod Metrics

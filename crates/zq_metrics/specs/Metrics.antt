@@ -27,6 +27,17 @@ name_of m.Closed = codes "zqueue_connections_closed_total"
 name_of m.Made = codes "zqueue_operations_made_total"
 name_of m.Taken = codes "zqueue_operations_taken_total"
 name_of m.VectorSum = codes "zqueue_vector_operations"
+name_of m.Members = codes "zqueue_heap_members"
+name_of m.Keys = codes "zqueue_heap_keys"
+name_of m.Bytes = codes "zqueue_heap_bytes"
+name_of m.WalkAge = codes "zqueue_heap_walk_age_seconds"
+name_of m.WalkDuration = codes "zqueue_heap_walk_duration_seconds"
+name_of m.Durable = codes "zqueue_operations_durable_total"
+name_of m.DiskFull = codes "zqueue_disk_full"
+name_of m.LogBytes = codes "zqueue_disk_log_bytes"
+name_of m.WrittenBytes = codes "zqueue_disk_written_bytes_total"
+name_of m.Switches = codes "zqueue_disk_switches_total"
+name_of m.SyncDuration = codes "zqueue_disk_sync_duration_seconds"
 name_of m.LinkUp = codes "zqueue_link_up"
 name_of m.LinkLag = codes "zqueue_link_lag_operations"
 name_of m.LastFrame = codes "zqueue_link_last_frame_seconds"
@@ -36,6 +47,7 @@ name_of m.BacklogBytes = codes "zqueue_backlog_bytes"
 name_of m.BacklogOperations = codes "zqueue_backlog_operations"
 name_of m.Parked = codes "zqueue_parked_operations"
 name_of m.Dropped = codes "zqueue_dropped_frames_total"
+name_of m.DroppedLines = codes "zqueue_log_lines_dropped_total"
 
 abbrev pub help_of : Metric → List ℕ
 help_of m.Build = codes "The version of the program."
@@ -56,6 +68,21 @@ help_of m.Closed = codes "Connections of clients that the site closed."
 help_of m.Made = codes "Operations that the site made."
 help_of m.Taken = codes "Operations of other sites that the site took."
 help_of m.VectorSum = codes "Sum of the version vector: operations of all sites that the site has."
+help_of m.Members = codes "Members that the heap had at the last walk over all heaps."
+help_of m.Keys = codes "Keys that the heap had at the last walk over all heaps."
+help_of m.Bytes =
+    codes "Bytes of the names of keys and members that the heap had at the last walk over all heaps."
+help_of m.WalkAge = codes "Seconds since the last walk over all heaps ended."
+help_of m.WalkDuration = codes "Seconds that the last walk over all heaps took."
+help_of m.Durable = codes "Operations that the site made and that are on the disk."
+help_of m.DiskFull = codes "Whether the disk is full, so that commands that write are refused."
+help_of m.LogBytes =
+    codes "Bytes of the log on disk, without escapes and the zeros ahead of its end."
+help_of m.WrittenBytes =
+    codes "Bytes written to the log on disk and to files that take its place, without escapes and zeros."
+help_of m.Switches = codes "Files that took the place of the log on disk."
+help_of m.SyncDuration =
+    codes "Time of each sync of the log on disk, or of the file that takes its place, with the write before it."
 help_of m.LinkUp = codes "Whether the link to the peer is up."
 help_of m.LinkLag = codes "Operations that the site has and the peer has not said to have."
 help_of m.LastFrame = codes "Seconds since the last frame of the peer, or since the site began."
@@ -65,6 +92,7 @@ help_of m.BacklogBytes = codes "Bytes of operations that are kept for peers."
 help_of m.BacklogOperations = codes "Operations that are kept for peers."
 help_of m.Parked = codes "Operations that wait for earlier ones of their site."
 help_of m.Dropped = codes "Frames of peers that were not taken."
+help_of m.DroppedLines = codes "Lines of the log that found no room and were not written."
 
 abbrev pub sort_of : Metric → Sort
 sort_of m.Build = Gauge
@@ -82,6 +110,17 @@ sort_of m.Closed = Counter
 sort_of m.Made = Counter
 sort_of m.Taken = Counter
 sort_of m.VectorSum = Gauge
+sort_of m.Members = Gauge
+sort_of m.Keys = Gauge
+sort_of m.Bytes = Gauge
+sort_of m.WalkAge = Gauge
+sort_of m.WalkDuration = Gauge
+sort_of m.Durable = Counter
+sort_of m.DiskFull = Gauge
+sort_of m.LogBytes = Gauge
+sort_of m.WrittenBytes = Counter
+sort_of m.Switches = Counter
+sort_of m.SyncDuration = Histogram
 sort_of m.LinkUp = Gauge
 sort_of m.LinkLag = Gauge
 sort_of m.LastFrame = Gauge
@@ -91,3 +130,4 @@ sort_of m.BacklogBytes = Gauge
 sort_of m.BacklogOperations = Gauge
 sort_of m.Parked = Gauge
 sort_of m.Dropped = Counter
+sort_of m.DroppedLines = Counter

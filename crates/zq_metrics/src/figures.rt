@@ -1,5 +1,23 @@
 //! The figures of a site that are shown.
 
+use crate::counts::Counts;
+use crate::timing::Durations;
+
+/// All figures of a site.
+#[derive(Debug, Drop)]
+pub struct Figures {
+    pub site: SiteFigures,
+    pub clients: ClientFigures,
+    /// What its workers counted.
+    pub counts: Counts,
+    pub heaps: HeapFigures,
+    /// What the last walk over its heaps found, where one has ended.
+    pub walk: Option<WalkFigures>,
+    /// Those of its log on disk, where it keeps one.
+    pub disk: Option<DiskFigures>,
+    pub peers: Vec<PeerFigures>,
+}
+
 /// Figures of a site as a whole.
 #[derive(Clone, Copy, Debug)]
 pub struct SiteFigures {
@@ -18,6 +36,8 @@ pub struct SiteFigures {
     pub parked: u64,
     /// Frames of peers that were not taken.
     pub dropped: u64,
+    /// Lines of its log that found no room.
+    pub dropped_lines: u64,
 }
 
 /// Figures of the connections of a site's clients.
@@ -42,6 +62,38 @@ pub struct HeapFigures {
     pub taken: Vec<u64>,
     /// The sum of the version vector.
     pub sums: Vec<u64>,
+}
+
+/// What a walk over a site's heaps found, each heap at its place.
+#[derive(Debug, Drop)]
+pub struct WalkFigures {
+    /// Members.
+    pub members: Vec<u64>,
+    /// Keys.
+    pub keys: Vec<u64>,
+    /// Bytes of the names of keys and members.
+    pub bytes: Vec<u64>,
+    /// Seconds since the walk ended.
+    pub age: u64,
+    /// Seconds that it took.
+    pub took: u64,
+}
+
+/// Figures of the log that a site keeps on disk.
+#[derive(Debug, Drop)]
+pub struct DiskFigures {
+    /// Operations that the site made and that are on the disk, each heap at its place.
+    pub durable: Vec<u64>,
+    /// Whether the disk is full.
+    pub is_full: bool,
+    /// Bytes that the log has.
+    pub log_bytes: u64,
+    /// Bytes that were written to the log, and to files that took its place.
+    pub written_bytes: u64,
+    /// How many files took the log's place.
+    pub switches: u64,
+    /// How long syncs took.
+    pub syncs: Durations,
 }
 
 /// Figures of the link to a peer.

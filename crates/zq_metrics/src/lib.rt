@@ -22,7 +22,9 @@ pub use closing::{CLOSINGS, Closing};
 pub use command::{COMMANDS, Command, command_of};
 pub use counters::{Counters, WorkerCounters};
 pub use counts::Counts;
-pub use figures::{ClientFigures, HeapFigures, PeerFigures, SiteFigures};
+pub use figures::{
+    ClientFigures, DiskFigures, Figures, HeapFigures, PeerFigures, SiteFigures, WalkFigures,
+};
 pub use metric::{Metric, Sort};
 pub use page::write_page;
-pub use timing::{BOUNDS, BUCKETS, bucket_of};
+pub use timing::{BOUNDS, BUCKETS, Durations, bucket_of};

@@ -60,6 +60,28 @@ pub enum Metric {
     Taken,
     /// Sum of the version vector: operations of all sites that the site has.
     VectorSum,
+    /// Members that the heap had at the last walk over all heaps.
+    Members,
+    /// Keys that the heap had at the last walk over all heaps.
+    Keys,
+    /// Bytes of the names of keys and members that the heap had at the last walk over all heaps.
+    Bytes,
+    /// Seconds since the last walk over all heaps ended.
+    WalkAge,
+    /// Seconds that the last walk over all heaps took.
+    WalkDuration,
+    /// Operations that the site made and that are on the disk.
+    Durable,
+    /// Whether the disk is full, so that commands that write are refused.
+    DiskFull,
+    /// Bytes of the log on disk, without escapes and the zeros ahead of its end.
+    LogBytes,
+    /// Bytes written to the log on disk and to files that take its place, without escapes and zeros.
+    WrittenBytes,
+    /// Files that took the place of the log on disk.
+    Switches,
+    /// Time of each sync of the log on disk, or of the file that takes its place, with the write before it.
+    SyncDuration,
     /// Whether the link to the peer is up.
     LinkUp,
     /// Operations that the site has and the peer has not said to have.
@@ -78,6 +100,8 @@ pub enum Metric {
     Parked,
     /// Frames of peers that were not taken.
     Dropped,
+    /// Lines of the log that found no room and were not written.
+    DroppedLines,
 }
 
 impl Metric {
@@ -101,6 +125,17 @@ impl Metric {
             Metric::Made => "zqueue_operations_made_total",
             Metric::Taken => "zqueue_operations_taken_total",
             Metric::VectorSum => "zqueue_vector_operations",
+            Metric::Members => "zqueue_heap_members",
+            Metric::Keys => "zqueue_heap_keys",
+            Metric::Bytes => "zqueue_heap_bytes",
+            Metric::WalkAge => "zqueue_heap_walk_age_seconds",
+            Metric::WalkDuration => "zqueue_heap_walk_duration_seconds",
+            Metric::Durable => "zqueue_operations_durable_total",
+            Metric::DiskFull => "zqueue_disk_full",
+            Metric::LogBytes => "zqueue_disk_log_bytes",
+            Metric::WrittenBytes => "zqueue_disk_written_bytes_total",
+            Metric::Switches => "zqueue_disk_switches_total",
+            Metric::SyncDuration => "zqueue_disk_sync_duration_seconds",
             Metric::LinkUp => "zqueue_link_up",
             Metric::LinkLag => "zqueue_link_lag_operations",
             Metric::LastFrame => "zqueue_link_last_frame_seconds",
@@ -110,6 +145,7 @@ impl Metric {
             Metric::BacklogOperations => "zqueue_backlog_operations",
             Metric::Parked => "zqueue_parked_operations",
             Metric::Dropped => "zqueue_dropped_frames_total",
+            Metric::DroppedLines => "zqueue_log_lines_dropped_total",
         }
     }
 
@@ -138,6 +174,22 @@ impl Metric {
             Metric::Taken => "Operations of other sites that the site took.",
             Metric::VectorSum =>
                 "Sum of the version vector: operations of all sites that the site has.",
+            Metric::Members => "Members that the heap had at the last walk over all heaps.",
+            Metric::Keys => "Keys that the heap had at the last walk over all heaps.",
+            Metric::Bytes =>
+                "Bytes of the names of keys and members that the heap had at the last walk over all heaps.",
+            Metric::WalkAge => "Seconds since the last walk over all heaps ended.",
+            Metric::WalkDuration => "Seconds that the last walk over all heaps took.",
+            Metric::Durable => "Operations that the site made and that are on the disk.",
+            Metric::DiskFull =>
+                "Whether the disk is full, so that commands that write are refused.",
+            Metric::LogBytes =>
+                "Bytes of the log on disk, without escapes and the zeros ahead of its end.",
+            Metric::WrittenBytes =>
+                "Bytes written to the log on disk and to files that take its place, without escapes and zeros.",
+            Metric::Switches => "Files that took the place of the log on disk.",
+            Metric::SyncDuration =>
+                "Time of each sync of the log on disk, or of the file that takes its place, with the write before it.",
             Metric::LinkUp => "Whether the link to the peer is up.",
             Metric::LinkLag => "Operations that the site has and the peer has not said to have.",
             Metric::LastFrame =>
@@ -148,6 +200,7 @@ impl Metric {
             Metric::BacklogOperations => "Operations that are kept for peers.",
             Metric::Parked => "Operations that wait for earlier ones of their site.",
             Metric::Dropped => "Frames of peers that were not taken.",
+            Metric::DroppedLines => "Lines of the log that found no room and were not written.",
         }
     }
 
@@ -163,10 +216,14 @@ impl Metric {
             | Metric::Closed
             | Metric::Made
             | Metric::Taken
+            | Metric::Durable
+            | Metric::WrittenBytes
+            | Metric::Switches
             | Metric::LinkBytes
             | Metric::LinkFrames
-            | Metric::Dropped => Sort::Counter,
-            Metric::Duration => Sort::Histogram,
+            | Metric::Dropped
+            | Metric::DroppedLines => Sort::Counter,
+            Metric::Duration | Metric::SyncDuration => Sort::Histogram,
             _ => Sort::Gauge,
         }
     }

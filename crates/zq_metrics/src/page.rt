@@ -7,33 +7,57 @@ ghost use Rattle.zq_metrics.specs.Page as wanted;
 use crate::closing::{CLOSINGS, reason_at};
 use crate::command::{COMMANDS, label_at};
 use crate::counts::Counts;
-use crate::figures::{ClientFigures, HeapFigures, PeerFigures, SiteFigures};
+use crate::figures::{
+    ClientFigures, DiskFigures, Figures, HeapFigures, PeerFigures, SiteFigures, WalkFigures,
+};
 use crate::lines;
 use crate::metric::Metric;
-use crate::timing::{BUCKETS, bound_text};
+use crate::timing::{BUCKETS, Durations, bound_text};
 use std::alloc::AllocError;
 
 /// Appends all figures of a site, in the text format of Prometheus.
 ///
 /// `AllocError`: a part of them may stand behind what was there.
-pub fn write_page(
-    out: &mut String,
-    site: &SiteFigures,
-    clients: &ClientFigures,
-    counts: &Counts,
-    heaps: &HeapFigures,
-    peers: &[PeerFigures],
-) -> Result<(), AllocError>
-    ensures { OnOk result (string_bytes out.new ≡ string_bytes out.old
-        ++ wanted.page site.now clients.now counts.now heaps.now peers.now) }
+pub fn write_page(out: &mut String, figures: &Figures) -> Result<(), AllocError>
+    ensures { OnOk result
+        (string_bytes out.new ≡ string_bytes out.old ++ wanted.page figures.now) }
 {
-    write_state(out, site)?;
-    write_requests(out, counts)?;
-    write_duration(out, counts)?;
-    write_clients(out, clients)?;
-    write_heaps(out, heaps)?;
-    write_links(out, peers)?;
-    write_backlog(out, site)
+    write_service(out, figures)?;
+    write_contents(out, figures)?;
+    write_replication(out, figures)
+}
+
+/// Appends how the site is, and how its clients are served.
+#[tactic(auto, unfolding(crate::specs::Page::service))]
+fn write_service(out: &mut String, figures: &Figures) -> Result<(), AllocError>
+    ensures { OnOk result
+        (string_bytes out.new ≡ string_bytes out.old ++ wanted.service figures.now) }
+{
+    write_state(out, &figures.site)?;
+    write_requests(out, &figures.counts)?;
+    write_duration(out, &figures.counts)?;
+    write_clients(out, &figures.clients)
+}
+
+/// Appends what the heaps have, and what the disk has.
+#[tactic(auto, unfolding(crate::specs::Page::contents))]
+fn write_contents(out: &mut String, figures: &Figures) -> Result<(), AllocError>
+    ensures { OnOk result
+        (string_bytes out.new ≡ string_bytes out.old ++ wanted.contents figures.now) }
+{
+    write_heaps(out, &figures.heaps)?;
+    write_last_walk(out, &figures.walk)?;
+    write_kept(out, &figures.disk)
+}
+
+/// Appends what is linked, what is kept for peers, and what was dropped.
+#[tactic(auto, unfolding(crate::specs::Page::replication))]
+fn write_replication(out: &mut String, figures: &Figures) -> Result<(), AllocError>
+    ensures { OnOk result
+        (string_bytes out.new ≡ string_bytes out.old ++ wanted.replication figures.now) }
+{
+    write_links(out, &figures.peers)?;
+    write_backlog(out, &figures.site)
 }
 
 /// Appends a metric that has one line.
@@ -101,22 +125,40 @@ fn write_duration(out: &mut String, counts: &Counts) -> Result<(), AllocError>
     ensures { OnOk result
         (string_bytes out.new ≡ string_bytes out.old ++ wanted.duration counts.now) }
 {
-    lines::head(out, Metric::Duration)?;
-    let count = write_buckets(out, &counts.buckets)?;
-    lines::sum_and_count(out, Metric::Duration, counts.nanoseconds, count)
+    write_histogram(out, Metric::Duration, &counts.buckets, counts.nanoseconds)
+}
+
+/// Appends how long things took: those within each bound, and how many nanoseconds all together.
+#[tactic(auto, unfolding(crate::specs::Page::histogram))]
+fn write_histogram(
+    out: &mut String,
+    metric: Metric,
+    buckets: &[u64; BUCKETS],
+    nanoseconds: u64,
+) -> Result<(), AllocError>
+    ensures { OnOk result (string_bytes out.new
+        ≡ string_bytes out.old ++ wanted.histogram metric buckets.now nanoseconds) }
+{
+    lines::head(out, metric)?;
+    let count = write_buckets(out, metric, buckets)?;
+    lines::sum_and_count(out, metric, nanoseconds, count)
 }
 
 /// Appends for each bound how many took no longer, and gives how many there are.
 #[tactic(auto, unfolding(crate::specs::Page::buckets_before, crate::specs::Page::sum_before))]
-fn write_buckets(out: &mut String, buckets: &[u64; BUCKETS]) -> Result<u64, AllocError>
+fn write_buckets(
+    out: &mut String,
+    metric: Metric,
+    buckets: &[u64; BUCKETS],
+) -> Result<u64, AllocError>
     ensures lines { OnOk result (string_bytes out.new
-        ≡ string_bytes out.old ++ wanted.buckets_before buckets.now 16) }
+        ≡ string_bytes out.old ++ wanted.buckets_before metric buckets.now 16) }
     ensures count { IfOk result (λ count. count ≡ wanted.sum_before buckets.now 16) }
 {
     let mut sum = 0u64;
     for place in 0..BUCKETS {
         sum = sum.wrapping_add(buckets[place]);
-        lines::bucket(out, Metric::Duration, bound_text(place), sum)?;
+        lines::bucket(out, metric, bound_text(place), sum)?;
     }
     Ok(sum)
 }
@@ -176,6 +218,33 @@ fn write_each_heap(out: &mut String, metric: Metric, values: &[u64]) -> Result<(
         lines::by_heap(out, metric, heap, values[heap])?;
     }
     Ok(())
+}
+
+/// Appends what the last walk over the heaps found, where one has ended.
+fn write_last_walk(out: &mut String, walk: &Option<WalkFigures>) -> Result<(), AllocError>
+    ensures { OnOk result
+        (string_bytes out.new ≡ string_bytes out.old ++ wanted.last_walk walk.now) }
+{
+    match walk {
+        Some(walk) => write_walk(out, walk),
+        None => Ok(()),
+    }
+}
+
+/// Appends what a walk over the heaps found.
+#[tactic(auto, unfolding(crate::specs::Page::walk))]
+fn write_walk(out: &mut String, walk: &WalkFigures) -> Result<(), AllocError>
+    ensures { OnOk result
+        (string_bytes out.new ≡ string_bytes out.old ++ wanted.walk walk.now) }
+{
+    lines::head(out, Metric::Members)?;
+    write_each_heap(out, Metric::Members, &walk.members)?;
+    lines::head(out, Metric::Keys)?;
+    write_each_heap(out, Metric::Keys, &walk.keys)?;
+    lines::head(out, Metric::Bytes)?;
+    write_each_heap(out, Metric::Bytes, &walk.bytes)?;
+    write_one(out, Metric::WalkAge, walk.age)?;
+    write_one(out, Metric::WalkDuration, walk.took)
 }
 
 /// Appends the figures of links.
@@ -272,5 +341,40 @@ fn write_backlog(out: &mut String, site: &SiteFigures) -> Result<(), AllocError>
     write_one(out, Metric::BacklogBytes, site.backlog_bytes)?;
     write_one(out, Metric::BacklogOperations, site.backlog_operations)?;
     write_one(out, Metric::Parked, site.parked)?;
-    write_one(out, Metric::Dropped, site.dropped)
+    write_one(out, Metric::Dropped, site.dropped)?;
+    write_one(out, Metric::DroppedLines, site.dropped_lines)
+}
+
+/// Appends the figures of the log on disk, where the site keeps one.
+fn write_kept(out: &mut String, disk: &Option<DiskFigures>) -> Result<(), AllocError>
+    ensures { OnOk result
+        (string_bytes out.new ≡ string_bytes out.old ++ wanted.kept disk.now) }
+{
+    match disk {
+        Some(disk) => write_disk(out, disk),
+        None => Ok(()),
+    }
+}
+
+/// Appends the figures of the log on disk.
+#[tactic(auto, unfolding(crate::specs::Page::disk))]
+fn write_disk(out: &mut String, disk: &DiskFigures) -> Result<(), AllocError>
+    ensures { OnOk result
+        (string_bytes out.new ≡ string_bytes out.old ++ wanted.disk disk.now) }
+{
+    lines::head(out, Metric::Durable)?;
+    write_each_heap(out, Metric::Durable, &disk.durable)?;
+    write_one(out, Metric::DiskFull, number(disk.is_full))?;
+    write_one(out, Metric::LogBytes, disk.log_bytes)?;
+    write_one(out, Metric::WrittenBytes, disk.written_bytes)?;
+    write_one(out, Metric::Switches, disk.switches)?;
+    write_syncs(out, &disk.syncs)
+}
+
+/// Appends how long syncs took.
+fn write_syncs(out: &mut String, syncs: &Durations) -> Result<(), AllocError>
+    ensures { OnOk result
+        (string_bytes out.new ≡ string_bytes out.old ++ wanted.syncs syncs.now) }
+{
+    write_histogram(out, Metric::SyncDuration, &syncs.buckets, syncs.nanoseconds)
 }

@@ -1,7 +1,8 @@
 //! What is counted, and how it is shown.
 
 use crate::{
-    ClientFigures, Command, Counters, HeapFigures, PeerFigures, SiteFigures, command_of, write_page,
+    ClientFigures, Command, Counters, DiskFigures, Durations, Figures, HeapFigures, PeerFigures,
+    SiteFigures, WalkFigures, command_of, write_page,
 };
 use std::test::Fail;
 
@@ -49,6 +50,7 @@ fn a_page_has_the_text_format(rt: HostRuntime) -> Result<(), Fail> {
         backlog_operations: 0,
         parked: 0,
         dropped: 0,
+        dropped_lines: 9,
     };
     let clients = ClientFigures {
         open: 1,
@@ -72,15 +74,37 @@ fn a_page_has_the_text_format(rt: HostRuntime) -> Result<(), Fail> {
         frames_in: 1,
         frames_out: 0,
     };
+    let mut syncs = Durations::none();
+    syncs.add(2_000_000);
+    let mut disk = DiskFigures {
+        durable: Vec::new(alloc),
+        is_full: true,
+        log_bytes: 800,
+        written_bytes: 1_000,
+        switches: 3,
+        syncs,
+    };
+    disk.durable.push(4)?;
+    let mut walk = WalkFigures {
+        members: Vec::new(alloc),
+        keys: Vec::new(alloc),
+        bytes: Vec::new(alloc),
+        age: 12,
+        took: 1,
+    };
+    walk.members.push(6)?;
+    let mut figures = Figures {
+        site,
+        clients,
+        counts: counters.counts(),
+        heaps,
+        walk: Some(walk),
+        disk: Some(disk),
+        peers: Vec::new(alloc),
+    };
+    figures.peers.push(peer)?;
     let mut out = String::new(alloc);
-    write_page(
-        &mut out,
-        &site,
-        &clients,
-        &counters.counts(),
-        &heaps,
-        &[peer],
-    )?;
+    write_page(&mut out, &figures)?;
     for line in [
         "# TYPE zqueue_uptime_seconds gauge\nzqueue_uptime_seconds 7\n",
         "\nzqueue_commands_total{cmd=\"del\"} 1\n",
@@ -88,8 +112,21 @@ fn a_page_has_the_text_format(rt: HostRuntime) -> Result<(), Fail> {
         "_bucket{le=\"+Inf\"} 1\nzqueue_request_duration_seconds_sum 60000e-9\n",
         "\nzqueue_operations_made_total{heap=\"0\"} 5\n",
         "\nzqueue_link_bytes_total{peer=\"2\",direction=\"in\"} 10\n",
+        "\nzqueue_heap_members{heap=\"0\"} 6\n",
+        "\nzqueue_heap_walk_age_seconds 12\n",
+        "\nzqueue_operations_durable_total{heap=\"0\"} 4\n",
+        "\nzqueue_disk_full 1\n",
+        "_bucket{le=\"0.001\"} 0\nzqueue_disk_sync_duration_seconds_bucket{le=\"0.0025\"} 1\n",
+        "\nzqueue_log_lines_dropped_total 9\n",
     ] {
         assert!(rt; out.contains(line), "{line}");
+    }
+    figures.walk = None;
+    figures.disk = None;
+    let mut out = String::new(alloc);
+    write_page(&mut out, &figures)?;
+    for word in ["zqueue_heap_", "zqueue_disk_", "_durable_"] {
+        assert!(rt; !out.contains(word), "{word}");
     }
     Ok(())
 }

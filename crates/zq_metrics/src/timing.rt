@@ -44,6 +44,40 @@ pub fn bucket_of(nanoseconds: u64) -> usize
     BOUNDS
 }
 
+/// How long some things took, sorted by bounds. Each count begins again at 0 past the last value of
+/// 64 bits, as a counter of Prometheus may.
+#[derive(Clone, Copy, Debug)]
+pub struct Durations {
+    /// How many took so long, by the bounds of their time.
+    pub(crate) buckets: [u64; BUCKETS],
+    /// How many nanoseconds all took together.
+    pub(crate) nanoseconds: u64,
+}
+
+impl Durations {
+    ghost use Rattle.std.specs.Prelude.{◌≡◌};
+    ghost use Rattle.zq_metrics.specs.Durations as counted;
+
+    /// Of nothing.
+    pub fn none() -> Durations
+        ensures { result ≡ counted.none }
+    {
+        Durations {
+            buckets: [0; BUCKETS],
+            nanoseconds: 0,
+        }
+    }
+
+    /// Of one thing more, which took so many nanoseconds.
+    pub fn add(&mut self, nanoseconds: u64)
+        ensures { counted.IsAdded nanoseconds self.old self.new }
+    {
+        let place = bucket_of(nanoseconds);
+        self.buckets[place] = self.buckets[place].wrapping_add(1);
+        self.nanoseconds = self.nanoseconds.wrapping_add(nanoseconds);
+    }
+}
+
 /// A sort's bound in seconds.
 #[tactic(auto, unfolding(crate::specs::Timing::bound_text))]
 pub(crate) fn bound_text(place: usize) -> &'static str

@@ -4,6 +4,7 @@ use crate::{LogQueue, Moment, QueueLog, write_lines};
 use log::{Level, LevelFilter, Logged, debug, info, warn};
 use std::alloc::Global;
 use std::io::Write;
+use std::sync::atomic::Ordering;
 use std::sync::{Arc, Mutex, Wait};
 use std::test::Fail;
 use std::thread::{JoinHandle, Threads};
@@ -75,6 +76,8 @@ fn what_logs_does_not_wait_for_the_device(rt: HostRuntime) -> Result<(), Fail> {
     let faults = times(text.as_slice(), b"Z WARN site 0 protocol fault\n");
     // 1,024 lines wait; one more may be at the device, which it came to sooner or later.
     assert!(rt; faults == 1_024 || faults == 1_025);
+    let dropped = queue.dropped().load(Ordering::SeqCst);
+    assert!(rt; dropped.saturating_add(faults as u64) == 2_000);
     let losses = times(text.as_slice(), b" lines dropped\n");
     assert!(rt; losses == 1 || losses == 2);
     Ok(())
