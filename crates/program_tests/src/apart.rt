@@ -19,6 +19,7 @@ use std::net::{Net, TcpListener, TcpStream};
 use std::random::RandomSource;
 use std::rt::Files;
 use std::sync::Wait;
+use std::sync::atomic::AtomicU64;
 use std::test::Fail;
 use std::thread::Threads;
 use std::time::Clock;
@@ -394,6 +395,7 @@ fn clients_are_heard_at_the_address_of_bind(rt: HostRuntime) -> Result<(), Fail>
         None,
         &mut herald,
         &Ending::new(),
+        &AtomicU64::new(0),
     )?;
     let line = format!(in alloc; "site 0 port {port} peers {}\n", own.door())?;
     assert_eq!(rt; herald.line.as_slice(), line.as_bytes());

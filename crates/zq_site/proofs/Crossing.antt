@@ -21,7 +21,10 @@ use Rattle.zq_replica.specs.contracts.logs.Logs as Logs
 use Rattle.zq_serve.proofs.Crossing.{admission_sync, commits_sync, desk_sync, gate_sync}
 use Rattle.zq_settings.specs.contracts.values.SiteSettings as SiteSettings
 use Rattle.zq_site.specs.contracts.hiring.Hiring as Hiring
+use Rattle.zq_site.specs.contracts.sizes.Sizes as Sizes
+use Rattle.zq_site.specs.contracts.sizes.SizesFound as SizesFound
 use Rattle.zq_site.specs.contracts.survey.Survey as Survey
+use Rattle.zq_store.specs.contracts.kept.Kept as Kept
 use Rattle.zq_store.specs.contracts.started.Started as Started
 
 traffic_sync : IsSync Traffic.the_row
@@ -30,8 +33,11 @@ traffic_sync = search (sendable, crosses) depth 100 fits 100000
 link_sync : IsSync PeerLink.the_row
 link_sync = search (traffic_sync, sendable, crosses) depth 100 fits 100000
 
+kept_send : IsSend Kept.the_row
+kept_send = search (sendable, crosses) depth 100 fits 100000
+
 meters_sync : IsSync Meters.the_row
-meters_sync = search (counters_sync, sendable, crosses) depth 100 fits 100000
+meters_sync = search (counters_sync, kept_send, sendable, crosses) depth 100 fits 100000
 
 post_sync : IsSync Post.the_row
 post_sync = search (sendable, crosses) depth 100 fits 100000
@@ -66,8 +72,14 @@ begun_sync = search (started_send, fault_send, sendable, crosses) depth 100 fits
 survey_sync : IsSync Survey.the_row
 survey_sync = search (found_send, sendable, crosses) depth 100 fits 100000
 
+sizes_found_send : IsSend SizesFound.the_row
+sizes_found_send = search (sendable, crosses) depth 100 fits 100000
+
+sizes_sync : IsSync Sizes.the_row
+sizes_sync = search (sizes_found_send, sendable, crosses) depth 100 fits 100000
+
 front_sync : IsSync Front.the_row
-front_sync = search (survey_sync, sendable, crosses) depth 100 fits 100000
+front_sync = search (survey_sync, sizes_sync, sendable, crosses) depth 100 fits 100000
 
 settings_sync : IsSync SiteSettings.the_row
 settings_sync = search (address_send, sendable, crosses) depth 100 fits 100000

@@ -48,7 +48,9 @@ count_pairs report = append_known (field (codes "heap") number_text report.heap)
 abbrev pub disk_pairs : Report → Option (List Pair)
 disk_pairs report = append_known (field (codes "start") number_text report.start)
     (append_known (field (codes "bytes") number_text report.bytes)
-    (field (codes "was") number_text report.was))
+    (append_known (field (codes "was") number_text report.was)
+    (append_known (field (codes "records") number_text report.records)
+    (field (codes "milliseconds") number_text report.milliseconds))))
 
 -- where the site listens
 abbrev pub place_pairs : Report → Option (List Pair)

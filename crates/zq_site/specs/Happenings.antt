@@ -4,7 +4,7 @@ use Rattle.log.specs.declared.level.Level.{Level}
 use Rattle.log.specs.declared.level.Level.TheVariants.{Debug, Info, Warn}
 use Rattle.std.specs.Prelude.{List, codes, ℕ}
 use Rattle.zq_site.specs.declared.happening.Happening.{Happening}
-use Rattle.zq_site.specs.declared.happening.Happening.TheVariants.{AcceptedByPeer, CallerLeft, CaughtUp, DialFailed, DrainUnfinished, Fenced, FrameDropped, FrameTooLong, Joined, LinkLost, LinkNotOpened, LinkUp, Listening, LogRead, LogSwitched, NoPeerHeard, NumberUsedTwice, PeerNotHeard, PeerReachable, PeerRefused, PeerUnreachable, RefusedByPeer, Stopped, Stopping}
+use Rattle.zq_site.specs.declared.happening.Happening.TheVariants.{AcceptedByPeer, CallerLeft, CaughtUp, DialFailed, DiskFree, DiskFull, DrainUnfinished, Fenced, FrameDropped, FrameTooLong, Joined, LinkLost, LinkNotOpened, LinkUp, Listening, LogRead, LogReading, LogSwitched, NoPeerHeard, NumberUsedTwice, PeerNotHeard, PeerReachable, PeerRefused, PeerUnreachable, RefusedByPeer, Stopped, Stopping}
 
 -- which lines say it
 abbrev pub level_of : Happening → Level
@@ -20,9 +20,12 @@ level_of FrameDropped = Warn
 level_of FrameTooLong = Warn
 level_of PeerUnreachable = Warn
 level_of DrainUnfinished = Warn
+level_of DiskFull = Warn
 level_of Listening = Info
+level_of LogReading = Info
 level_of LogRead = Info
 level_of LogSwitched = Info
+level_of DiskFree = Info
 level_of LinkUp = Info
 level_of PeerReachable = Info
 level_of AcceptedByPeer = Info
@@ -47,9 +50,12 @@ words_of FrameDropped = codes "frame dropped"
 words_of FrameTooLong = codes "frame too long"
 words_of PeerUnreachable = codes "peer unreachable"
 words_of DrainUnfinished = codes "drain unfinished"
+words_of DiskFull = codes "disk full"
 words_of Listening = codes "listening"
+words_of LogReading = codes "log reading"
 words_of LogRead = codes "log read"
 words_of LogSwitched = codes "log switched"
+words_of DiskFree = codes "disk free"
 words_of LinkUp = codes "link up"
 words_of PeerReachable = codes "peer reachable"
 words_of AcceptedByPeer = codes "accepted by peer"

@@ -24,3 +24,4 @@ pub mod Standings
 pub mod Beginnings
 pub mod Endings
 pub mod Fronts
+pub mod Sizes

@@ -35,6 +35,8 @@ of happening = record {
   start = None;
   bytes = None;
   was = None;
+  records = None;
+  milliseconds = None;
   clients = None;
   links = None;
   admin = None;
@@ -83,6 +85,7 @@ of_warning (warning.Drops peer unheard) =
     since (with_peer what.FrameDropped peer) (why.Unheard unheard)
 of_warning (warning.Keeps peer) = with_peer what.FrameTooLong peer
 of_warning warning.Leaves = since (of what.DrainUnfinished) why.Lacking
+of_warning warning.DiskFull = of what.DiskFull
 
 -- a site that listens
 abbrev pub of_listening : Listening → Report
@@ -96,12 +99,18 @@ of_listening listening = record (of what.Listening) {
 abbrev pub of_link : LinkUp → Report
 of_link link = record (at what.LinkUp link.caller) { version = Some link.version; run = link.run }
 
+-- a log on disk of which so many bytes were read
+abbrev pub of_reading : ℕ → Report
+of_reading bytes = record (of what.LogReading) { bytes = Some bytes }
+
 -- a log on disk that was read
 abbrev pub of_read : LogRead → Report
 of_read read = record (of what.LogRead) {
   run = Some read.folder;
   start = Some read.start;
   bytes = Some read.bytes;
+  records = Some read.records;
+  milliseconds = Some read.milliseconds;
 }
 
 -- one that was switched to another file
@@ -115,8 +124,10 @@ of_switch switched = record (of what.LogSwitched) {
 abbrev pub of_note : Note → Report
 of_note (note.Listening listening) = of_listening listening
 of_note (note.LinkUp link) = of_link link
+of_note (note.LogReading bytes) = of_reading bytes
 of_note (note.LogRead read) = of_read read
 of_note (note.LogSwitched switched) = of_switch switched
+of_note note.DiskFree = of what.DiskFree
 of_note (note.Accepted caller) = at what.AcceptedByPeer caller
 of_note note.Joined = of what.Joined
 of_note note.CaughtUp = of what.CaughtUp

@@ -28,6 +28,10 @@ telling = seconds 5
 abbrev pub beat : ℕ
 beat = seconds 1
 
+-- the thread that drains the heaps is called so often while they are looked at
+abbrev pub stepping : ℕ
+stepping = 4 * 1_000_000
+
 -- calls are gathered for so long before their operations are pushed
 abbrev pub gathering : ℕ
 gathering = 200 * 1_000

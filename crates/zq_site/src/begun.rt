@@ -1,8 +1,9 @@
 //! How a site begins, as one thread finds it and the others wait for it.
 
 use std::sync::{Condvar, Mutex, Wait};
-use zq_serve::{Cause, ServeFault};
-use zq_store::Started;
+use std::time::{Clock, Duration};
+use zq_serve::ServeFault;
+use zq_store::{ReadSoFar, Started};
 
 /// How a site begins. The thread tells it that takes what the site makes into its logs, since it has
 /// the files; no other thread of the site starts before.
@@ -10,6 +11,8 @@ use zq_store::Started;
 pub struct Begun {
     told: Mutex<Option<Result<Started, ServeFault>>>,
     changed: Condvar,
+    /// How far the site's log was read, where it keeps one on disk.
+    pub so_far: ReadSoFar,
 }
 
 impl Begun {
@@ -18,6 +21,7 @@ impl Begun {
         Begun {
             told: Mutex::new(None),
             changed: Condvar::new(),
+            so_far: ReadSoFar::new(),
         }
     }
 
@@ -31,13 +35,15 @@ impl Begun {
         self.changed.notify_all();
     }
 
-    /// Waits until it is told how the site begins.
-    pub fn wait<R: Wait>(&self, rt: &R) -> Result<Started, ServeFault> {
+    /// Waits until it is told how the site begins, and no longer than so long.
+    pub fn wait<R: Clock + Wait>(
+        &self,
+        rt: &R,
+        time: Duration,
+    ) -> Option<Result<Started, ServeFault>> {
+        let told = self.told.lock(rt);
         let waits = |told: &mut Option<Result<Started, ServeFault>>| told.is_none();
-        let told = self.changed.wait_while(rt, self.told.lock(rt), waits);
-        match *told {
-            Some(how) => how,
-            None => Err(ServeFault::Device(Cause::Thread)),
-        }
+        let (told, _) = self.changed.wait_timeout_while(rt, told, time, waits);
+        *told
     }
 }

@@ -6,7 +6,7 @@ use crate::keeping::keep_site;
 use crate::post::Post;
 use crate::shared::Shared;
 use crate::times::gathering;
-use crate::walking::{Walk, go_on};
+use crate::walks::Walks;
 use log::Log;
 use std::fs::File;
 use std::rt::Files;
@@ -34,7 +34,7 @@ pub struct Draining<'a, N: Files<File = File>, L: Log + Clock + Wait> {
     pub net: &'a N,
     pub log: &'a L,
     pub shared: Shared<'a>,
-    /// By what the members lie that a walk over the keys looks at.
+    /// By what the members lie that a walk over the heaps looks at.
     pub hasher: Seeded,
 }
 
@@ -67,19 +67,19 @@ pub(crate) fn intake_of<'a>(shared: Shared<'a>) -> Intake<'a, Post> {
 
 /// Takes what is made and heard into the logs, until the site ends: at once what the first call
 /// after a rest made, and then what all made that came while some time was gathered. Between looks
-/// at the site's keys, where they are asked for.
+/// at the site's keys and members, where they are asked for.
 fn drain_calls<L: Clock + Wait>(rt: &L, shared: Shared<'_>, node: &mut Node<'_>, hasher: Seeded)
     requires { IsNode node.old }
     ensures node { IsNode node.new }
     ensures home { IsSameHome node.old node.new }
 {
     let mut calls = Incoming::new(rt, shared.mailbox);
-    let mut walk = None;
+    let mut walks = Walks::none();
     for _ in rt.forever() {
         if let Message::Stop = calls.next() {
             break;
         }
-        drain_and_look(rt, shared, node, hasher, &mut walk);
+        drain_and_look(rt, shared, node, hasher, &mut walks);
         if shared.halt.wait(rt, gathering()) {
             break;
         }
@@ -87,13 +87,13 @@ fn drain_calls<L: Clock + Wait>(rt: &L, shared: Shared<'_>, node: &mut Node<'_>,
 }
 
 /// Takes all that was made into the logs, where a site may have peers, and looks at the next of its
-/// keys, where they are asked for.
+/// keys and members, where they are asked for.
 fn drain_and_look<L: Clock + Wait>(
     rt: &L,
     shared: Shared<'_>,
     node: &mut Node<'_>,
     hasher: Seeded,
-    walk: &mut Option<Walk>,
+    walks: &mut Walks,
 )
     requires { IsNode node.old }
     ensures node { IsNode node.new }
@@ -102,5 +102,5 @@ fn drain_and_look<L: Clock + Wait>(
     if !shared.peer_links.is_empty() {
         intake_of(shared).drain(rt, node);
     }
-    go_on(rt, shared, node, hasher, walk);
+    walks.go_on(rt, shared, node, hasher);
 }

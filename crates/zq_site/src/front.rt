@@ -5,6 +5,7 @@ ghost use Rattle.zq_site.specs.Fronts.{readiness_of};
 
 use crate::halt::Halt;
 use crate::progress::Stage;
+use crate::sizes::Sizes;
 use crate::survey::Survey;
 use std::sync::Wait;
 use std::sync::atomic::{AtomicBool, Ordering};
@@ -24,6 +25,8 @@ pub struct Front {
     passed_on: Halt,
     /// Its largest keys.
     pub survey: Survey,
+    /// How large its heaps are.
+    pub sizes: Sizes,
 }
 
 impl Front {
@@ -35,6 +38,7 @@ impl Front {
             follows: AtomicBool::new(false),
             passed_on: Halt::new(),
             survey: Survey::new(),
+            sizes: Sizes::new(),
         }
     }
 

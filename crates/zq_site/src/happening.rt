@@ -32,12 +32,18 @@ pub enum Happening {
     PeerUnreachable,
     /// The site ends before its peers have what it made.
     DrainUnfinished,
+    /// The disk is full on which the site keeps its log: changes are refused.
+    DiskFull,
     /// The site listens for clients, for peers, and for who asks how it is.
     Listening,
+    /// The log on disk is read, which takes long.
+    LogReading,
     /// The log on disk was read, and the site goes on with what it has.
     LogRead,
     /// The log on disk was switched to another file, which begins with copies of the heaps.
     LogSwitched,
+    /// The disk has room again.
+    DiskFree,
     /// A link is up, and a frame of the peer came.
     LinkUp,
     /// A peer can be dialled again.
@@ -76,10 +82,13 @@ impl Happening {
             | Happening::FrameDropped
             | Happening::FrameTooLong
             | Happening::PeerUnreachable
-            | Happening::DrainUnfinished => Level::Warn,
+            | Happening::DrainUnfinished
+            | Happening::DiskFull => Level::Warn,
             Happening::Listening
+            | Happening::LogReading
             | Happening::LogRead
             | Happening::LogSwitched
+            | Happening::DiskFree
             | Happening::LinkUp
             | Happening::PeerReachable
             | Happening::AcceptedByPeer
@@ -109,9 +118,12 @@ impl Happening {
             Happening::FrameTooLong => "frame too long",
             Happening::PeerUnreachable => "peer unreachable",
             Happening::DrainUnfinished => "drain unfinished",
+            Happening::DiskFull => "disk full",
             Happening::Listening => "listening",
+            Happening::LogReading => "log reading",
             Happening::LogRead => "log read",
             Happening::LogSwitched => "log switched",
+            Happening::DiskFree => "disk free",
             Happening::LinkUp => "link up",
             Happening::PeerReachable => "peer reachable",
             Happening::AcceptedByPeer => "accepted by peer",

@@ -7,9 +7,11 @@ use crate::draining::intake_of;
 use crate::note::{LogRead, LogSwitched, Note};
 use crate::report::RunName;
 use crate::shared::Shared;
+use crate::survey::milliseconds;
 use crate::times::gathering;
-use crate::walking::{Walk, go_on};
-use crate::warning_log::note_of;
+use crate::walks::Walks;
+use crate::warning::Warning;
+use crate::warning_log::{note_of, warn_of};
 use log::Log;
 use std::fs::File;
 use std::rt::Files;
@@ -19,24 +21,34 @@ use zq_node::Node;
 use zq_posheap::Seeded;
 use zq_recovery::Identity;
 use zq_settings::{SiteSettings, SyncMode};
-use zq_store::{Beside, Place, Started, Switched, open};
+use zq_store::{Beside, Kept, Place, Started, Switched, open};
 
-/// What the thread that keeps a site does beside: it looks at the site's keys, where they are asked
-/// for, and where no reply waits for the disk it lets some time go by until the next turn.
+/// What the thread that keeps a site does beside: it looks at the site's keys and members, where they
+/// are asked for, and where no reply waits for the disk it lets some time go by until the next turn.
 #[derive(Drop)]
 struct Aside<'a, L: Log + Clock + Wait> {
     log: &'a L,
     shared: Shared<'a>,
-    /// By what the members lie that a walk over the keys looks at.
+    /// By what the members lie that a walk over the heaps looks at.
     hasher: Seeded,
-    walk: Option<Walk>,
+    walks: Walks,
 }
 
 impl<L: Log + Clock + Wait> Beside for Aside<'_, L> {
     fn between(&mut self, node: &mut Node<'_>) {
-        go_on(self.log, self.shared, node, self.hasher, &mut self.walk);
+        self.walks.go_on(self.log, self.shared, node, self.hasher);
         if self.shared.settings.disk.sync == SyncMode::Soon {
             let _ = self.shared.halt.wait(self.log, gathering());
+        }
+    }
+
+    fn fill(&mut self, is_full: bool) {
+        self.shared.admission.fill_disk(is_full);
+        let site = self.shared.settings.site;
+        if is_full {
+            warn_of(self.log, site, Warning::DiskFull);
+        } else {
+            note_of(self.log, site, Note::DiskFree);
         }
     }
 
@@ -47,6 +59,10 @@ impl<L: Log + Clock + Wait> Beside for Aside<'_, L> {
         };
         let site = self.shared.settings.site;
         note_of(self.log, site, Note::LogSwitched(switched));
+    }
+
+    fn note(&mut self, kept: &Kept) {
+        self.shared.meters.note_disk(self.log, *kept);
     }
 }
 
@@ -66,17 +82,18 @@ pub(crate) fn keep_site<N: Files<File = File>, L: Log + Clock + Wait>(
     ensures home { IsSameHome node.old node.new }
 {
     let place = place_of(shared, path);
+    let began = milliseconds(log);
     match open(net, log, shared.alloc, shared.logs, place, hasher, node) {
         Ok((writer, started)) => {
             let mut writer = writer;
-            note_read(log, shared, started);
+            note_read(log, shared, started, began);
             shared.begun.tell(log, Ok(started));
             let (commits, mailbox) = (shared.commits, shared.mailbox);
             let mut aside = Aside {
                 log,
                 shared,
                 hasher,
-                walk: None,
+                walks: Walks::none(),
             };
             let intake = intake_of(shared);
             if let Err(fault) = writer.keep(log, &intake, commits, mailbox, &mut aside, node) {
@@ -89,13 +106,14 @@ pub(crate) fn keep_site<N: Files<File = File>, L: Log + Clock + Wait>(
 }
 
 /// Where the log of a site is, whose folder has this path.
-fn place_of<'a>(shared: Shared<'_>, path: &'a str) -> Place<'a>
+fn place_of<'a>(shared: Shared<'a>, path: &'a str) -> Place<'a>
     ensures { IsHeaps result.identity.heaps }
 {
     Place {
         path,
         identity: identity_of(shared.settings),
         run: shared.run.name,
+        so_far: &shared.begun.so_far,
     }
 }
 
@@ -110,13 +128,15 @@ fn identity_of(settings: &SiteSettings) -> Identity
     }
 }
 
-/// Notes that the log was read.
-fn note_read<L: Log>(log: &L, shared: Shared<'_>, started: Started) {
+/// Notes that the log was read, since the clock showed so many milliseconds.
+fn note_read<L: Clock + Log>(log: &L, shared: Shared<'_>, started: Started, began: u64) {
     let Started { run, bytes } = started;
     let read = LogRead {
         folder: RunName(run.name),
         start: run.start,
         bytes,
+        records: shared.begun.so_far.records(),
+        milliseconds: milliseconds(log).saturating_sub(began),
     };
     note_of(log, shared.settings.site, Note::LogRead(read));
 }

@@ -2,8 +2,10 @@
 
 use std::alloc::{AllocError, Global};
 use std::sync::atomic::{AtomicU64, Ordering};
+use std::sync::{Mutex, Wait};
 use zq_loop::PortFigures;
-use zq_metrics::{ClientFigures, Closing, Counters, HeapFigures};
+use zq_metrics::{ClientFigures, Closing, Counters, DiskFigures, HeapFigures};
+use zq_store::Kept;
 
 /// What the threads of a site note of it, for those who ask. What one thread notes others may read
 /// in part.
@@ -23,6 +25,8 @@ pub struct Meters {
     ports: Ports,
     /// How many operations of each heap the site made, and how many there are of all sites.
     heaps: Vec<HeapGauges>,
+    /// What is on the disk, where the site keeps a log there.
+    kept: Mutex<Option<Kept>>,
 }
 
 /// A number that one thread sets or adds to, and others read.
@@ -95,6 +99,7 @@ impl Meters {
                 silent: Gauge::new(),
             },
             heaps: all,
+            kept: Mutex::new(None),
         })
     }
 
@@ -112,6 +117,11 @@ impl Meters {
         self.ports.accepted.set(figures.accepted);
         self.ports.refused.set(figures.refused);
         self.ports.silent.set(figures.silent);
+    }
+
+    /// This is on the disk.
+    pub fn note_disk<R: Wait>(&self, rt: &R, kept: Kept) {
+        *self.kept.lock(rt) = Some(kept);
     }
 
     /// How many connections clients have and had, as it was noted.
@@ -141,4 +151,31 @@ impl Meters {
         }
         Ok(figures)
     }
+
+    /// What is on the disk, as it was noted, where the site keeps a log there.
+    pub fn disk<R: Wait>(&self, rt: &R, alloc: Global) -> Result<Option<DiskFigures>, AllocError> {
+        let kept = *self.kept.lock(rt);
+        match kept {
+            Some(kept) => Ok(Some(figures_of(alloc, &kept, self.heaps.len())?)),
+            None => Ok(None),
+        }
+    }
+}
+
+/// The figures of what is on the disk of a site of so many heaps.
+fn figures_of(alloc: Global, kept: &Kept, heaps: usize) -> Result<DiskFigures, AllocError> {
+    let mut durable = Vec::new(alloc);
+    for heap in 0..heaps {
+        if let Some(counter) = kept.durable.get(heap) {
+            durable.push(*counter)?;
+        }
+    }
+    Ok(DiskFigures {
+        durable,
+        is_full: kept.is_full,
+        log_bytes: kept.log,
+        written_bytes: kept.work.written,
+        switches: kept.work.switches,
+        syncs: kept.work.syncs,
+    })
 }

@@ -4,28 +4,31 @@ use crate::peer_link::PeerLink;
 use crate::shared::Shared;
 use std::alloc::AllocError;
 use std::sync::Wait;
-use zq_metrics::{PeerFigures, SiteFigures, write_page};
+use std::sync::atomic::Ordering;
+use std::time::Clock;
+use zq_metrics::{Figures, PeerFigures, SiteFigures, write_page};
 
 /// What is counted of a site, in the text format of Prometheus. Most of it is counted as it happens;
 /// memory, connections that are open, operations and how far peers are behind are those of the last
-/// second.
-pub fn metrics_page<R: Wait>(
+/// second, and how large the heaps are is found by a walk over them, which begins where the last one
+/// is a minute old.
+pub fn metrics_page<R: Wait + Clock>(
     rt: &R,
     shared: Shared<'_>,
     is_ready: bool,
 ) -> Result<Vec<u8>, AllocError> {
     let alloc = shared.alloc;
+    let figures = Figures {
+        site: site_figures(rt, shared, is_ready),
+        clients: shared.meters.clients(),
+        counts: shared.meters.counters.counts(),
+        heaps: shared.meters.heaps(alloc)?,
+        walk: shared.front.sizes.show(rt, alloc)?,
+        disk: shared.meters.disk(rt, alloc)?,
+        peers: peer_figures(rt, shared)?,
+    };
     let mut out = String::new(alloc);
-    let site = site_figures(rt, shared, is_ready);
-    let peers = peer_figures(rt, shared)?;
-    write_page(
-        &mut out,
-        &site,
-        &shared.meters.clients(),
-        &shared.meters.counters.counts(),
-        &shared.meters.heaps(alloc)?,
-        &peers,
-    )?;
+    write_page(&mut out, &figures)?;
     Ok(out.into_bytes())
 }
 
@@ -40,6 +43,7 @@ fn site_figures<R: Wait>(rt: &R, shared: Shared<'_>, is_ready: bool) -> SiteFigu
         backlog_operations: 0,
         parked: shared.meters.parked.get(),
         dropped: shared.meters.dropped.get(),
+        dropped_lines: shared.dropped_lines.load(Ordering::SeqCst),
     };
     for heap in 0..shared.logs.heaps() {
         let size = shared.logs.size(rt, heap);

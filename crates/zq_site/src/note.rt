@@ -15,10 +15,14 @@ use std::net::SocketAddr;
 pub enum Note {
     /// It listens.
     Listening(Listening),
+    /// The log on disk is read, of which so many bytes were by now.
+    LogReading(u64),
     /// The log on disk was read.
     LogRead(LogRead),
     /// The log on disk was switched to another file.
     LogSwitched(LogSwitched),
+    /// The disk has room again.
+    DiskFree,
     /// A link is up.
     LinkUp(LinkUp),
     /// A peer takes this site again.
@@ -55,6 +59,10 @@ pub struct LogRead {
     pub start: u64,
     /// How long the log is.
     pub bytes: u64,
+    /// How many records were read.
+    pub records: u64,
+    /// How many milliseconds it took until the site had its heaps again.
+    pub milliseconds: u64,
 }
 
 /// A log on disk that was switched to another file.
@@ -84,8 +92,10 @@ impl Note {
     {
         match self {
             Note::Listening(listening) => report_of_listening(listening),
+            Note::LogReading(bytes) => report_of_reading(bytes),
             Note::LogRead(read) => report_of_read(read),
             Note::LogSwitched(switched) => report_of_switch(switched),
+            Note::DiskFree => Report::of(Happening::DiskFree),
             Note::LinkUp(link) => report_of_link(link),
             Note::Accepted(caller) => Report::at(Happening::AcceptedByPeer, caller),
             Note::Joined => Report::of(Happening::Joined),
@@ -111,6 +121,16 @@ fn report_of_listening(listening: Listening) -> Report
     }
 }
 
+/// What the log says of a log on disk of which so many bytes were read.
+fn report_of_reading(bytes: u64) -> Report
+    ensures { result ≡ wanted.of_reading bytes }
+{
+    Report {
+        bytes: Some(bytes),
+        ..Report::of(Happening::LogReading)
+    }
+}
+
 /// What the log says of a log on disk that was read.
 fn report_of_read(read: LogRead) -> Report
     ensures { result ≡ wanted.of_read read }
@@ -119,6 +139,8 @@ fn report_of_read(read: LogRead) -> Report
         run: Some(read.folder),
         start: Some(read.start),
         bytes: Some(read.bytes),
+        records: Some(read.records),
+        milliseconds: Some(read.milliseconds),
         ..Report::of(Happening::LogRead)
     }
 }

@@ -54,6 +54,10 @@ pub struct Report {
     pub bytes: Option<u64>,
     /// How many it had before.
     pub was: Option<u64>,
+    /// How many records of it were read.
+    pub records: Option<u64>,
+    /// How many milliseconds that took.
+    pub milliseconds: Option<u64>,
     /// Where this site listens for clients.
     pub clients: Option<SocketAddr>,
     /// Where it listens for peers.
@@ -80,6 +84,8 @@ impl Report {
             start: None,
             bytes: None,
             was: None,
+            records: None,
+            milliseconds: None,
             clients: None,
             links: None,
             admin: None,
@@ -180,7 +186,9 @@ impl Report {
     {
         visit_some(visitor, "start", self.start)?;
         visit_some(visitor, "bytes", self.bytes)?;
-        visit_some(visitor, "was", self.was)
+        visit_some(visitor, "was", self.was)?;
+        visit_some(visitor, "records", self.records)?;
+        visit_some(visitor, "milliseconds", self.milliseconds)
     }
 
     /// Where the site listens.

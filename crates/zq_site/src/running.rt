@@ -15,7 +15,8 @@ use crate::peer_links::is_dialled;
 use crate::peer_listener::PeerListener;
 use crate::pushing::Pushing;
 use crate::shared::Shared;
-use crate::times::{beat, fencing};
+use crate::sizes::now_of;
+use crate::times::{beat, fencing, stepping};
 use crate::warning_log::note_of;
 use log::Log;
 use std::fs::File;
@@ -39,6 +40,9 @@ use zq_wire::Run;
 
 /// How many threads accept peers at first.
 const FIRST_ACCEPTORS: usize = 1;
+
+/// How many steps of a walk over the heaps go into a second at most.
+const MOST_STEPS: u64 = 250;
 
 /// How many operations that came early are parked.
 pub const MOST_PARKED: usize = 65_536;
@@ -172,12 +176,12 @@ where
 /// Waits until the site has begun, and says where it listens. A site whose log has operations of its
 /// own knows what its number has made, so that it waits for no peer before it takes writes. It gives
 /// the site's run.
-fn begin<L: Log + Wait, W: Write>(
+fn begin<L: Log + Clock + Wait, W: Write>(
     log: &L,
     shared: Shared<'_>,
     out: &mut W,
 ) -> Result<Run, ServeFault> {
-    let Started { run, .. } = shared.begun.wait(log)?;
+    let Started { run, .. } = wait_for_begin(log, shared)?;
     if run.counters.iter().any(|counter| *counter > 0) {
         shared.admission.open();
     }
@@ -185,6 +189,21 @@ fn begin<L: Log + Wait, W: Write>(
     let listening = listening_of(shared.settings);
     note_of(log, shared.settings.site, Note::Listening(listening));
     Ok(run)
+}
+
+/// Waits until the site has begun. Each second it notes how far the site's log was read.
+fn wait_for_begin<L: Log + Clock + Wait>(
+    log: &L,
+    shared: Shared<'_>,
+) -> Result<Started, ServeFault> {
+    for _ in log.forever() {
+        if let Some(how) = shared.begun.wait(log, beat()) {
+            return how;
+        }
+        let bytes = shared.begun.so_far.bytes();
+        note_of(log, shared.settings.site, Note::LogReading(bytes));
+    }
+    Err(ServeFault::Device(Cause::Thread))
 }
 
 /// The port of the first site.
@@ -252,7 +271,7 @@ fn beat_time<M: Memory, L: Log + Wait + Clock>(
     for _ in log.forever() {
         guard.look(log, memory);
         measure_process(log, memory, shared, port, began);
-        if shared.halt.wait(log, beat()) {
+        if pass_beat(log, shared) {
             break;
         }
         tick_links(shared.peer_links);
@@ -261,6 +280,27 @@ fn beat_time<M: Memory, L: Log + Wait + Clock>(
             shared.mailbox.tick(log);
         }
     }
+}
+
+/// Waits for a second, or no longer than the site goes on, and says whether it ends. While the heaps
+/// are looked at the thread that drains them is called again and again.
+fn pass_beat<L: Wait + Clock>(log: &L, shared: Shared<'_>) -> bool {
+    if !shared.front.sizes.is_wanted() {
+        return shared.halt.wait(log, beat());
+    }
+    let ends_at = now_of(log).saturating_add(beat());
+    for _ in 0..MOST_STEPS {
+        if shared.halt.wait(log, stepping()) {
+            return true;
+        }
+        if shared.front.sizes.is_wanted() {
+            shared.mailbox.tick(log);
+        }
+        if now_of(log) >= ends_at {
+            break;
+        }
+    }
+    false
 }
 
 /// How many threads accept peers at most, of which so many may dial: two for each, and at least

@@ -34,6 +34,7 @@ use std::net::{Net, TcpListener, TcpStream};
 use std::random::RandomSource;
 use std::rt::Files;
 use std::sync::Wait;
+use std::sync::atomic::AtomicU64;
 use std::thread::{Threads, available_parallelism};
 use std::time::Clock;
 use zq_client::Password;
@@ -99,7 +100,8 @@ const ADMIN_CONNECTIONS: u64 = 36;
 /// waits for it at once, and this call may not return.
 ///
 /// What goes wrong at a connection, with a peer or on a link ends that alone, and is warned of in
-/// the log. The log's own handle does not connect within a time, so the net is passed beside it.
+/// the log. The log's own handle does not connect within a time, so the net is passed beside it. How
+/// many lines the log dropped is shown at the admin port.
 ///
 /// # Errors
 ///
@@ -113,6 +115,7 @@ pub fn serve_site<N, L, W>(
     password: Option<Password>,
     out: &mut W,
     ending: &Ending,
+    dropped_lines: &AtomicU64,
 ) -> Result<(), ServeFault>
 where
     N: Net<Listener = TcpListener, Stream = TcpStream> + Files<File = File> + Memory + Sync,
@@ -133,7 +136,17 @@ where
     let ended = match lend_sites(alloc, &plans, &mut made) {
         Ok(mut lent) => {
             let ended = serve_lent(
-                net, log, alloc, settings, password, out, ending, workers, hasher, &mut lent,
+                net,
+                log,
+                alloc,
+                settings,
+                password,
+                out,
+                ending,
+                dropped_lines,
+                workers,
+                hasher,
+                &mut lent,
             );
             end_loan(lent);
             ended
@@ -153,6 +166,7 @@ fn serve_lent<'a, N, L, W>(
     password: Option<Password>,
     out: &mut W,
     ending: &Ending,
+    dropped_lines: &AtomicU64,
     workers: WorkerCount,
     hasher: Seeded,
     sites: &mut [LentSite<'a>],
@@ -169,7 +183,17 @@ where
         unreachable!()
     };
     serve_one(
-        net, log, alloc, settings, password, out, ending, workers, hasher, site,
+        net,
+        log,
+        alloc,
+        settings,
+        password,
+        out,
+        ending,
+        dropped_lines,
+        workers,
+        hasher,
+        site,
     )
 }
 
@@ -182,6 +206,7 @@ fn serve_one<'a, N, L, W>(
     password: Option<Password>,
     out: &mut W,
     ending: &Ending,
+    dropped_lines: &AtomicU64,
     workers: WorkerCount,
     hasher: Seeded,
     site: &mut LentSite<'a>,
@@ -245,6 +270,7 @@ where
         ending,
         front: &front,
         meters: &meters,
+        dropped_lines,
     };
     let seeds = Seeds {
         hasher,

@@ -10,6 +10,7 @@ use crate::peer_link::PeerLink;
 use crate::post::{Event, Post};
 use std::alloc::Global;
 use std::sync::Wait;
+use std::sync::atomic::AtomicU64;
 use zq_dots::SiteNo;
 use zq_peers::Mailbox;
 use zq_replica::Logs;
@@ -52,6 +53,8 @@ pub struct Shared<'a> {
     pub front: &'a Front,
     /// What is noted for those who ask.
     pub meters: &'a Meters,
+    /// How many lines of the log were dropped.
+    pub dropped_lines: &'a AtomicU64,
 }
 
 impl<'a> Shared<'a> {

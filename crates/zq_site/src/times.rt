@@ -60,6 +60,14 @@ pub fn beat() -> Duration
     Duration::from_secs(BEAT)
 }
 
+/// After what time the thread that drains the heaps is called again while they are looked at: 4
+/// milliseconds.
+pub fn stepping() -> Duration
+    ensures { as_nanos result ≡ wanted.stepping }
+{
+    Duration::from_millis(4)
+}
+
 /// For how long calls are gathered before their operations are pushed: 200 microseconds.
 pub fn gathering() -> Duration
     ensures { as_nanos result ≡ wanted.gathering }

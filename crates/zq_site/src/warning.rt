@@ -48,6 +48,8 @@ pub enum Warning {
     Keeps(SiteNo),
     /// The site ends, and a peer lacks something that it made.
     Leaves,
+    /// The disk is full on which the site keeps its log.
+    DiskFull,
 }
 
 impl Warning {
@@ -80,6 +82,7 @@ impl Warning {
             }
             Warning::Keeps(peer) => Report::with(Happening::FrameTooLong, peer),
             Warning::Leaves => Report::of(Happening::DrainUnfinished).since(Why::Lacking),
+            Warning::DiskFull => Report::of(Happening::DiskFull),
         }
     }
 }

@@ -5,6 +5,7 @@ ghost use Rattle.zq_node.specs.Node.{IsNode, IsSameHome};
 ghost use Rattle.zq_store.specs.Faults.{HasStopped};
 
 use crate::intake::{Called, Intake};
+use crate::room::AHEAD;
 use crate::switch::{Switch, Switched};
 use crate::writer::{Writer, now_of};
 use crate::writing::go_on_after;
@@ -17,7 +18,7 @@ use zq_links::Piece;
 use zq_node::Node;
 use zq_replica::{Logs, PORTION};
 use zq_stage::Portion;
-use zq_wal::Disk;
+use zq_wal::{Behind, Disk};
 
 /// After how many seconds a switch begins again that was given up.
 const PAUSE: u64 = 1;
@@ -33,13 +34,15 @@ enum Step {
     GoesOn,
     /// Its heap has jumped: the next look begins it anew.
     Vain,
+    /// There was no room: the step is done again once there is.
+    Waits,
     /// It is given up.
     GivenUp,
 }
 
 impl<D: Disk> Writer<D> {
-    /// Begins a switch where one is wanted: where a heap has jumped, or the log is long. Where a
-    /// heap has jumped of which a copy was begun, the switch begins anew.
+    /// Begins a switch where one is wanted, and there is room: where a heap has jumped, or the log is
+    /// long. Where a heap has jumped of which a copy was begun, the switch begins anew.
     pub(crate) fn look<R: Wait + Clock>(
         &mut self,
         rt: &R,
@@ -56,10 +59,14 @@ impl<D: Disk> Writer<D> {
             }
         }
         let is_wanted = self.switch.is_none() && (self.is_behind || self.keeper.size().is_long());
-        if (is_vain || is_wanted) && now_of(rt) >= self.again_at {
-            return self.begin_switch(rt, alloc, logs);
+        if !(is_vain || is_wanted) || self.lacks_room() || now_of(rt) < self.again_at {
+            return Ok(());
         }
-        Ok(())
+        if !self.has_room_behind(rt, Behind::Next, AHEAD)? {
+            self.pause(rt);
+            return Ok(());
+        }
+        self.begin_switch(rt, alloc, logs)
     }
 
     /// Whether a copy of this heap was begun.
@@ -82,8 +89,12 @@ impl<D: Disk> Writer<D> {
         if let Some(switch) = self.switch.take() {
             let_go(rt, logs, switch);
         }
+        self.work.grow(self.keeper.size());
         match self.keeper.begin_switch(alloc) {
-            Ok(()) => self.switch = Some(Switch::new()),
+            Ok(()) => {
+                self.work.begin_next();
+                self.switch = Some(Switch::new());
+            }
             Err(fault) => {
                 go_on_after(fault)?;
                 self.pause(rt);
@@ -111,6 +122,9 @@ impl<D: Disk> Writer<D> {
         ensures home { IsSameHome node.old node.new }
         ensures fault { IfErr result HasStopped }
     {
+        if self.lacks_room() || !self.has_room(rt, AHEAD)? {
+            return Ok(false);
+        }
         let Some(mut switch) = self.switch.take() else {
             return Ok(false);
         };
@@ -120,7 +134,7 @@ impl<D: Disk> Writer<D> {
         }
         let step = self.copy(rt, intake, node, &mut switch)?;
         match step {
-            Step::GoesOn | Step::Vain => self.switch = Some(switch),
+            Step::GoesOn | Step::Vain | Step::Waits => self.switch = Some(switch),
             Step::GivenUp => {
                 let_go(rt, intake.logs, switch);
                 self.pause(rt);
@@ -139,11 +153,15 @@ impl<D: Disk> Writer<D> {
     ) -> Result<(), KeeperFault>
         ensures fault { IfErr result HasStopped }
     {
-        let was = self.keeper.size().log;
+        let (was, began) = (self.keeper.size(), now_of(rt));
+        self.work.grow(was);
         match self.keeper.publish(alloc) {
             Ok(()) => {
+                self.note_sync(rt, began);
                 self.is_behind = has_jumped(rt, logs);
-                let bytes = self.keeper.size().log;
+                let size = self.keeper.size();
+                self.work.switch(size);
+                let (was, bytes) = (was.log, size.log);
                 self.switched = Some(Switched { was, bytes });
             }
             Err(fault) => {
@@ -157,7 +175,7 @@ impl<D: Disk> Writer<D> {
 
     /// Copies the next portion of the switch's heap. What the heap took before it, and the log
     /// lacks, goes into the log first.
-    fn copy<R: Wait, P: Called>(
+    fn copy<R: Wait + Clock, P: Called>(
         &mut self,
         rt: &R,
         intake: &Intake<'_, P>,
@@ -185,18 +203,19 @@ impl<D: Disk> Writer<D> {
         let vector = *portion.part.vector();
         if switch.had_jumped(heap) && switch.sending.vector.is_none() {
             drop_within(rt, alloc, logs, heap, &vector);
-        } else {
-            self.write_within(rt, alloc, logs, heap, &vector)?;
+        } else if !self.write_within(rt, alloc, logs, heap, &vector)? {
+            return Ok(Step::Waits);
         }
         if logs.has_jumped(rt, heap) {
             return Ok(Step::Vain);
         }
-        self.put(alloc, switch, portion)
+        self.put(rt, alloc, switch, portion)
     }
 
     /// Puts the next piece of the switch's heap into the next file.
-    fn put(
+    fn put<R: Clock>(
         &mut self,
+        rt: &R,
         alloc: Global,
         switch: &mut Switch,
         portion: Portion,
@@ -214,7 +233,7 @@ impl<D: Disk> Writer<D> {
             go_on_after(fault)?;
             return Ok(Step::GivenUp);
         }
-        self.flush(switch)?;
+        self.flush(rt, switch)?;
         if is_last {
             return self.seal(alloc, switch);
         }
@@ -222,15 +241,17 @@ impl<D: Disk> Writer<D> {
     }
 
     /// Syncs the next file, where much of it is not synced yet.
-    fn flush(&mut self, switch: &mut Switch) -> Result<(), KeeperFault>
+    fn flush<R: Clock>(&mut self, rt: &R, switch: &mut Switch) -> Result<(), KeeperFault>
         ensures fault { IfErr result HasStopped }
     {
         let length = self.keeper.size().next;
         if length.saturating_sub(switch.flushed) < FLUSHED {
             return Ok(());
         }
-        if let Err(fault) = self.keeper.flush() {
-            go_on_after(fault)?;
+        let began = now_of(rt);
+        match self.keeper.flush() {
+            Ok(()) => self.note_sync(rt, began),
+            Err(fault) => go_on_after(fault)?,
         }
         switch.flushed = length;
         Ok(())

@@ -9,6 +9,7 @@ ghost use Rattle.zq_wal.specs.Found.{IsFound};
 ghost use Rattle.zq_wal_file.specs.FileDisk.{IsRead, given_of};
 
 use crate::fault::{of_data, of_files, of_keeper, of_open, of_refusal};
+use crate::read_so_far::ReadSoFar;
 use crate::recalling::Recalling;
 use crate::restoring::restore;
 use crate::site_keeper::SiteKeeper;
@@ -42,6 +43,8 @@ pub struct Place<'a> {
     pub identity: Identity,
     /// By what a new log names the folder: bytes that no other run has.
     pub run: [u8; RUN],
+    /// Where it is told how far the log was read.
+    pub so_far: &'a ReadSoFar,
 }
 
 /// Opens the folder of a site's log, gives the site of this node, which is empty, the heaps that the
@@ -67,10 +70,11 @@ pub fn open<'d, N: Files<File = File>, R: Wait>(
         path,
         identity,
         run,
+        so_far,
     } = place;
     let log = open_log(net, alloc, path)?;
     let reader = Reader::new(alloc, identity, hasher)?;
-    let (mut keeper, reader) = read_log(rt, alloc, logs, log, reader)?;
+    let (mut keeper, reader) = read_log(rt, alloc, logs, so_far, log, reader)?;
     let start = begin(alloc, &mut keeper, run)?;
     let started = started(&keeper, identity.heaps, run, start);
     let Reader { recovery } = reader;
@@ -104,6 +108,7 @@ fn read_log<'d, N: Files<File = File>, R: Wait>(
     rt: &R,
     alloc: Global,
     logs: &Logs,
+    so_far: &ReadSoFar,
     log: FoundLog<&'d N>,
     reader: Reader,
 ) -> Result<(SiteKeeper<FileDisk<&'d N>>, Reader), ServeFault>
@@ -111,7 +116,13 @@ fn read_log<'d, N: Files<File = File>, R: Wait>(
     requires blank { IsBlank reader }
     requires heaps { IsHeaps reader.recovery.identity.heaps }
 {
-    let (mut log, mut recalling) = (log, Recalling { rt, logs, reader });
+    let recalling = Recalling {
+        rt,
+        logs,
+        so_far,
+        reader,
+    };
+    let (mut log, mut recalling) = (log, recalling);
     let found = match read_records(alloc, &mut log, &mut recalling) {
         Ok(found) => found,
         Err(error) => return Err(unread(error, &recalling.reader, &log)),
@@ -189,7 +200,7 @@ fn started<D: Disk>(keeper: &SiteKeeper<D>, heaps: u8, name: [u8; RUN], start: u
 }
 
 /// Of each of so many heaps up to which counter the site's own operations are on the disk.
-fn counters_of<D: Disk>(keeper: &SiteKeeper<D>, heaps: u8) -> [u64; MOST_HEAPS] {
+pub(crate) fn counters_of<D: Disk>(keeper: &SiteKeeper<D>, heaps: u8) -> [u64; MOST_HEAPS] {
     let mut counters = [0; MOST_HEAPS];
     for heap in 0..heaps {
         if let Some(counter) = counters.get_mut(usize::from(heap)) {

@@ -5,6 +5,7 @@ ghost use Rattle.zq_node.specs.Node.{IsNode, IsSameHome};
 ghost use Rattle.zq_store.specs.Faults.{HasStopped};
 
 use crate::intake::{Called, Intake};
+use crate::kept::Kept;
 use crate::switch::Switched;
 use crate::writer::Writer;
 use std::sync::Wait;
@@ -26,14 +27,23 @@ pub trait Beside {
         ensures node { IsNode node.new }
         ensures home { IsSameHome node.old node.new };
 
+    /// The disk is full, or has room again.
+    fn fill(&mut self, is_full: bool);
+
     /// The log was switched to another file.
     fn tell(&mut self, switched: Switched);
+
+    /// This is on the disk, and was done for that, after a turn.
+    fn note(&mut self, kept: &Kept);
 }
 
 impl<D: Disk> Writer<D> {
     /// Takes what is made and heard into the logs and onto the disk, turn by turn as the mailbox is
     /// told, until it is told to stop: then all that there is goes onto the disk, and nobody waits
     /// for it any more. While the log is switched one turn follows the other.
+    ///
+    /// Where the disk is full that is told. What is to be written waits then, and nothing more is
+    /// taken out of the heaps than there is room for, until there is room at a later turn.
     ///
     /// `Failed`, `Stopped`: nothing more can be written, and nobody who waits goes on.
     pub fn keep<R: Clock + Wait, P: Called, B: Beside>(
@@ -50,6 +60,8 @@ impl<D: Disk> Writer<D> {
         ensures home { IsSameHome node.old node.new }
         ensures fault { IfErr result HasStopped }
     {
+        let heaps = intake.logs.heaps();
+        beside.note(&self.kept(heaps));
         let mut calls = Incoming::new(rt, mailbox);
         for _ in rt.forever() {
             if let Message::Stop = calls.next() {
@@ -58,13 +70,17 @@ impl<D: Disk> Writer<D> {
                 break;
             }
             commits.gather(rt, self.crowd, self.patience);
-            self.turn(rt, intake, commits, node)?;
-            if self.switch.is_some() {
+            if self.look_for_room(rt, intake.alloc)? {
+                beside.fill(self.is_full);
+            }
+            let _ = self.turn(rt, intake, commits, node)?;
+            if self.switch.is_some() && !self.lacks_room() {
                 mailbox.tick(rt);
             }
             if let Some(switched) = self.switched.take() {
                 beside.tell(switched);
             }
+            beside.note(&self.kept(heaps));
             beside.between(node);
         }
         Ok(())

@@ -3,6 +3,7 @@
 ghost use Rattle.std.specs.Prelude.{IsSome, OnOk, ◌≡◌};
 ghost use Rattle.zq_keeper.specs.Read.{Reads};
 
+use crate::read_so_far::ReadSoFar;
 use std::sync::Wait;
 use zq_entries::{Entry, read_entry};
 use zq_keeper::Reader;
@@ -17,6 +18,7 @@ use zq_wal::{Replay, Stopped, body};
 pub(crate) struct Recalling<'a, L: Wait> {
     pub(crate) rt: &'a L,
     pub(crate) logs: &'a Logs,
+    pub(crate) so_far: &'a ReadSoFar,
     pub(crate) reader: Reader,
 }
 
@@ -52,6 +54,7 @@ impl<L: Wait> Replay for Recalling<'_, L> {
     ghost has_stopped = { λ r. IsSome r.reader.recovery.refusal };
 
     fn replay(&mut self, payload: &[u8]) -> Result<(), Stopped> {
+        self.so_far.add(payload.len());
         match self.take(payload) {
             Ok(()) => Ok(()),
             Err(refusal) => {

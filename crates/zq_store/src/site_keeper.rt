@@ -8,10 +8,11 @@ ghost use Rattle.zq_wal.specs.Wal.{IsLog};
 
 use std::alloc::Global;
 use std::marker::Model;
+use zq_dots::SiteNo;
 use zq_entries::{Batch, FOLDER, Start};
 use zq_keeper::{Keeper, KeeperFault, Reader, Size};
 use zq_links::Piece;
-use zq_wal::{Disk, Wal};
+use zq_wal::{Behind, Disk, Wal};
 
 /// The keeper of a site's log on disk: as long as it has not stopped all records of the log are
 /// synced, and are read as what it tells. That is so of each one, so that who has one, or hands it
@@ -69,6 +70,11 @@ impl<D: Disk> SiteKeeper<D> {
         self.keeper.start
     }
 
+    /// The site that the log is of.
+    pub(crate) fn site(&self) -> SiteNo {
+        self.keeper.identity.site
+    }
+
     /// Up to which counter the site's own operations of a heap are on the disk.
     pub(crate) fn durable(&self, heap: u8) -> u64 {
         self.keeper.durable(heap)
@@ -89,6 +95,11 @@ impl<D: Disk> SiteKeeper<D> {
         Ok(())
     }
 
+    /// Has room on the disk ahead, as `Keeper::room` says.
+    pub(crate) fn room(&mut self, behind: Behind, bytes: u64) -> Result<bool, KeeperFault> {
+        self.keeper.room(behind, bytes)
+    }
+
     /// Whether the next file has operations of a heap that the log lacks.
     pub(crate) fn is_ahead(&self, heap: u8) -> bool {
         self.keeper.is_ahead(heap)
@@ -104,9 +115,8 @@ impl<D: Disk> SiteKeeper<D> {
     }
 
     /// Commits that nothing came for a while, as `Keeper::rest` says.
-    pub(crate) fn rest(&mut self, alloc: Global) -> Result<(), KeeperFault> {
-        self.keeper.rest(alloc)?;
-        Ok(())
+    pub(crate) fn rest(&mut self, alloc: Global) -> Result<bool, KeeperFault> {
+        self.keeper.rest(alloc)
     }
 
     /// Begins a switch, as `Keeper::begin_switch` says.

@@ -20,7 +20,8 @@ impl<D: Disk> Writer<D> {
     /// Keeps all that there is as the site ends: as many turns as a switch takes that others wait
     /// for.
     ///
-    /// `Failed`, `Stopped`: nothing more can be written.
+    /// `Failed`, `Stopped`: nothing more can be written. `Stopped` too where there is no room for
+    /// what is left.
     pub(crate) fn finish<R: Clock + Wait, P: Called>(
         &mut self,
         rt: &R,
@@ -33,18 +34,25 @@ impl<D: Disk> Writer<D> {
         ensures home { IsSameHome node.old node.new }
         ensures fault { IfErr result HasStopped }
     {
-        self.turn(rt, intake, commits, node)?;
+        let _ = self.look_for_room(rt, intake.alloc)?;
+        let mut is_done = self.turn(rt, intake, commits, node)?;
         for _ in 0..u64::MAX {
-            if !self.is_behind || self.switch.is_none() {
+            if is_done || !self.is_behind || self.switch.is_none() || self.lacks_room() {
                 break;
             }
-            self.turn(rt, intake, commits, node)?;
+            is_done = self.turn(rt, intake, commits, node)?;
+        }
+        if !is_done && self.lacks_room() {
+            return Err(KeeperFault::Stopped);
         }
         Ok(())
     }
 
     /// A turn: what was made by now goes onto the disk, who waited for that goes on, and a switch of
-    /// the log goes some steps on.
+    /// the log goes some steps on. It says whether who waited goes on.
+    ///
+    /// While the disk is full those go on who wait for what the site itself made, where that is on
+    /// the disk, and no switch goes on.
     ///
     /// `Failed`, `Stopped`: nothing more can be written, and nobody who waits goes on.
     pub(crate) fn turn<R: Clock + Wait, P: Called>(
@@ -53,7 +61,7 @@ impl<D: Disk> Writer<D> {
         intake: &Intake<'_, P>,
         commits: &Commits,
         node: &mut Node<'_>,
-    ) -> Result<(), KeeperFault>
+    ) -> Result<bool, KeeperFault>
         requires { IsNode node.old }
         ensures node { IsNode node.new }
         ensures home { IsSameHome node.old node.new }
@@ -67,19 +75,25 @@ impl<D: Disk> Writer<D> {
         if self.ends(is_whole) {
             self.crowd = self.end_round(rt, commits, is_whole, ticket);
         }
+        if self.lacks_room() {
+            self.end_own(rt, intake, commits, node, ticket);
+            return Ok(self.ends(is_whole));
+        }
         self.copy_some(rt, intake, node)?;
-        if self.ends(is_whole) {
+        let is_done = self.ends(is_whole);
+        if is_done {
             let _ = self.end_round(rt, commits, is_whole, ticket);
         }
         if self.switch.is_none() {
             self.rest(rt, intake.alloc)?;
         }
-        Ok(())
+        Ok(is_done)
     }
 
     /// Takes all that was made into the logs and onto the disk, round by round. While a round leaves
     /// too much the gate before the site's calls is shut. It says whether all was taken: what is
-    /// refused memory is taken the next time.
+    /// refused memory is taken the next time, and where there was no room for what was taken before
+    /// nothing more is taken until there is.
     fn drain_and_write<R: Clock + Wait, P: Called>(
         &mut self,
         rt: &R,
@@ -93,10 +107,9 @@ impl<D: Disk> Writer<D> {
     {
         let mut is_whole = false;
         for _round in 0..u64::MAX {
-            let Ok(left) = intake.drain_round(rt, node) else {
+            let Some(left) = self.take_round(rt, intake, node)? else {
                 break;
             };
-            self.write(rt, intake.alloc, intake.logs)?;
             if left == 0 {
                 is_whole = true;
                 break;
@@ -105,6 +118,33 @@ impl<D: Disk> Writer<D> {
         }
         intake.gate.set(rt, false);
         Ok(is_whole)
+    }
+
+    /// Takes a piece of what each heap has made into its log, and writes it. It says how many
+    /// operations are left; and nothing where memory was refused, or there was no room: then nothing
+    /// more is taken.
+    fn take_round<R: Clock + Wait, P: Called>(
+        &mut self,
+        rt: &R,
+        intake: &Intake<'_, P>,
+        node: &mut Node<'_>,
+    ) -> Result<Option<u64>, KeeperFault>
+        requires { IsNode node.old }
+        ensures node { IsNode node.new }
+        ensures home { IsSameHome node.old node.new }
+        ensures fault { IfErr result HasStopped }
+    {
+        if self.waiting.is_some() && !self.write(rt, intake.alloc, intake.logs)? {
+            return Ok(None);
+        }
+        let Ok(left) = intake.drain_round(rt, node) else {
+            return Ok(None);
+        };
+        if self.write(rt, intake.alloc, intake.logs)? {
+            Ok(Some(left))
+        } else {
+            Ok(None)
+        }
     }
 
     /// Goes on with a switch of the log, where one is going on, for a part of the time that a round

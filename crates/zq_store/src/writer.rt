@@ -2,15 +2,18 @@
 
 ghost use Rattle.std.specs.Prelude.{◌≡◌};
 
-use crate::fault::of_keeper;
+use crate::fault::{of_data, of_keeper};
+use crate::room::Refused;
+use crate::round::Round;
 use crate::site_keeper::SiteKeeper;
 use crate::switch::{Switch, Switched};
+use crate::work::Work;
 use std::fs::File;
 use std::rt::Files;
 use std::time::{Clock, Duration};
 use zq_keeper::KeeperFault;
 use zq_posheap::Seeded;
-use zq_serve::ServeFault;
+use zq_serve::{DataFault, ServeFault};
 use zq_wal::Disk;
 use zq_wal_file::FileDisk;
 
@@ -25,6 +28,15 @@ pub struct Writer<D: Disk> {
     /// Whether a heap has what the log cannot take as operations: nobody who waits goes on until a
     /// switch is done.
     pub(crate) is_behind: bool,
+    /// Whether the disk is full: it has not the room that is kept ahead.
+    pub(crate) is_full: bool,
+    /// What room was refused lately to the log, and to the next file.
+    pub(crate) refused: Refused,
+    pub(crate) refused_next: Refused,
+    /// What is to be written next, where there was no room for it.
+    pub(crate) waiting: Option<Round>,
+    /// What was done on the disk since the log was opened.
+    pub(crate) work: Work,
     /// The last switch that was done, where it was not told yet.
     pub(crate) switched: Option<Switched>,
     /// How many tickets waited as the last round was ended.
@@ -42,11 +54,17 @@ impl<D: Disk> Writer<D> {
     pub(crate) fn new(keeper: SiteKeeper<D>, hasher: Seeded) -> Writer<D>
         ensures { result.keeper ≡ keeper }
     {
+        let work = Work::new(keeper.size());
         Writer {
             keeper,
             hasher,
             switch: None,
             is_behind: false,
+            is_full: false,
+            refused: Refused::new(),
+            refused_next: Refused::new(),
+            waiting: None,
+            work,
             switched: None,
             crowd: 0,
             patience: Duration::from_millis(0),
@@ -59,7 +77,11 @@ impl<D: Disk> Writer<D> {
 impl<N: Files<File = File>> Writer<FileDisk<&N>> {
     /// Why nothing more can be written, where a call said this.
     pub fn why(&self, fault: KeeperFault) -> ServeFault {
-        of_keeper(fault, self.keeper.disk().fault())
+        let files = self.keeper.disk().fault();
+        if files.is_none() && self.lacks_room() {
+            return of_data(DataFault::Full);
+        }
+        of_keeper(fault, files)
     }
 }
 

@@ -3,6 +3,7 @@
 ghost use Rattle.std.specs.Prelude.{IfErr, ◌≡◌};
 ghost use Rattle.zq_store.specs.Faults.{HasStopped, goes_on_after};
 
+use crate::round::Round;
 use crate::writer::{Writer, now_of};
 use std::alloc::Global;
 use std::sync::Wait;
@@ -17,8 +18,9 @@ use zq_wal::Disk;
 const REST: u64 = 1;
 
 impl<D: Disk> Writer<D> {
-    /// Writes all operations that were drained, in rounds of a batch for each heap. Where a round is
-    /// refused, or memory for it, its heaps have jumped.
+    /// Writes all operations that were drained, in rounds of a batch for each heap, and says whether
+    /// there was room for all of them: a round for which there was none waits, and is the next one
+    /// that is written. Where a round is refused, or memory for it, its heaps have jumped.
     ///
     /// `Failed`, `Stopped`: nothing more can be written.
     pub(crate) fn write<R: Wait + Clock>(
@@ -26,78 +28,88 @@ impl<D: Disk> Writer<D> {
         rt: &R,
         alloc: Global,
         logs: &Logs,
-    ) -> Result<(), KeeperFault>
+    ) -> Result<bool, KeeperFault>
         ensures fault { IfErr result HasStopped }
     {
         for _ in 0..u64::MAX {
-            let (batches, ahead) = self.next_batches(rt, alloc, logs);
-            if batches.is_empty() && ahead.is_empty() {
+            let round = match self.waiting.take() {
+                Some(round) => round,
+                None => self.next_round(rt, alloc, logs),
+            };
+            if round.is_empty() {
                 break;
             }
-            self.round(rt, alloc, logs, &batches)?;
-            self.round_next(rt, alloc, logs, &ahead)?;
-            self.wrote_at = now_of(rt);
+            if !self.write_round(rt, alloc, logs, round)? {
+                return Ok(false);
+            }
         }
-        Ok(())
+        Ok(true)
     }
 
-    /// Writes the operations of a heap that were drained and that a heap of this vector has.
-    pub(crate) fn write_within<R: Wait>(
+    /// Writes a round, and says whether there was room for it: it waits where there was none.
+    fn write_round<R: Wait + Clock>(
+        &mut self,
+        rt: &R,
+        alloc: Global,
+        logs: &Logs,
+        round: Round,
+    ) -> Result<bool, KeeperFault>
+        ensures fault { IfErr result HasStopped }
+    {
+        if !self.has_room(rt, round.most_bytes(alloc))? {
+            self.waiting = Some(round);
+            return Ok(false);
+        }
+        self.round(rt, alloc, logs, &round.batches)?;
+        self.round_next(rt, alloc, logs, &round.ahead)?;
+        self.wrote_at = now_of(rt);
+        Ok(true)
+    }
+
+    /// Writes the operations of a heap that were drained and that a heap of this vector has, and
+    /// says whether there was room for all of them, as `write` does.
+    pub(crate) fn write_within<R: Wait + Clock>(
         &mut self,
         rt: &R,
         alloc: Global,
         logs: &Logs,
         heap: u8,
         vector: &Vector,
-    ) -> Result<(), KeeperFault>
+    ) -> Result<bool, KeeperFault>
         ensures fault { IfErr result HasStopped }
     {
         for _ in 0..u64::MAX {
             let Some(batch) = next_batch(rt, alloc, logs, heap, Some(vector)) else {
                 break;
             };
-            let mut batches = Vec::new(alloc);
-            if batches.push(batch).is_err() {
+            let mut round = Round::new(alloc);
+            if !round.push(batch, self.keeper.is_ahead(heap)) {
                 logs.lose(rt, heap);
                 break;
             }
-            if self.keeper.is_ahead(heap) {
-                self.round_next(rt, alloc, logs, &batches)?;
-            } else {
-                self.round(rt, alloc, logs, &batches)?;
+            if !self.write_round(rt, alloc, logs, round)? {
+                return Ok(false);
             }
         }
-        Ok(())
+        Ok(true)
     }
 
-    /// The next batch of each heap, where something was drained: those of heaps of which the next
-    /// file has what the log lacks are apart.
-    fn next_batches<R: Wait>(
-        &self,
-        rt: &R,
-        alloc: Global,
-        logs: &Logs,
-    ) -> (Vec<Batch>, Vec<Batch>) {
-        let mut batches = Vec::new(alloc);
-        let mut ahead = Vec::new(alloc);
+    /// The next batch of each heap, where something was drained.
+    fn next_round<R: Wait>(&self, rt: &R, alloc: Global, logs: &Logs) -> Round {
+        let mut round = Round::new(alloc);
         for heap in 0..logs.heaps() {
             let Some(batch) = next_batch(rt, alloc, logs, heap, None) else {
                 continue;
             };
-            let is_pushed = if self.keeper.is_ahead(heap) {
-                ahead.push(batch).is_ok()
-            } else {
-                batches.push(batch).is_ok()
-            };
-            if !is_pushed {
+            if !round.push(batch, self.keeper.is_ahead(heap)) {
                 logs.lose(rt, heap);
             }
         }
-        (batches, ahead)
+        round
     }
 
     /// Writes a round to the log, where there is anything.
-    fn round<R: Wait>(
+    fn round<R: Wait + Clock>(
         &mut self,
         rt: &R,
         alloc: Global,
@@ -109,9 +121,13 @@ impl<D: Disk> Writer<D> {
         if batches.is_empty() {
             return Ok(());
         }
-        if let Err(fault) = self.keeper.round(alloc, batches) {
-            go_on_after(fault)?;
-            lose_all(rt, logs, batches);
+        let began = now_of(rt);
+        match self.keeper.round(alloc, batches) {
+            Ok(()) => self.note_sync(rt, began),
+            Err(fault) => {
+                go_on_after(fault)?;
+                lose_all(rt, logs, batches);
+            }
         }
         Ok(())
     }
@@ -140,14 +156,16 @@ impl<D: Disk> Writer<D> {
     pub(crate) fn rest<R: Clock>(&mut self, rt: &R, alloc: Global) -> Result<(), KeeperFault>
         ensures fault { IfErr result HasStopped }
     {
-        let idle = now_of(rt).saturating_sub(self.wrote_at);
-        if idle < Duration::from_secs(REST) {
+        let now = now_of(rt);
+        if now.saturating_sub(self.wrote_at) < Duration::from_secs(REST) {
             return Ok(());
         }
         match self.keeper.rest(alloc) {
-            Ok(()) => Ok(()),
-            Err(fault) => go_on_after(fault),
+            Ok(true) => self.note_sync(rt, now),
+            Ok(false) => {}
+            Err(fault) => go_on_after(fault)?,
         }
+        Ok(())
     }
 }
 

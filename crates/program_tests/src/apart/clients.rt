@@ -9,6 +9,7 @@ use std::io::{Read, Write};
 use std::net::{Net, TcpListener, TcpStream};
 use std::random::RandomSource;
 use std::rt::Files;
+use std::sync::atomic::AtomicU64;
 use std::sync::{Mutex, Wait};
 use std::test::Fail;
 use std::thread;
@@ -124,6 +125,7 @@ where
         None,
         &mut written,
         &Ending::new(),
+        &AtomicU64::new(0),
     )
     .is_err()
     {

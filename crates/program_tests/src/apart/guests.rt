@@ -12,6 +12,7 @@ use std::net::{Net, Shutdown, SocketAddr, TcpListener, TcpStream};
 use std::random::RandomSource;
 use std::rt::Files;
 use std::sync::Wait;
+use std::sync::atomic::AtomicU64;
 use std::test::Fail;
 use std::thread::Threads;
 use std::time::{Clock, Duration, Instant};
@@ -357,6 +358,7 @@ where
             None,
             &mut written,
             &Ending::new(),
+            &AtomicU64::new(0),
         ),
         || entertain(rt, rt, alloc, guests, clients),
     );
