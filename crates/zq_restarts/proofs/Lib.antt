@@ -1,0 +1,9 @@
+pub mod InOrder
+pub mod Standings
+pub mod Brought
+pub mod CallsOver
+pub mod Restarts
+pub mod Read
+pub mod Happened
+pub mod NoCrash
+pub mod Regained
