@@ -3,7 +3,7 @@
 use Rattle.std.proofs.Common.{List, None, Option, Some, ap, arith, codes, inl, inr, sym, ◌∙◌, ◌≡◌, ℕ}
 use Rattle.std.specs.Prelude.{Err, IfOk, Ok, Result, slice_index}
 use Rattle.zqueue.specs.Asked.{Asks, AsksOfLog, AsksOther, NamesOther}
-use Rattle.zqueue.specs.declared.asked.Command.TheVariants.{Check, Drill, Inspect, Members, Pipe, Serve, Site, Status, Stop}
+use Rattle.zqueue.specs.declared.asked.Command.TheVariants.{Adopt, Check, Drill, Inspect, Members, Pipe, Serve, Site, Status, Stop}
 use Rattle.zqueue.specs.declared.asked.Command.{Command}
 
 -- two texts that begin otherwise
@@ -25,6 +25,8 @@ no_other name rest (Status path) is names =
     apart name (codes "inspect") (codes "status") is names.0 (λ e. omega (arith, e))
 no_other name rest (Drill seed rounds) is names =
     apart name (codes "inspect") (codes "drill") is names.0 (λ e. omega (arith, e))
+no_other name rest (Adopt old new site) is names =
+    apart name (codes "inspect") (codes "adopt") is names.0 (λ e. omega (arith, e))
 no_other name rest (Inspect path) is names = names
 no_other name rest (Check path) is names = names
 no_other name rest (Members key path) is names = names

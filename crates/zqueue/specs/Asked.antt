@@ -1,6 +1,6 @@
 -- What the words of a command line ask for.
 
-use Rattle.zqueue.specs.declared.asked.Command.TheVariants.{Check, Drill, Inspect, Members, Pipe, Serve, Site, Status, Stop}
+use Rattle.zqueue.specs.declared.asked.Command.TheVariants.{Adopt, Check, Drill, Inspect, Members, Pipe, Serve, Site, Status, Stop}
 use Rattle.zqueue.specs.declared.asked.Command.{Command}
 use Rattle.std.specs.Prelude.{List, None, Option, Some, [], codes, ℕ, ◌∷◌, ◌≡◌, ◌≤◌, ◌⊎◌}
 use Rattle.std.specs.Str.Parse.{IsNumeral, digits_value}
@@ -11,6 +11,10 @@ SEEDS = 18446744073709551615
 
 abbrev pub ROUNDS : ℕ
 ROUNDS = 1000000
+
+-- the greatest number of a site
+abbrev pub LAST_SITE : ℕ
+LAST_SITE = 63
 
 -- the text is one or more digits, which write a number of at most so much
 abbrev pub IsNumber : List ℕ → ℕ → Type 0
@@ -25,6 +29,13 @@ pub record AreNumbers (rest : List (List ℕ)) (seed rounds : ℕ) : Type 0 wher
   pub seed_is : seed ≡ digits_value 10 first
   pub most : IsNumber second ROUNDS
   pub rounds_is : rounds ≡ digits_value 10 second
+
+-- three words, two folders and a site's number
+pub record AreFolders (rest : List (List ℕ)) (old new : List ℕ) (site : ℕ) : Type 0 where
+  pub word : List ℕ
+  pub words : rest ≡ old ∷ new ∷ word ∷ []
+  pub number : IsNumber word LAST_SITE
+  pub site_is : site ≡ digits_value 10 word
 
 -- the words behind the name of a command that is of a log
 abbrev pub NamesOfLog : List (List ℕ) → Command → Type 0
@@ -47,6 +58,8 @@ NamesOther name rest (Site path) = (name ≡ codes "site") × (rest ≡ path.byt
 NamesOther name rest (Stop path) = (name ≡ codes "stop") × (rest ≡ path.bytes.items ∷ [])
 NamesOther name rest (Status path) = (name ≡ codes "status") × (rest ≡ path.bytes.items ∷ [])
 NamesOther name rest (Drill seed rounds) = (name ≡ codes "drill") × AreNumbers rest seed rounds
+NamesOther name rest (Adopt old new site) =
+    (name ≡ codes "adopt") × AreFolders rest old.bytes.items new.bytes.items site
 NamesOther name rest (Inspect path) = ⊥
 NamesOther name rest (Check path) = ⊥
 NamesOther name rest (Members key path) = ⊥

@@ -1,6 +1,6 @@
 //! What the command line asks for.
 
-ghost use Rattle.zqueue.specs.Asked.{AreNumbers, Asks, AsksOfLog, AsksOther, IsAsked, IsNumber, ROUNDS, SEEDS};
+ghost use Rattle.zqueue.specs.Asked.{AreNumbers, Asks, AsksOfLog, AsksOther, IsAsked, IsNumber, LAST_SITE, ROUNDS, SEEDS};
 ghost use Rattle.std.specs.Prelude.{IfOk, SomeIff, map, string_bytes};
 ghost use Rattle.std.specs.Str.Parse.{digits_value};
 
@@ -9,6 +9,7 @@ use std::alloc::{AllocError, Global};
 use std::env;
 use std::env::Env;
 use std::io::ErrorKind;
+use zq_dots::SiteNo;
 
 /// What the program is asked to do.
 #[derive(Debug, PartialEq, Eq, Drop)]
@@ -28,13 +29,28 @@ pub enum Command {
     /// To say what is wrong with it, if anything is.
     Check(String),
     /// To say which members of a key it holds.
-    Members { key: String, path: String },
+    Members {
+        key: String,
+        path: String,
+    },
+    /// To make the folder `new` of this site, with all that the log in the folder `old` holds.
+    Adopt {
+        old: String,
+        new: String,
+        site: SiteNo,
+    },
     /// To drill three sites by a seed, each called so many times.
-    Drill { seed: u64, rounds: u32 },
+    Drill {
+        seed: u64,
+        rounds: u32,
+    },
 }
 
 /// A drill has at most so many rounds.
 const MOST_ROUNDS: u64 = 1_000_000;
+
+/// The greatest number of a site.
+const LAST_SITE: u64 = 63;
 
 /// The command that the command line names: `None` where its words name none, or one of them is not
 /// UTF-8.
@@ -93,6 +109,14 @@ fn named(alloc: Global, name: &str, rest: &[String]) -> Result<Option<Command>, 
             Ok(Some(Command::Status(path)))
         }
         ("drill", [seed, rounds]) => Ok(drill_of(seed.as_str(), rounds.as_str())),
+        ("adopt", [old, new, site]) => match site_of(site.as_str()) {
+            Some(site) => {
+                let old = String::from_str(alloc, old.as_str())?;
+                let new = String::from_str(alloc, new.as_str())?;
+                Ok(Some(Command::Adopt { old, new, site }))
+            }
+            None => Ok(None),
+        },
         _ => Ok(None),
     }
 }
@@ -136,4 +160,13 @@ fn drill_of(seed: &str, rounds: &str) -> Option<Command>
         seed,
         rounds: rounds as u32,
     })
+}
+
+/// The site of this number.
+#[tactic(auto, unfolding(zq_model::specs::Sets::SITES))]
+fn site_of(text: &str) -> Option<SiteNo>
+    ensures { SomeIff result (IsNumber text.now LAST_SITE) (digits_value 10 text.now) }
+{
+    let number = read_number(text, LAST_SITE)?;
+    SiteNo::new(number as u8)
 }

@@ -86,7 +86,7 @@ where
 /// A site that writes meanwhile may have a record read in part, and a later one as a whole, which
 /// is damage where nobody writes. So damage is told where it is found twice, one time after the
 /// other, at the same byte.
-fn read_folder<R>(rt: &R, alloc: Global, path: &str) -> Result<Inspection, Refusal>
+pub(crate) fn read_folder<R>(rt: &R, alloc: Global, path: &str) -> Result<Inspection, Refusal>
 where
     R: Files + RandomSource + Eprint,
 {
@@ -127,7 +127,7 @@ where
 
 /// A hasher of keys and members that strangers may have chosen. Where the system gives no seed
 /// standard error says so.
-fn hasher_of<R: RandomSource + Eprint>(rt: &R) -> Result<Seeded, Refusal> {
+pub(crate) fn hasher_of<R: RandomSource + Eprint>(rt: &R) -> Result<Seeded, Refusal> {
     match draw_hasher(rt) {
         Ok(hasher) => Ok(hasher),
         Err(fault) => {
@@ -166,7 +166,7 @@ fn unopened<R: Eprint>(rt: &R, path: &str, why: NotOpened) -> Refusal {
 }
 
 /// Standard error says what is wrong with the log, where anything is.
-fn tell_fault<R: Eprint>(rt: &R, path: &str, log: &Inspection) {
+pub(crate) fn tell_fault<R: Eprint>(rt: &R, path: &str, log: &Inspection) {
     if let Some(words) = fault_words(log.state) {
         let place = log.place;
         let _ = eprintln!(rt; "zqueue: {path}/log: {words}, at byte {place}");
@@ -174,7 +174,7 @@ fn tell_fault<R: Eprint>(rt: &R, path: &str, log: &Inspection) {
 }
 
 /// Writes this, or says that a device failed.
-fn write_out<W: Write>(text: &[u8], out: &mut W) -> Result<(), Refusal>
+pub(crate) fn write_out<W: Write>(text: &[u8], out: &mut W) -> Result<(), Refusal>
     ensures { OnOk result (Appends (W.contents out.old) (W.contents out.new) text.now) }
 {
     match out.write_all(text) {

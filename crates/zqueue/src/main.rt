@@ -2,6 +2,7 @@
 #![tactic(auto)]
 
 mod administering;
+mod adopting;
 mod asked;
 mod configured;
 mod drilling;
@@ -18,6 +19,7 @@ mod site_thread;
 mod tests;
 
 use administering::{status_file, stop_file};
+use adopting::adopt_folder;
 use asked::{Command, asked};
 use drilling::drill_out;
 use inspecting::{check_folder, inspect_folder, list_members};
@@ -43,6 +45,8 @@ const HELP: &str = "usage:
                       says what is wrong with it, if anything is
   zqueue inspect --members KEY DIR
                       says which members of a key it holds, with their scores
+  zqueue adopt OLD NEW SITE
+                      makes the folder NEW of a site of this number with what the log in OLD holds
   zqueue drill SEED ROUNDS
                       drills three sites over links that fail, and writes whether they end equal
 README.md says what each of them does, and docs/COMMANDS.md what clients can send.";
@@ -78,6 +82,11 @@ fn main(rt: HostRuntime) -> ExitCode {
             let (key, path) = (key.as_bytes(), path.as_str());
             let told = list_members(&rt, rt.alloc(), path, key, &mut io::writer(&rt));
             conclude(told, &mut io::writer(&rt))
+        }
+        Ok(Some(Command::Adopt { old, new, site })) => {
+            let (old, new) = (old.as_str(), new.as_str());
+            let made = adopt_folder(&rt, rt.alloc(), old, new, site, &mut io::writer(&rt));
+            conclude(made, &mut io::writer(&rt))
         }
         Ok(Some(Command::Drill { seed, rounds })) => {
             drill_out(&rt, rt.alloc(), seed, rounds, &mut io::writer(&rt))

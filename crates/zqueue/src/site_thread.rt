@@ -54,7 +54,8 @@ where
     }
 }
 
-/// Serves the site of these settings, which logs into this queue.
+/// Serves the site of these settings, which logs into this queue, and shows how many of its lines were
+/// dropped.
 fn serve_here<R>(
     rt: &R,
     alloc: Global,
@@ -77,5 +78,14 @@ where
 {
     let mut out = start_lines(rt, alloc)?;
     let log = log_of(rt, alloc, queue, settings.log_level);
-    serve_site(rt, &log, alloc, settings, password, &mut out, ending)
+    serve_site(
+        rt,
+        &log,
+        alloc,
+        settings,
+        password,
+        &mut out,
+        ending,
+        queue.dropped(),
+    )
 }

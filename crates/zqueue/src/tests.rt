@@ -57,13 +57,14 @@ fn words_of(command: &Option<Command>) -> (&str, &str) {
         Some(Command::Inspect(path)) => ("inspect", path.as_str()),
         Some(Command::Check(path)) => ("check", path.as_str()),
         Some(Command::Members { key, .. }) => ("members", key.as_str()),
+        Some(Command::Adopt { new, .. }) => ("adopt", new.as_str()),
         Some(Command::Drill { .. }) => ("drill", ""),
     }
 }
 
 #[test]
 fn a_command_has_its_words_and_no_others(rt: HostRuntime) -> Result<(), Fail> {
-    let rows: [(&[&[u8]], (&str, &str)); 23] = [
+    let rows: [(&[&[u8]], (&str, &str)); 28] = [
         (&[b"zqueue", b"pipe"], ("pipe", "")),
         (&[b"zqueue"], ("none", "")),
         (&[b"zqueue", b"PIPE"], ("none", "")),
@@ -97,6 +98,17 @@ fn a_command_has_its_words_and_no_others(rt: HostRuntime) -> Result<(), Fail> {
         (&[b"zqueue", b"inspect", b"--other", b"dir"], ("none", "")),
         (
             &[b"zqueue", b"inspect", b"--check", b"k", b"dir"],
+            ("none", ""),
+        ),
+        (
+            &[b"zqueue", b"adopt", b"old", b"new", b"63"],
+            ("adopt", "new"),
+        ),
+        (&[b"zqueue", b"adopt", b"old", b"new", b"64"], ("none", "")),
+        (&[b"zqueue", b"adopt", b"old", b"new", b"-1"], ("none", "")),
+        (&[b"zqueue", b"adopt", b"old", b"new"], ("none", "")),
+        (
+            &[b"zqueue", b"adopt", b"old", b"new", b"5", b"6"],
             ("none", ""),
         ),
     ];

@@ -1,0 +1,4 @@
+pub mod Judged
+pub mod Alike
+pub mod Told
+pub mod Laws
