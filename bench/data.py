@@ -9,11 +9,14 @@ alternation. Sites have 4 heaps and 2 workers; the key has 10 bytes and members 
              connections with 16 requests in flight and `always`, and of a peer that hears them
     start    seconds until a site serves that has a log, less those of an empty folder: a log of rounds, made as in `bytes`, and
              one of copies of heaps, as a switch leaves it. The system still has the logs in memory
+    long     the same with logs of a gigabyte: of rounds that change the scores of a tenth of the members again and again, and of
+             copies of members of 1,000 bytes; and the most memory that the start takes beyond what a site without `data` has that
+             holds the same
     switch   the longest wait of a client that asks each millisecond, ZADD of one member and ZSCORE of it in turn, while the log
              is switched and a writer changes members at a rate, and the 99th of a hundred waits; of redis-server BGREWRITEAOF
 
 Usage: bench/data.py [--rows ROW[,ROW..]] [--rounds N] [--seconds N] [--members N] [--rate N] [--switches N] [--threads N]
-                     [--folder DIR] [--tmpfs] [--csv] [--form TEXT] [--program PATH]
+                     [--megabytes N] [--folder DIR] [--tmpfs] [--csv] [--form TEXT] [--program PATH]
 The folders of the servers are below DIR, the current one where nothing is said: that is to be on a disk, and tmpfs is refused
 without --tmpfs. It prints what the disk is, and a line for each figure: zqueue's, the aim, redis-server's, and which part of
 the processors' time was idle meanwhile, zqueue's run first; at the end which aims were missed, and with --csv the figures as
@@ -58,6 +61,9 @@ RATIOS = {"redis-server": ("of redis-server's rate", 1.5), "plain": ("of the rat
 # The most bytes an operation that are wanted; the least operations and megabytes a second of a start; the most milliseconds of a
 # wait in a switch.
 MOST_BYTES, OPERATIONS, MEGABYTES, MOST_WAIT = 70, 400_000, 200, 20
+# The most megabytes of memory that a start takes beyond what it holds, that are wanted; and a setting by which little is kept for
+# peers, so that they tell of the queue.
+MOST_MORE, FEW = 34, "link_backlog = 1048576\n"
 # What is told of waits: how many of them have ended by then, where, and the most milliseconds that are wanted.
 WAITS = [("longest wait in a switch", 1, "inside", MOST_WAIT), ("99th percentile in a switch", 0.99, "inside", None),
          ("longest wait outside", 1, "outside", None), ("99th percentile outside", 0.99, "outside", None)]
@@ -83,9 +89,15 @@ def member(number):
     return b"%016x" % (number * ODD % (1 << 64))
 
 
-def added(number):
+def added(number, score=None, name=member):
     """A request that adds it."""
-    return streams.request(b"ZADD", KEY, b"%d" % (number * 7919 % 1000003), member(number))
+    score = number * 7919 % 1000003 if score is None else score
+    return streams.request(b"ZADD", KEY, b"%d" % score, name(number))
+
+
+def long_member(number):
+    """A member of 1,000 bytes."""
+    return member(number) + LONG[:984]
 
 
 class Load:
@@ -94,14 +106,14 @@ class Load:
     def __init__(self, folder, threads):
         self.program, self.folder, self.threads = pipe.compiled("load", folder), pathlib.Path(folder), threads
 
-    def stream(self, first, count):
+    def stream(self, first, count, **words):
         """The path of a stream that adds so many members from this one on. It is made once, and is on the disk then."""
-        path = self.folder / f"{first}.{count}"
+        path = self.folder / ".".join(map(str, (first, count, *words)))
         if not path.exists():
             with open(path, "wb") as file:
                 for begin in range(first, first + count, 10_000):
                     turns = range(begin, min(begin + 10_000, first + count))
-                    file.write(b"".join(added(turn) for turn in turns))
+                    file.write(b"".join(added(turn, **words) for turn in turns))
                 file.flush()
                 os.fsync(file.fileno())
         return path
@@ -179,14 +191,14 @@ class Kept(Group):
 class Sites(Kept):
     """Sites that are linked to each other. They have no log where `sync` is `None`."""
 
-    def __init__(self, bench, sync, count=1):
-        self.program, self.sync, self.count = bench.program, sync, count
+    def __init__(self, bench, sync, count=1, more=""):
+        self.program, self.sync, self.count, self.more = bench.program, sync, count, more
         super().__init__(bench, count)
 
     def words(self, site):
         path = self.folder / f"{site}.toml"
         text = (f'site = {site}\nport = {self.ports[site]}\nlisten = "127.0.0.1:{self.listens[site]}"\nheaps = {HEAPS}\n'
-                f"workers = {WORKERS}\nalone = 0\n")
+                f"workers = {WORKERS}\nalone = 0\n{self.more}")
         if self.sync:
             text += f'data = "{self.of(site)}"\nsync = "{self.sync}"\n'
         for peer in range(self.count):
@@ -493,6 +505,77 @@ def measure_start(bench):
     add("rate", "MB a second", megabytes / took, least=MEGABYTES, idle=idle, digits=0)
 
 
+def peak(group):
+    """The most bytes that the first server has had in memory so far."""
+    return int(re.search(r"VmHWM:\s*(\d+) kB", pathlib.Path(f"/proc/{group.servers[0].pid}/status").read_text())[1]) * 1024
+
+
+def send(bench, group, path):
+    bench.load.run(path, group.ports[0], CONNECTIONS, DEEP, bench.asked.threads)
+
+
+def fill_with_rounds(bench, group, wanted):
+    """Makes a log of rounds so long, which is never switched: it is as long at a start as it may grow until the next one. It answers how
+    many members there are, and how many operations."""
+    count, turns, found, grows = bench.asked.members // 10, 0, SHORT // 2, 0
+    scores = [bench.load.stream(0, count, score=score) for score in (1, 2)]
+    while (length := group.length()) < wanted:
+        if length + grows > max(SHORT, 2 * found) - LACKS:
+            group.again()
+            found = length
+        send(bench, group, scores[turns % 2])
+        grows, turns = max(grows, group.length() - length), turns + 1
+    return count, count * turns
+
+
+def fill_with_members(bench, group, wanted):
+    """Adds members of 1,000 bytes until the log is so long, and has it switched: it has copies alone then. It answers the same."""
+    count = 0
+    while count * 1_050 < wanted:
+        path = bench.load.stream(count, PART // 10, name=long_member)
+        send(bench, group, path)
+        path.unlink()
+        count += PART // 10
+    group.switch()
+    return count, count
+
+
+def resident_without_data(bench, count, **words):
+    """How many bytes a site has without `data` to which so many members were added."""
+    with Sites(bench, None, more=FEW) as group:
+        for begin in range(0, count, PART // 10):
+            path = bench.load.stream(begin, min(PART // 10, count - begin), **words)
+            send(bench, group, path)
+            path.unlink()
+        return group.resident(0)
+
+
+def started_over(bench, fill, what, **members):
+    """The lines of a start over a log that was filled so, with members as these words say."""
+    with Sites(bench, "soon", more=FEW) as group:
+        count, operations = fill(bench, group, bench.asked.megabytes * 1_000_000)
+        took, megabytes = group.again(), group.length() / 1e6
+        most = peak(group)
+        group.wait_for_members(count)
+    has = resident_without_data(bench, count, **members)
+    case = f"{what}, {operations:,} operations, {count:,} members, {megabytes:,.0f} MB"
+
+    def add(*words, **more):
+        bench.report.add("long", case, *words, **more)
+
+    add("time", "seconds", took, digits=1)
+    is_of_rounds = operations > count
+    add("rate", "operations a second", operations / took, least=OPERATIONS if is_of_rounds else None, digits=0)
+    add("rate", "MB a second", megabytes / took, least=None if is_of_rounds else MEGABYTES, digits=0)
+    add("memory of a site without data", "MB", has / 1e6, digits=0)
+    add("most memory of a start beyond it", "MB", (most - has) / 1e6, most=MOST_MORE, digits=0)
+
+
+def measure_long(bench):
+    started_over(bench, fill_with_rounds, "rounds", score=1)
+    started_over(bench, fill_with_members, "copies of heaps", name=long_member)
+
+
 def asker_over_switches(bench, make):
     """A client that asked while the log of a server was switched some times, and what was idle."""
     asked = bench.asked
@@ -527,7 +610,8 @@ def measure_switch(bench):
         bench.report.add("switch", case, "time of a switch", "seconds", *lasted, **more)
 
 
-ROWS = {"always": measure_always, "soon": measure_soon, "bytes": measure_bytes, "start": measure_start, "switch": measure_switch}
+ROWS = {"always": measure_always, "soon": measure_soon, "bytes": measure_bytes, "start": measure_start, "long": measure_long,
+        "switch": measure_switch}
 
 
 def rows(text):
@@ -587,6 +671,7 @@ def parsed():
     words.add_argument("--members", type=int, default=1_000_000, help="of starts and switches; half of them of bytes (1,000,000)")
     words.add_argument("--rate", type=int, default=20_000, help="writes a second around a switch (20,000)")
     words.add_argument("--switches", type=int, default=3, help="in which a client asks (3)")
+    words.add_argument("--megabytes", type=int, default=1000, help="of the long logs (1000)")
     words.add_argument("--threads", type=int, default=2, help="of the loader (2)")
     words.add_argument("--folder", type=pathlib.Path, default=pathlib.Path.cwd())
     words.add_argument("--tmpfs", action="store_true", help="takes a folder in memory too")

@@ -7,7 +7,7 @@ that delays and counts what they carry. Sites have 4 heaps and 2 workers, keys 1
     fresh    milliseconds from a write at one site until it can be read at another one, at rest and beside writers
     away     a link is cut for 10 seconds beside writers: seconds after it is back until all made before is at both sites, and by what
     join     an empty site comes: seconds until it has all, what went for it, the longest call of a client at either site meanwhile, and
-             the processor time of the busiest thread of each
+             the processor time of the busiest thread of each; and what went for it where two sites could send it
     catch    operations a second that a site takes which was cut off while they were made
     cost     processor time of sending an operation: of the process of the site that is written to, with peers and without
     slow     how much the memory of a site grows whose peer takes nothing, or next to nothing, beside a writer
@@ -42,6 +42,10 @@ MIB = 1 << 20
 MOST_MEMORY = 2048 * MIB
 # A site whose peer takes nothing may keep this much for it: a log, and what is under way.
 MOST_KEPT = 65 * MIB
+# The most memory of a site that is left with no member: a log, and what a process takes with none.
+MOST_EMPTY = 64 * MIB + 100_000_000
+# The most bytes of an operation where many go at once.
+MOST_BYTES = 60
 # The most bytes that a frame may have where heaps go in pieces.
 MOST_PIECE = 3 * MIB
 
@@ -136,6 +140,11 @@ def frames_told(frames):
     return ", ".join(f"{count:,} {name}" for name, count in counts.items()) or "none"
 
 
+def heaps_in(frames):
+    """How many frames are heaps or pieces of them."""
+    return frames.get(STATE, 0) + frames.get(PIECE, 0)
+
+
 def rest(relay, patience):
     """Waits until hardly anything goes over the relay, as it does from time to time where nothing is written."""
     end, before = time.monotonic() + patience, relay.counters()
@@ -156,11 +165,12 @@ def copies_of(group, rate, sizes):
     before = group.counted()
     with Idle() as idle, group.write(rate, sizes.seconds, members=100000) as writer:
         wrote = writer.figures()
+        is_there = group.seconds_until(group.mark(), sizes.patience) is not None and is_there
         rest(group.relay, sizes.patience)
     after = group.counted()
-    due = wrote["sent"] * (group.count - 1)
+    due = (wrote["sent"] + linked.MARK * len(group.writable)) * (group.count - 1)
     return {"copies": after.since(before, "operations") / due, "bytes": after.since(before, "bytes") / due, "idle": idle.share,
-            "rate": wrote["sent"] / wrote["seconds"], "states": after.frames_since(before).get(STATE, 0),
+            "rate": wrote["sent"] / wrote["seconds"], "heaps": heaps_in(after.frames_since(before)),
             "is_alike": is_there and group.are_alike(sizes.patience)}
 
 
@@ -170,10 +180,10 @@ def measure_copies(bench):
         case = f"{count} sites, {delay * 1e3:g} ms, {rate:,}/s" + (f" ({ours['rate']:,.0f} came)" if ours["rate"] < 0.95 * rate else "")
         case += "" if ours["is_alike"] else ", not alike in time"
         idle = (ours["idle"], theirs["idle"])
-        bench.report.add("copies", case, "copies of an operation", ours["copies"], most=1.02, idle=idle)
-        bench.report.add("copies", case, "State frames", ours["states"], most=0, idle=idle, digits=0)
-        bench.report.add("copies", case, "bytes an operation", ours["bytes"], theirs["bytes"], most=90 if rate >= 10000 else None, idle=idle,
-                         digits=0)
+        bench.report.add("copies", case, "copies of an operation", ours["copies"] if ours["is_alike"] else None, most=1.02, idle=idle)
+        bench.report.add("copies", case, "heaps and pieces", ours["heaps"], most=0, idle=idle, digits=0)
+        bench.report.add("copies", case, "bytes an operation", ours["bytes"], theirs["bytes"], most=MOST_BYTES if rate >= 10000 else None,
+                         idle=idle, digits=0)
 
 
 # fresh
@@ -228,34 +238,38 @@ def measure_away(bench):
         idle = [each["idle"] for each in (ours, theirs) if each]
         bench.report.add("away", case, "s from the link's return", part(ours, "seconds"), part(theirs, "seconds"), most=1, idle=idle)
         bench.report.add("away", case, "s until it is dialled", part(ours, "dialled"), part(theirs, "dialled"), idle=idle)
-        bench.report.add("away", case, "State frames", part(part(ours, "frames"), STATE) or 0, most=0, idle=idle, digits=0)
-        bench.report.add("away", case, "frames", frames_told(part(ours, "frames") or {}), idle=idle)
+        frames = part(ours, "frames") or {}
+        bench.report.add("away", case, "heaps and pieces", heaps_in(frames), most=0, idle=idle, digits=0)
+        bench.report.add("away", case, "frames", frames_told(frames), idle=idle)
 
 
 # join
 
 def join_of(group, members, rate, sizes):
-    """What an empty server takes to have all that the first one has. Clients that write call both meanwhile, but for a replica."""
+    """What an empty server takes to have all that the others have. Clients that write call it and the first one meanwhile, but for a
+    replica."""
+    last = group.count - 1
     group.fill(members)
+    is_there = group.seconds_until(group.mark([0]), sizes.patience) is not None
     with Idle() as idle, contextlib.ExitStack() as held:
         writer = held.enter_context(group.write(rate, 1000, members, servers=[0]))
         calls = [held.enter_context(group.calls(0))]
         time.sleep(1)
         mark, before, busy = group.mark([0]), group.counted(), group.busy_by_thread(0)
         begin = time.monotonic()
-        group.start(1)
-        if 1 in group.writable:
-            calls.append(held.enter_context(group.calls(1, b"other:0002")))
-        took = group.seconds_until(mark, sizes.patience, [1])
+        group.start(last)
+        if last in group.writable:
+            calls.append(held.enter_context(group.calls(last, b"other:0002")))
+        took = group.seconds_until(mark, sizes.patience, [last])
         seconds = None if took is None else time.monotonic() - begin
         after = group.counted()
-        spent = [busiest(group.busy_by_thread(0), busy), busiest(group.busy_by_thread(1), {})]
+        spent = [busiest(group.busy_by_thread(0), busy), busiest(group.busy_by_thread(last), {})]
         longest = [each.stop()["longest_ms"] for each in calls]
         writer.stop()
     return {"seconds": seconds, "longest": longest, "busiest": spent, "states": after.since(before, f"frames.{STATE}"),
             "pieces": after.since(before, f"frames.{PIECE}"), "piece_bytes": after.since(before, f"bytes.{PIECE}"),
             "largest": after.largest(), "bytes": after.since(before, "bytes"), "frames": after.frames_since(before), "idle": idle.share,
-            "is_alike": group.are_alike(sizes.patience)}
+            "is_alike": is_there and group.are_alike(sizes.patience)}
 
 
 def busiest(after, before):
@@ -266,7 +280,7 @@ def busiest(after, before):
 def measure_join(bench):
     members = bench.sizes.joined
     ours, theirs = bench.both(lambda group: join_of(group, members, 10000, bench.sizes), 2, 0.0005, start=1)
-    case = f"2 sites, 0.5 ms, 10,000/s, {members:,} members" + ("" if ours["is_alike"] else ", not alike in the end")
+    case = joining(2, members, ours)
     idle = (ours["idle"], theirs["idle"])
     bench.report.add("join", case, "s until it has all", ours["seconds"], theirs["seconds"], most=3, idle=idle)
     bench.report.add("join", case, "longest call at the old site, ms", ours["longest"][0], theirs["longest"][0], most=20, idle=idle)
@@ -279,6 +293,19 @@ def measure_join(bench):
     bench.report.add("join", case, "MB of the largest frame", ours["largest"] / 1e6, most=MOST_PIECE / 1e6, idle=idle)
     bench.report.add("join", case, "MB in all", ours["bytes"] / 1e6, theirs["bytes"] / 1e6, idle=idle)
     bench.report.add("join", case, "frames", frames_told(ours["frames"]), idle=idle)
+    with bench.sites(3, 0.0005, start=2) as group:
+        beside_two = join_of(group, members, 10000, bench.sizes)
+    case, idle = joining(3, members, beside_two), (beside_two["idle"],)
+    bench.report.add("join", case, "s until it has all", beside_two["seconds"], most=3, idle=idle)
+    for longest, name in zip(beside_two["longest"], ("first old site", "new one")):
+        bench.report.add("join", case, f"longest call at the {name}, ms", longest, most=20, idle=idle)
+    # From one source: two would send all of it twice.
+    bench.report.add("join", case, "MB in pieces", beside_two["piece_bytes"] / 1e6, most=1.2 * ours["piece_bytes"] / 1e6, idle=idle)
+
+
+def joining(count, members, came):
+    """The case of a site that joins others."""
+    return f"{count} sites, 0.5 ms, 10,000/s, {members:,} members" + ("" if came["is_alike"] else ", not alike in the end")
 
 
 # catch
@@ -431,8 +458,9 @@ def measure_large(bench):
     case = f"2 sites, {count:,} members of 1 MiB" + (f", given up after {ours['done']:,}" if ours["done"] < count else "")
     case += "" if ours["is_alike"] else ", not alike in the end"
     idle = (ours["idle"], theirs["idle"])
-    bench.report.add("large", case, "MiB at most", ours["most"] / MIB, theirs["most"] / MIB, most=164, idle=idle, digits=0)
-    bench.report.add("large", case, "MiB in the end", ours["left"] / MIB, theirs["left"] / MIB, most=164, idle=idle, digits=0)
+    most = MOST_EMPTY / MIB
+    bench.report.add("large", case, "MiB at most", ours["most"] / MIB, theirs["most"] / MIB, most=most, idle=idle, digits=0)
+    bench.report.add("large", case, "MiB in the end", ours["left"] / MIB, theirs["left"] / MIB, most=most, idle=idle, digits=0)
 
 
 # del
@@ -471,7 +499,7 @@ def measure_del(bench):
     bench.report.add("del", case, "longest call meanwhile, ms beyond the DEL", ours["beyond"], theirs["beyond"], most=20, idle=idle)
     bench.report.add("del", case, "longest call later, ms", ours["later"], theirs["later"], most=20, idle=idle)
     bench.report.add("del", case, "s until it is gone everywhere", ours["until"], theirs["until"], idle=idle)
-    bench.report.add("del", case, "State frames", ours["frames"].get(STATE, 0), most=0, idle=idle, digits=0)
+    bench.report.add("del", case, "heaps and pieces", heaps_in(ours["frames"]), most=0, idle=idle, digits=0)
     bench.report.add("del", case, "operations for each member and link", ours["operations"] / members / (count - 1), most=1.02, idle=idle)
 
 
