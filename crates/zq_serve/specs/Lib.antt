@@ -13,3 +13,10 @@ pub mod Commits
 pub mod CommitLaws
 pub mod Limits
 pub mod Rewriting
+pub mod Controls
+pub mod Denials
+pub mod Together
+pub mod Queues
+pub mod Transactions
+pub mod OneCall
+pub mod Chosen

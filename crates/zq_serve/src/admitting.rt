@@ -44,7 +44,7 @@ impl<A: Answers> Answers for Admitting<'_, A> {
 }
 
 /// What a command is answered that a site does not admit, and `None` where it does.
-fn held_back(site: SiteNo, admits: Admits, words: &[Vec<u8>]) -> Option<Reply>
+pub(crate) fn held_back(site: SiteNo, admits: Admits, words: &[Vec<u8>]) -> Option<Reply>
     ensures refused { IfSome result
         (IsHeldBack site admits (map (λ w. w.items) words.now)) }
     ensures writable { IfSome result (λ reply. IsTrue (is_writable reply)) }

@@ -5,14 +5,15 @@ ghost use Rattle.std.specs.Prelude.{IsTrue, ◌≡◌};
 ghost use Rattle.zq_resp.specs.Reply.{is_writable};
 ghost use Rattle.zq_serve.specs.Desks.{AnswersAtDesk, HasBegun};
 
+use crate::caller::Caller;
 use crate::desk::Desk;
 use std::alloc::Global;
 use std::time::Clock;
-use zq_client::{ClientState, Moment, asks_for_moment};
+use zq_client::{Moment, asks_for_moment};
 use zq_loop::{Attends, Port};
 use zq_metrics::{Command, Counters};
 use zq_resp::{Reply, Request};
-use zq_session::Answers;
+use zq_session::{Answers, Transacts};
 
 /// All that is counted.
 const COMMANDS: [Command; 14] = [
@@ -44,32 +45,33 @@ pub struct Knowing<'b, A: Answers, R: Clock> {
     pub(crate) counters: Option<&'b Counters>,
 }
 
-impl<A: Answers, R: Clock> Knowing<'_, A, R> {
+impl<A: Answers + Transacts, R: Clock> Knowing<'_, A, R> {
     /// The answer of a connection that has this, at the desk.
     fn attend_at(
         &mut self,
         desk: &Desk,
-        own: &mut Option<ClientState>,
+        own: &mut Option<Caller>,
         alloc: Global,
         request: &Request,
     ) -> Reply
-        ensures related { AnswersAtDesk A.answers desk.now.profile self.old.answerer own.old
-            request.now result self.new.answerer own.new }
+        ensures related { AnswersAtDesk (record {
+          answers = A.answers;
+          prepares = A.prepares;
+          transacts = A.transacts;
+          watches = A.watches;
+        }) desk.now.profile self.old.answerer
+            own.old request.now result self.new.answerer own.new }
         ensures writable { IsTrue (is_writable result) }
         ensures desk { option_copied self.new.desk ≡ option_copied self.old.desk }
     {
-        let mut client = client_of(desk, own, alloc);
-        let moment = self.moment(desk, request);
-        let answered = client.answer(alloc, &desk.profile, &moment, request);
-        *own = Some(client);
-        match answered {
-            Some(reply) => reply,
-            None => self.answerer.answer(alloc, request),
-        }
+        let mut caller = caller_of(desk, own, alloc);
+        let reply = self.answer_caller(desk, &mut caller, alloc, request);
+        *own = Some(caller);
+        reply
     }
 
     /// The moment, where the request asks for it.
-    fn moment(&self, desk: &Desk, request: &Request) -> Moment {
+    pub(crate) fn moment(&self, desk: &Desk, request: &Request) -> Moment {
         if !asks_for_moment(request.words()) {
             return Moment::NONE;
         }
@@ -93,16 +95,16 @@ fn answered_by(counters: &Counters) -> u64 {
 
 /// What a connection has before a request: what its last request left, and what it begins with
 /// where there was none.
-fn client_of(desk: &Desk, own: &mut Option<ClientState>, alloc: Global) -> ClientState
+fn caller_of(desk: &Desk, own: &mut Option<Caller>, alloc: Global) -> Caller
     ensures { HasBegun desk.now.profile own.old result }
 {
     match own.take() {
-        Some(client) => client,
-        None => desk.begin(alloc),
+        Some(caller) => caller,
+        None => Caller::new(desk, alloc),
     }
 }
 
-impl<A: Answers, R: Clock> Attends<ClientState> for Knowing<'_, A, R> {
+impl<A: Answers + Transacts, R: Clock> Attends<Caller> for Knowing<'_, A, R> {
     ghost use Rattle.std.specs.Option.{option_copied};
     ghost use Rattle.std.specs.Prelude.{◌≡◌};
     ghost use Rattle.zq_loop.specs.Attending.{AnyAsked};
@@ -110,29 +112,40 @@ impl<A: Answers, R: Clock> Attends<ClientState> for Knowing<'_, A, R> {
 
     ghost answers = { λ old own words reply new own_new.
         (option_copied new.desk ≡ option_copied old.desk)
-        × AnswersBy A.answers (option_copied old.desk) old.answerer own words reply new.answerer
+        × AnswersBy (record {
+          answers = A.answers;
+          prepares = A.prepares;
+          transacts = A.transacts;
+          watches = A.watches;
+        }) (option_copied old.desk) old.answerer own words reply new.answerer
         own_new };
 
     ghost others = { λ old new. (option_copied new.desk ≡ option_copied old.desk)
-        × AnyAsked (AnswersBy A.answers (option_copied old.desk)) old.answerer new.answerer };
+        × AnyAsked (AnswersBy (record {
+          answers = A.answers;
+          prepares = A.prepares;
+          transacts = A.transacts;
+          watches = A.watches;
+        }) (option_copied old.desk)) old.answerer
+        new.answerer };
 
-    fn attend(&mut self, own: &mut Option<ClientState>, alloc: Global, request: &Request) -> Reply {
+    fn attend(&mut self, own: &mut Option<Caller>, alloc: Global, request: &Request) -> Reply {
         match self.desk {
             Some(desk) => self.attend_at(desk, own, alloc, request),
             None => self.answerer.answer(alloc, request),
         }
     }
 
-    fn is_over(&self, own: &Option<ClientState>) -> bool {
+    fn is_over(&self, own: &Option<Caller>) -> bool {
         match own {
-            Some(client) => client.is_over(),
+            Some(caller) => caller.client.is_over(),
             None => false,
         }
     }
 
-    fn is_stranger(&self, own: &Option<ClientState>) -> bool {
+    fn is_stranger(&self, own: &Option<Caller>) -> bool {
         match (self.desk, own) {
-            (Some(_), Some(client)) => !client.is_known(),
+            (Some(_), Some(caller)) => !caller.client.is_known(),
             (Some(desk), None) => desk.profile.password.is_some(),
             (None, _) => false,
         }
