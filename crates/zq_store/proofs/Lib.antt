@@ -1,1 +1,2 @@
 mod Rereading
+pub mod Gathering
