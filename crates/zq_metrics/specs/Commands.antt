@@ -1,6 +1,6 @@
 -- The commands that are counted.
 
-use Rattle.std.specs.Prelude.{Bool, List, codes, if◌then◌else◌, ℕ, ◌==◌}
+use Rattle.std.specs.Prelude.{Bool, List, [], bit_or, codes, if◌then◌else◌, nat_le, true, ℕ, ◌&&◌, ◌==◌, ◌∷◌}
 use Rattle.std.specs.Str.{str_eq_ignore_ascii_case}
 use Rattle.zq_metrics.specs.declared.command.Command.{Command}
 use Rattle.zq_metrics.specs.declared.command.Command.TheVariants.{Del, Other, Ping, Zadd, Zcard, Zcount, Zincrby, Zpopmin, Zpopnear, Zrange, Zrank, Zrem, Zrevrank, Zscore}
@@ -8,6 +8,15 @@ use Rattle.zq_metrics.specs.declared.command.Command.TheVariants.{Del, Other, Pi
 -- a word is this name, without regard to ASCII case
 abbrev pub is : List ℕ → List ℕ → Bool
 is word name = str_eq_ignore_ascii_case word name
+
+-- a byte with the bit in which a small letter differs from its great one
+abbrev pub small : ℕ → ℕ
+small byte = bit_or byte 32
+
+-- these are small letters alone
+abbrev pub are_small : List ℕ → Bool
+are_small [] = true
+are_small (letter ∷ letters) = nat_le 97 letter && nat_le letter 122 && are_small letters
 
 -- the command of this name
 abbrev pub command_of : List ℕ → Command

@@ -1,6 +1,6 @@
 //! The commands that are counted, each by itself.
 
-ghost use Rattle.std.specs.Prelude.{◌<◌, ◌≡◌, IfSome, IsTrue};
+ghost use Rattle.std.specs.Prelude.{◌<◌, ◌≡◌, ◌↔◌, IsTrue, length, map, true};
 ghost use Rattle.zq_metrics.specs.Commands as wanted;
 
 /// How many there are.
@@ -74,20 +74,10 @@ pub(crate) fn label_at(place: usize) -> &'static str
     }
 }
 
-/// The command of this name, in any ASCII case.
+/// The command of this name, in any ASCII case. Its length comes first, so that few names are
+/// compared.
 pub fn command_of(name: &[u8]) -> Command
     ensures { result ≡ wanted.command_of name.now }
-{
-    match spelled(name) {
-        Some(command) => command,
-        None => searched(name),
-    }
-}
-
-/// The command whose name this is in great or in small letters alone, as clients write it. Its
-/// length comes first, so that few names are compared.
-fn spelled(name: &[u8]) -> Option<Command>
-    ensures { IfSome result (λ command. command ≡ wanted.command_of name.now) }
 {
     match name.len() {
         3 => of_three(name),
@@ -96,209 +86,199 @@ fn spelled(name: &[u8]) -> Option<Command>
         6 => of_six(name),
         7 => of_seven(name),
         8 => of_eight(name),
-        _ => None,
+        _ => Command::Other,
     }
 }
 
-fn of_three(name: &[u8]) -> Option<Command>
-    ensures { IfSome result (λ command. command ≡ wanted.command_of name.now) }
-{
-    if is_three(name, *b"DEL") || is_three(name, *b"del") {
-        Some(Command::Del)
-    } else {
-        None
-    }
-}
-
-fn of_four(name: &[u8]) -> Option<Command>
-    ensures { IfSome result (λ command. command ≡ wanted.command_of name.now) }
-{
-    if is_four(name, *b"ZADD") || is_four(name, *b"zadd") {
-        Some(Command::Zadd)
-    } else if is_four(name, *b"ZREM") || is_four(name, *b"zrem") {
-        Some(Command::Zrem)
-    } else if is_four(name, *b"PING") || is_four(name, *b"ping") {
-        Some(Command::Ping)
-    } else {
-        None
-    }
-}
-
-fn of_five(name: &[u8]) -> Option<Command>
-    ensures { IfSome result (λ command. command ≡ wanted.command_of name.now) }
-{
-    if is_five(name, *b"ZCARD") || is_five(name, *b"zcard") {
-        Some(Command::Zcard)
-    } else if is_five(name, *b"ZRANK") || is_five(name, *b"zrank") {
-        Some(Command::Zrank)
-    } else {
-        None
-    }
-}
-
-fn of_six(name: &[u8]) -> Option<Command>
-    ensures { IfSome result (λ command. command ≡ wanted.command_of name.now) }
-{
-    if is_six(name, *b"ZSCORE") || is_six(name, *b"zscore") {
-        Some(Command::Zscore)
-    } else if is_six(name, *b"ZRANGE") || is_six(name, *b"zrange") {
-        Some(Command::Zrange)
-    } else if is_six(name, *b"ZCOUNT") || is_six(name, *b"zcount") {
-        Some(Command::Zcount)
-    } else {
-        None
-    }
-}
-
-fn of_seven(name: &[u8]) -> Option<Command>
-    ensures { IfSome result (λ command. command ≡ wanted.command_of name.now) }
-{
-    if is_seven(name, *b"ZPOPMIN") || is_seven(name, *b"zpopmin") {
-        Some(Command::Zpopmin)
-    } else if is_seven(name, *b"ZINCRBY") || is_seven(name, *b"zincrby") {
-        Some(Command::Zincrby)
-    } else {
-        None
-    }
-}
-
-fn of_eight(name: &[u8]) -> Option<Command>
-    ensures { IfSome result (λ command. command ≡ wanted.command_of name.now) }
-{
-    if is_eight(name, *b"ZPOPNEAR") || is_eight(name, *b"zpopnear") {
-        Some(Command::Zpopnear)
-    } else if is_eight(name, *b"ZREVRANK") || is_eight(name, *b"zrevrank") {
-        Some(Command::Zrevrank)
-    } else {
-        None
-    }
-}
-
-/// Whether two words of eight bytes are the same: they are compared at once.
-#[inline(always)]
-fn are_same(word: &[u8; 8], text: &[u8; 8]) -> bool
-    ensures { IsTrue result → word.now ≡ text.now }
-{
-    u64::from_le_bytes(*word) == u64::from_le_bytes(*text)
-}
-
-/// Whether a name is this text of three bytes.
-#[inline(always)]
-fn is_three(name: &[u8], text: [u8; 3]) -> bool
-    ensures { IsTrue result → name.now ≡ text }
-{
-    let [p, q, r] = text;
-    match name {
-        [a, b, c] => are_same(&[*a, *b, *c, 0, 0, 0, 0, 0], &[p, q, r, 0, 0, 0, 0, 0]),
-        _ => false,
-    }
-}
-
-/// Whether a name is this text of four bytes.
-#[inline(always)]
-fn is_four(name: &[u8], text: [u8; 4]) -> bool
-    ensures { IsTrue result → name.now ≡ text }
-{
-    let [p, q, r, s] = text;
-    match name {
-        [a, b, c, d] => are_same(&[*a, *b, *c, *d, 0, 0, 0, 0], &[p, q, r, s, 0, 0, 0, 0]),
-        _ => false,
-    }
-}
-
-/// Whether a name is this text of five bytes.
-#[inline(always)]
-fn is_five(name: &[u8], text: [u8; 5]) -> bool
-    ensures { IsTrue result → name.now ≡ text }
-{
-    let [p, q, r, s, t] = text;
-    match name {
-        [a, b, c, d, e] => are_same(&[*a, *b, *c, *d, *e, 0, 0, 0], &[p, q, r, s, t, 0, 0, 0]),
-        _ => false,
-    }
-}
-
-/// Whether a name is this text of six bytes.
-#[inline(always)]
-fn is_six(name: &[u8], text: [u8; 6]) -> bool
-    ensures { IsTrue result → name.now ≡ text }
-{
-    let [p, q, r, s, t, u] = text;
-    match name {
-        [a, b, c, d, e, f] => are_same(&[*a, *b, *c, *d, *e, *f, 0, 0], &[p, q, r, s, t, u, 0, 0]),
-        _ => false,
-    }
-}
-
-/// Whether a name is this text of seven bytes.
-#[inline(always)]
-fn is_seven(name: &[u8], text: [u8; 7]) -> bool
-    ensures { IsTrue result → name.now ≡ text }
-{
-    let [p, q, r, s, t, u, v] = text;
-    match name {
-        [a, b, c, d, e, f, g] => are_same(
-            &[*a, *b, *c, *d, *e, *f, *g, 0],
-            &[p, q, r, s, t, u, v, 0],
-        ),
-        _ => false,
-    }
-}
-
-/// Whether a name is this text of eight bytes.
-#[inline(always)]
-fn is_eight(name: &[u8], text: [u8; 8]) -> bool
-    ensures { IsTrue result → name.now ≡ text }
-{
-    let [p, q, r, s, t, u, v, w] = text;
-    match name {
-        [a, b, c, d, e, f, g, h] => are_same(
-            &[*a, *b, *c, *d, *e, *f, *g, *h],
-            &[p, q, r, s, t, u, v, w],
-        ),
-        _ => false,
-    }
-}
-
-/// The command of this name, in any ASCII case.
-#[inline(never)]
-fn searched(name: &[u8]) -> Command
+/// The command of this name of three bytes.
+fn of_three(name: &[u8]) -> Command
+    requires { length name.now ≡ 3 }
     ensures { result ≡ wanted.command_of name.now }
 {
-    if is(name, b"PING") {
-        Command::Ping
-    } else if is(name, b"ZADD") {
-        Command::Zadd
-    } else if is(name, b"ZINCRBY") {
-        Command::Zincrby
-    } else if is(name, b"ZREM") {
-        Command::Zrem
-    } else if is(name, b"ZSCORE") {
-        Command::Zscore
-    } else if is(name, b"ZCARD") {
-        Command::Zcard
-    } else if is(name, b"ZCOUNT") {
-        Command::Zcount
-    } else if is(name, b"ZRANK") {
-        Command::Zrank
-    } else if is(name, b"ZREVRANK") {
-        Command::Zrevrank
-    } else if is(name, b"ZRANGE") {
-        Command::Zrange
-    } else if is(name, b"ZPOPMIN") {
-        Command::Zpopmin
-    } else if is(name, b"ZPOPNEAR") {
-        Command::Zpopnear
-    } else if is(name, b"DEL") {
+    if is_three(name, *b"del") {
         Command::Del
     } else {
         Command::Other
     }
 }
 
-/// Whether a word is this name, in any ASCII case.
-fn is(word: &[u8], name: &[u8]) -> bool
-    ensures { result ≡ wanted.is word.now name.now }
+/// The command of this name of four bytes.
+fn of_four(name: &[u8]) -> Command
+    requires { length name.now ≡ 4 }
+    ensures { result ≡ wanted.command_of name.now }
 {
-    word.eq_ignore_ascii_case(name)
+    if is_four(name, *b"zadd") {
+        Command::Zadd
+    } else if is_four(name, *b"zrem") {
+        Command::Zrem
+    } else if is_four(name, *b"ping") {
+        Command::Ping
+    } else {
+        Command::Other
+    }
+}
+
+/// The command of this name of five bytes.
+fn of_five(name: &[u8]) -> Command
+    requires { length name.now ≡ 5 }
+    ensures { result ≡ wanted.command_of name.now }
+{
+    if is_five(name, *b"zcard") {
+        Command::Zcard
+    } else if is_five(name, *b"zrank") {
+        Command::Zrank
+    } else {
+        Command::Other
+    }
+}
+
+/// The command of this name of six bytes.
+fn of_six(name: &[u8]) -> Command
+    requires { length name.now ≡ 6 }
+    ensures { result ≡ wanted.command_of name.now }
+{
+    if is_six(name, *b"zscore") {
+        Command::Zscore
+    } else if is_six(name, *b"zrange") {
+        Command::Zrange
+    } else if is_six(name, *b"zcount") {
+        Command::Zcount
+    } else {
+        Command::Other
+    }
+}
+
+/// The command of this name of seven bytes.
+fn of_seven(name: &[u8]) -> Command
+    requires { length name.now ≡ 7 }
+    ensures { result ≡ wanted.command_of name.now }
+{
+    if is_seven(name, *b"zpopmin") {
+        Command::Zpopmin
+    } else if is_seven(name, *b"zincrby") {
+        Command::Zincrby
+    } else {
+        Command::Other
+    }
+}
+
+/// The command of this name of eight bytes.
+fn of_eight(name: &[u8]) -> Command
+    requires { length name.now ≡ 8 }
+    ensures { result ≡ wanted.command_of name.now }
+{
+    if is_eight(name, *b"zpopnear") {
+        Command::Zpopnear
+    } else if is_eight(name, *b"zrevrank") {
+        Command::Zrevrank
+    } else {
+        Command::Other
+    }
+}
+
+/// The bit in which a small letter differs from its great one, in each of eight bytes.
+const SMALL: u64 = 0x2020_2020_2020_2020;
+
+/// Whether eight bytes are these, once that bit is set in each: they are compared at once.
+#[inline(always)]
+fn are_spelled(word: &[u8; 8], text: &[u8; 8]) -> bool
+    ensures { IsTrue result ↔ (map wanted.small word.now ≡ text.now) }
+{
+    u64::from_le_bytes(*word) | SMALL == u64::from_le_bytes(*text)
+}
+
+/// Whether a name is this text of three small letters, in any ASCII case.
+#[inline(always)]
+fn is_three(name: &[u8], text: [u8; 3]) -> bool
+    requires { wanted.are_small text ≡ true }
+    ensures { result ≡ wanted.is name.now text }
+{
+    let [p, q, r] = text;
+    match name {
+        [a, b, c] => are_spelled(
+            &[*a, *b, *c, 0, 0, 0, 0, 0],
+            &[p, q, r, b' ', b' ', b' ', b' ', b' '],
+        ),
+        _ => false,
+    }
+}
+
+/// Whether a name is this text of four small letters, in any ASCII case.
+#[inline(always)]
+fn is_four(name: &[u8], text: [u8; 4]) -> bool
+    requires { wanted.are_small text ≡ true }
+    ensures { result ≡ wanted.is name.now text }
+{
+    let [p, q, r, s] = text;
+    match name {
+        [a, b, c, d] => are_spelled(
+            &[*a, *b, *c, *d, 0, 0, 0, 0],
+            &[p, q, r, s, b' ', b' ', b' ', b' '],
+        ),
+        _ => false,
+    }
+}
+
+/// Whether a name is this text of five small letters, in any ASCII case.
+#[inline(always)]
+fn is_five(name: &[u8], text: [u8; 5]) -> bool
+    requires { wanted.are_small text ≡ true }
+    ensures { result ≡ wanted.is name.now text }
+{
+    let [p, q, r, s, t] = text;
+    match name {
+        [a, b, c, d, e] => are_spelled(
+            &[*a, *b, *c, *d, *e, 0, 0, 0],
+            &[p, q, r, s, t, b' ', b' ', b' '],
+        ),
+        _ => false,
+    }
+}
+
+/// Whether a name is this text of six small letters, in any ASCII case.
+#[inline(always)]
+fn is_six(name: &[u8], text: [u8; 6]) -> bool
+    requires { wanted.are_small text ≡ true }
+    ensures { result ≡ wanted.is name.now text }
+{
+    let [p, q, r, s, t, u] = text;
+    match name {
+        [a, b, c, d, e, f] => are_spelled(
+            &[*a, *b, *c, *d, *e, *f, 0, 0],
+            &[p, q, r, s, t, u, b' ', b' '],
+        ),
+        _ => false,
+    }
+}
+
+/// Whether a name is this text of seven small letters, in any ASCII case.
+#[inline(always)]
+fn is_seven(name: &[u8], text: [u8; 7]) -> bool
+    requires { wanted.are_small text ≡ true }
+    ensures { result ≡ wanted.is name.now text }
+{
+    let [p, q, r, s, t, u, v] = text;
+    match name {
+        [a, b, c, d, e, f, g] => are_spelled(
+            &[*a, *b, *c, *d, *e, *f, *g, 0],
+            &[p, q, r, s, t, u, v, b' '],
+        ),
+        _ => false,
+    }
+}
+
+/// Whether a name is this text of eight small letters, in any ASCII case.
+#[inline(always)]
+fn is_eight(name: &[u8], text: [u8; 8]) -> bool
+    requires { wanted.are_small text ≡ true }
+    ensures { result ≡ wanted.is name.now text }
+{
+    let [p, q, r, s, t, u, v, w] = text;
+    match name {
+        [a, b, c, d, e, f, g, h] => are_spelled(
+            &[*a, *b, *c, *d, *e, *f, *g, *h],
+            &[p, q, r, s, t, u, v, w],
+        ),
+        _ => false,
+    }
 }
