@@ -102,7 +102,7 @@ fn room_is_ahead_and_what_is_read_stays(rt: HostRuntime) -> Result<(), Fail> {
     fs::create_dir(&rt, folder)?;
     let rows = [
         ("cone r ctwo R", "", 1 << 18),
-        ("R b nthree f r nfour R p cfive", "one,two,", 1 << 22),
+        ("R b nthree f r nfour R p cfive", "one,two,", 1 << 20),
         ("R r b", "three,four,five,", 0),
         ("", "three,four,five,", 0),
     ];

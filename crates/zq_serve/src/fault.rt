@@ -4,7 +4,7 @@ ghost use Rattle.std.specs.Prelude.{◌≡◌, ◌≢◌};
 
 use std::alloc::AllocError;
 use std::fmt;
-use std::io::ErrorKind;
+use std::io::{self, ErrorKind};
 use std::net::SocketAddr;
 
 /// Why the sites were not served, or not announced.
@@ -40,7 +40,9 @@ pub enum DataFault {
     Busy,
     /// What has the log's name is no regular file of this one name.
     NotAFile,
-    /// The system refused something.
+    /// The system refused something, by this number of its own.
+    Numbered(i32),
+    /// The system refused something, and gave no number.
     System(ErrorKind),
     /// The disk is full.
     Full,
@@ -85,11 +87,15 @@ impl fmt::Display for Cause {
 }
 
 impl fmt::Display for DataFault {
-    /// Why, on one line.
+    /// Why, on one line. What the system refused by a number has the system's words, and the number.
     fn fmt<W: fmt::Write>(&self, f: &mut fmt::Formatter<W>) -> fmt::Result {
         match self {
             DataFault::Busy => f.write_str("another process has the folder"),
             DataFault::NotAFile => f.write_str("the log is no regular file of one name"),
+            DataFault::Numbered(number) => {
+                let said = io::Error::from_raw_os_error(*number);
+                write!(f, "{said}")
+            }
             DataFault::System(kind) => write!(f, "{kind}"),
             DataFault::Full => f.write_str("the disk is full"),
             DataFault::Gone => f.write_str("the log is gone from its folder"),

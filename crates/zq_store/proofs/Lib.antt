@@ -1,1 +1,2 @@
+mod EscapedLengths
 mod Rereading

@@ -23,15 +23,21 @@ use zq_wal::{Behind, Disk};
 /// After how many seconds a switch begins again that was given up.
 const PAUSE: u64 = 1;
 
-/// After how many bytes the next file is synced, so that little is left to be when it takes the
-/// log's place: 4 MiB.
-const FLUSHED: u64 = 4_194_304;
+/// After how many bytes of copies the next file is synced, and room ahead is asked for again: a
+/// mebibyte. Each is done in a turn of its own, so that who waits for the disk waits for one of them
+/// at most.
+const FLUSHED: u64 = 1_048_576;
+
+/// The same where nobody who waits goes on before the switch is done: 4 MiB.
+const FLUSHED_BEHIND: u64 = 4_194_304;
 
 /// What came of a step.
 #[derive(Clone, Copy, PartialEq, Eq)]
 enum Step {
     /// The switch goes on.
     GoesOn,
+    /// The next file was synced: the switch goes on in the next turn.
+    Rests,
     /// Its heap has jumped: the next look begins it anew.
     Vain,
     /// There was no room: the step is done again once there is.
@@ -62,11 +68,43 @@ impl<D: Disk> Writer<D> {
         if !(is_vain || is_wanted) || self.lacks_room() || now_of(rt) < self.again_at {
             return Ok(());
         }
-        if !self.has_room_behind(rt, Behind::Next, AHEAD)? {
-            self.pause(rt);
+        if !self.has_spare(rt)? {
             return Ok(());
         }
         self.begin_switch(rt, alloc, logs)
+    }
+
+    /// Has zeros for the next file, a mebibyte more in each turn, and says whether there are so many
+    /// that it may begin. Where nobody who waits goes on before the switch is done, or one goes on,
+    /// all of them are asked for at once. No switch begins for a second where there is no room.
+    fn has_spare<R: Clock>(&mut self, rt: &R) -> Result<bool, KeeperFault>
+        ensures fault { IfErr result HasStopped }
+    {
+        let wanted = AHEAD.saturating_add(self.flushed_after());
+        let asked = if self.is_behind || self.switch.is_some() {
+            wanted
+        } else {
+            self.spare.saturating_add(FLUSHED).min(wanted)
+        };
+        self.spare = 0;
+        if !self.has_room_behind(rt, Behind::Next, asked)? {
+            self.pause(rt);
+            return Ok(false);
+        }
+        if asked < wanted {
+            self.spare = asked;
+            return Ok(false);
+        }
+        Ok(true)
+    }
+
+    /// After how many bytes of copies the next file is synced, and room ahead is asked for again.
+    fn flushed_after(&self) -> u64 {
+        if self.is_behind {
+            FLUSHED_BEHIND
+        } else {
+            FLUSHED
+        }
     }
 
     /// Whether a copy of this heap was begun.
@@ -108,9 +146,9 @@ impl<D: Disk> Writer<D> {
         self.again_at = now_of(rt).saturating_add(Duration::from_secs(PAUSE));
     }
 
-    /// Goes a step on with a switch, where one is going on: copies the next portion of a heap, or
-    /// where all are there has the next file take the log's place. It says whether another step may
-    /// follow at once.
+    /// Goes a step on with a switch, where one is going on: asks for room ahead, copies the next
+    /// portion of a heap, or where all are there has the next file take the log's place. It says
+    /// whether another step may follow at once.
     pub(crate) fn step<R: Wait + Clock, P: Called>(
         &mut self,
         rt: &R,
@@ -128,19 +166,55 @@ impl<D: Disk> Writer<D> {
         let Some(mut switch) = self.switch.take() else {
             return Ok(false);
         };
-        if switch.heap >= intake.logs.heaps() {
+        let is_copied = switch.heap >= intake.logs.heaps();
+        let mut rests = self.widen(rt, &mut switch)?;
+        if is_copied && !rests {
+            rests = self.settle(rt, &mut switch)?;
+        }
+        if rests {
+            self.switch = Some(switch);
+            return Ok(self.is_behind);
+        }
+        if is_copied {
             self.publish(rt, intake.alloc, intake.logs, switch)?;
             return Ok(false);
         }
         let step = self.copy(rt, intake, node, &mut switch)?;
         match step {
-            Step::GoesOn | Step::Vain | Step::Waits => self.switch = Some(switch),
+            Step::GoesOn | Step::Rests | Step::Vain | Step::Waits => self.switch = Some(switch),
             Step::GivenUp => {
                 let_go(rt, intake.logs, switch);
                 self.pause(rt);
             }
         }
         Ok(step == Step::GoesOn)
+    }
+
+    /// Asks for the room that is kept ahead in the next file, and for what the copies take until it is
+    /// asked for again, where they have taken that. It says whether it did.
+    fn widen<R: Clock>(&mut self, rt: &R, switch: &mut Switch) -> Result<bool, KeeperFault>
+        ensures fault { IfErr result HasStopped }
+    {
+        let (length, after) = (self.keeper.size().next, self.flushed_after());
+        if length.saturating_sub(switch.widened) < after {
+            return Ok(false);
+        }
+        let _ = self.has_room_behind(rt, Behind::Next, AHEAD.saturating_add(after))?;
+        switch.widened = length;
+        Ok(true)
+    }
+
+    /// Syncs the next file where that was not done since all copies are in it, so that little is left
+    /// to be when it takes the log's place. It says whether it did.
+    fn settle<R: Clock>(&mut self, rt: &R, switch: &mut Switch) -> Result<bool, KeeperFault>
+        ensures fault { IfErr result HasStopped }
+    {
+        if switch.is_settled || self.is_behind {
+            return Ok(false);
+        }
+        switch.is_settled = true;
+        self.flush(rt, switch)?;
+        Ok(true)
     }
 
     /// Has the next file take the log's place. From then on all is on disk that the heaps had.
@@ -233,40 +307,43 @@ impl<D: Disk> Writer<D> {
             go_on_after(fault)?;
             return Ok(Step::GivenUp);
         }
-        self.flush(rt, switch)?;
         if is_last {
-            return self.seal(alloc, switch);
+            if let Err(fault) = self.keeper.seal(alloc, switch.heap) {
+                go_on_after(fault)?;
+                return Ok(Step::GivenUp);
+            }
+            switch.go_on();
         }
-        Ok(Step::GoesOn)
+        self.flush_much(rt, switch)
     }
 
     /// Syncs the next file, where much of it is not synced yet.
-    fn flush<R: Clock>(&mut self, rt: &R, switch: &mut Switch) -> Result<(), KeeperFault>
+    fn flush_much<R: Clock>(&mut self, rt: &R, switch: &mut Switch) -> Result<Step, KeeperFault>
         ensures fault { IfErr result HasStopped }
     {
         let length = self.keeper.size().next;
-        if length.saturating_sub(switch.flushed) < FLUSHED {
-            return Ok(());
+        if length.saturating_sub(switch.flushed) < self.flushed_after() {
+            return Ok(Step::GoesOn);
         }
-        let began = now_of(rt);
+        self.flush(rt, switch)?;
+        if self.is_behind {
+            Ok(Step::GoesOn)
+        } else {
+            Ok(Step::Rests)
+        }
+    }
+
+    /// Syncs the next file.
+    fn flush<R: Clock>(&mut self, rt: &R, switch: &mut Switch) -> Result<(), KeeperFault>
+        ensures fault { IfErr result HasStopped }
+    {
+        let (length, began) = (self.keeper.size().next, now_of(rt));
         match self.keeper.flush() {
             Ok(()) => self.note_sync(rt, began),
             Err(fault) => go_on_after(fault)?,
         }
         switch.flushed = length;
         Ok(())
-    }
-
-    /// All pieces of the switch's heap are there: the next one comes.
-    fn seal(&mut self, alloc: Global, switch: &mut Switch) -> Result<Step, KeeperFault>
-        ensures fault { IfErr result HasStopped }
-    {
-        if let Err(fault) = self.keeper.seal(alloc, switch.heap) {
-            go_on_after(fault)?;
-            return Ok(Step::GivenUp);
-        }
-        switch.go_on();
-        Ok(Step::GoesOn)
     }
 }
 

@@ -1,7 +1,9 @@
 //! Why a site's log on disk is not taken, or failed.
 
-ghost use Rattle.std.specs.Prelude.{◌≡◌};
+ghost use Rattle.std.specs.Prelude.{IfNone, IfSome, ◌≡◌};
+ghost use Rattle.std.specs.IoError.{error_kind, raw_os_error};
 
+use std::io;
 use zq_entries::EntryFault;
 use zq_keeper::KeeperFault;
 use zq_recovery::Refusal;
@@ -20,7 +22,7 @@ pub(crate) fn of_open(fault: OpenFault) -> ServeFault {
     of_data(match fault {
         OpenFault::Busy => DataFault::Busy,
         OpenFault::NotAFile => DataFault::NotAFile,
-        OpenFault::Io(error) => DataFault::System(error.kind()),
+        OpenFault::Io(error) => of_system(error),
     })
 }
 
@@ -29,9 +31,21 @@ pub(crate) fn of_files(fault: Option<FileFault>) -> ServeFault {
     of_data(match fault {
         Some(FileFault::Full) => DataFault::Full,
         Some(FileFault::Gone) => DataFault::Gone,
-        Some(FileFault::Io(error)) => DataFault::System(error.kind()),
+        Some(FileFault::Io(error)) => of_system(error),
         Some(FileFault::NotBegun) | None => DataFault::Unfit,
     })
+}
+
+/// What the system said: its number, where it gave one.
+fn of_system(error: io::Error) -> DataFault
+    ensures numbered { IfSome (raw_os_error error) (λ number.
+        result ≡ DataFault.Numbered number) }
+    ensures kind { IfNone (raw_os_error error) (result ≡ DataFault.System (error_kind error)) }
+{
+    match error.raw_os_error() {
+        Some(number) => DataFault::Numbered(number),
+        None => DataFault::System(error.kind()),
+    }
 }
 
 /// Why the records of a log were refused.

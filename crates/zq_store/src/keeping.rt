@@ -74,7 +74,7 @@ impl<D: Disk> Writer<D> {
                 beside.fill(self.is_full);
             }
             let _ = self.turn(rt, intake, commits, node)?;
-            if self.switch.is_some() && !self.lacks_room() {
+            if self.goes_on_at_once() {
                 mailbox.tick(rt);
             }
             if let Some(switched) = self.switched.take() {
@@ -84,5 +84,11 @@ impl<D: Disk> Writer<D> {
             beside.between(node);
         }
         Ok(())
+    }
+
+    /// Whether the next turn follows at once: a switch goes on or is about to begin, or the last turn
+    /// took not all that was made.
+    fn goes_on_at_once(&self) -> bool {
+        self.is_short || (self.switch.is_some() || self.spare > 0) && !self.lacks_room()
     }
 }

@@ -20,6 +20,7 @@
 #![tactic(auto)]
 
 mod copying;
+mod escapes;
 mod fault;
 mod folder;
 mod intake;

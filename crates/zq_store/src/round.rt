@@ -1,5 +1,10 @@
 //! What is written at once.
 
+ghost use Rattle.std.specs.Prelude.{IfOk, length, ◌≡◌};
+ghost use Rattle.zq_entries.specs.Together.{batch_of};
+ghost use Rattle.zq_wal.specs.Format.{escaped};
+
+use crate::escapes::escapes;
 use crate::room::AHEAD;
 use std::alloc::{AllocError, Global};
 use zq_dots::Op;
@@ -10,8 +15,8 @@ use zq_entries::Batch;
 const AROUND_OP: u64 = 608;
 
 /// How many bytes a batch has at most in an entry beside those of its operations, and an entry beside
-/// those of its batches.
-const AROUND: u64 = 64;
+/// those of its batches, each of them escaped.
+const AROUND: u64 = 128;
 
 /// A batch of each heap of which something was drained, but for those that are ahead of the log,
 /// whose batches are apart: they go into the next file alone.
@@ -45,24 +50,30 @@ impl Round {
         }
     }
 
-    /// How many bytes it takes in a file at most, each of them escaped. Where the operations alone
-    /// may be too many for the room that is kept ahead, the batches' bytes are counted.
+    /// How many bytes it takes in a file at most. Where that may be more than the room that is kept
+    /// ahead, by the lengths of the names and with each byte escaped, the bytes are counted.
     pub(crate) fn most_bytes(&self, alloc: Global) -> u64 {
-        let quick = twice(quick_most(&self.batches).saturating_add(quick_most(&self.ahead)));
-        if quick <= AHEAD {
-            return quick;
+        let quick = quick_most(&self.batches).saturating_add(quick_most(&self.ahead));
+        if quick.saturating_add(AROUND) <= AHEAD {
+            return quick.saturating_add(AROUND);
         }
         let counted = most_of(alloc, &self.batches).saturating_add(most_of(alloc, &self.ahead));
-        twice(counted)
+        counted.saturating_add(AROUND)
+    }
+
+    /// The same of the batch that is the next one where batches are written one by one, which is the
+    /// last: first of those for the log, then of those that are ahead of it. Nothing where there is
+    /// none.
+    pub(crate) fn most_next(&self, alloc: Global) -> Option<u64> {
+        let batch = match self.batches.last() {
+            Some(batch) => batch,
+            None => self.ahead.last()?,
+        };
+        Some(most_of_one(alloc, batch).saturating_add(AROUND))
     }
 }
 
-/// So many bytes, each of them escaped, and an entry around them.
-fn twice(bytes: u64) -> u64 {
-    bytes.saturating_add(AROUND).saturating_mul(2)
-}
-
-/// How many bytes these batches have at most, by the lengths of their names.
+/// How many bytes these batches have at most in a file, by the lengths of their names.
 fn quick_most(batches: &[Batch]) -> u64 {
     let mut most = 0u64;
     for batch in batches {
@@ -71,29 +82,39 @@ fn quick_most(batches: &[Batch]) -> u64 {
     most
 }
 
-/// How many bytes a batch of these operations has at most, by the lengths of their names.
+/// How many bytes a batch of these operations has at most in a file, by the lengths of their names.
 fn quick_most_of(ops: &[Op]) -> u64 {
-    let mut most = AROUND;
+    let mut most = 0u64;
     for op in ops {
         let names = (op.key().len() as u64).saturating_add(op.member().len() as u64);
         most = most.saturating_add(names).saturating_add(AROUND_OP);
     }
-    most
+    most.saturating_mul(2).saturating_add(AROUND)
 }
 
-/// How many bytes these batches have.
+/// How many bytes these batches have at most in a file.
 fn most_of(alloc: Global, batches: &[Batch]) -> u64 {
     let mut most = 0u64;
     for batch in batches {
-        most = most.saturating_add(bytes_of(alloc, batch));
+        most = most.saturating_add(most_of_one(alloc, batch));
     }
     most
 }
 
-/// How many bytes a batch has; where there is no memory to count them, how many at most.
-fn bytes_of(alloc: Global, batch: &Batch) -> u64 {
-    match batch.write(alloc) {
-        Ok(bytes) => (bytes.len() as u64).saturating_add(AROUND),
+/// How many bytes a batch has at most in a file: they are counted, and where there is no memory for
+/// that estimated by the lengths of the names.
+fn most_of_one(alloc: Global, batch: &Batch) -> u64 {
+    match counted(alloc, batch) {
+        Ok(bytes) => bytes.saturating_add(AROUND),
         Err(AllocError) => quick_most_of(batch.ops()),
     }
+}
+
+/// How many bytes the operations of a batch have in a file.
+fn counted(alloc: Global, batch: &Batch) -> Result<u64, AllocError>
+    ensures { IfOk result (λ n. n ≡ length (escaped (batch_of batch.now))) }
+{
+    let bytes = batch.write(alloc)?;
+    let more = escapes(&bytes);
+    Ok((bytes.len() as u64).saturating_add(more as u64))
 }

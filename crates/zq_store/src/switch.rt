@@ -25,8 +25,11 @@ pub(crate) struct Switch {
     /// Of each heap whose copy was begun whether it had jumped until then: the log has it not as
     /// operations.
     pub(crate) jumped: [bool; MOST_HEAPS],
-    /// How long the next file was when it was synced last.
+    /// How long the next file was when it was synced last, and when room ahead was asked for last.
     pub(crate) flushed: u64,
+    pub(crate) widened: u64,
+    /// Whether it was synced since all copies are in it.
+    pub(crate) is_settled: bool,
 }
 
 impl Switch {
@@ -38,6 +41,8 @@ impl Switch {
             sending: Sending::anew(LIFE),
             jumped: [false; MOST_HEAPS],
             flushed: 0,
+            widened: 0,
+            is_settled: false,
         }
     }
 

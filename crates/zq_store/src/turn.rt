@@ -5,6 +5,7 @@ ghost use Rattle.zq_node.specs.Node.{IsNode, IsSameHome};
 ghost use Rattle.zq_store.specs.Faults.{HasStopped};
 
 use crate::intake::{Called, Intake};
+use crate::room::AHEAD;
 use crate::writer::{Writer, now_of};
 use std::sync::Wait;
 use std::time::{Clock, Duration};
@@ -37,15 +38,22 @@ impl<D: Disk> Writer<D> {
         let _ = self.look_for_room(rt, intake.alloc)?;
         let mut is_done = self.turn(rt, intake, commits, node)?;
         for _ in 0..u64::MAX {
-            if is_done || !self.is_behind || self.switch.is_none() || self.lacks_room() {
+            if is_done || !self.has_to_go_on() {
                 break;
             }
+            let _ = self.look_for_room(rt, intake.alloc)?;
             is_done = self.turn(rt, intake, commits, node)?;
         }
         if !is_done && self.lacks_room() {
             return Err(KeeperFault::Stopped);
         }
         Ok(())
+    }
+
+    /// Whether another turn has to follow as the site ends: the last one took not all that was made,
+    /// or who waits can go on only behind a switch that goes on.
+    fn has_to_go_on(&self) -> bool {
+        self.is_short || self.is_behind && self.switch.is_some() && !self.lacks_room()
     }
 
     /// A turn: what was made by now goes onto the disk, who waited for that goes on, and a switch of
@@ -93,7 +101,8 @@ impl<D: Disk> Writer<D> {
     /// Takes all that was made into the logs and onto the disk, round by round. While a round leaves
     /// too much the gate before the site's calls is shut. It says whether all was taken: what is
     /// refused memory is taken the next time, and where there was no room for what was taken before
-    /// nothing more is taken until there is.
+    /// nothing more is taken until there is. As soon as the disk has not the room that is kept ahead
+    /// it ends too, so that clients are told before more comes.
     fn drain_and_write<R: Clock + Wait, P: Called>(
         &mut self,
         rt: &R,
@@ -106,18 +115,53 @@ impl<D: Disk> Writer<D> {
         ensures fault { IfErr result HasStopped }
     {
         let mut is_whole = false;
+        self.is_short = false;
         for _round in 0..u64::MAX {
-            let Some(left) = self.take_round(rt, intake, node)? else {
+            let Some(left) = self.take_some(rt, intake, node)? else {
                 break;
             };
             if left == 0 {
                 is_whole = true;
                 break;
             }
-            intake.hold_calls(rt, left);
         }
         intake.gate.set(rt, false);
         Ok(is_whole)
+    }
+
+    /// Takes a round, and holds calls back where it leaves much. It says how many operations are left;
+    /// and nothing where nothing more is taken, also since the disk has less than the room that is
+    /// kept ahead, which was not seen before.
+    fn take_some<R: Clock + Wait, P: Called>(
+        &mut self,
+        rt: &R,
+        intake: &Intake<'_, P>,
+        node: &mut Node<'_>,
+    ) -> Result<Option<u64>, KeeperFault>
+        requires { IsNode node.old }
+        ensures node { IsNode node.new }
+        ensures home { IsSameHome node.old node.new }
+        ensures fault { IfErr result HasStopped }
+    {
+        let Some(left) = self.take_round(rt, intake, node)? else {
+            return Ok(None);
+        };
+        if left == 0 {
+            return Ok(Some(left));
+        }
+        intake.hold_calls(rt, left);
+        if self.runs_short(rt)? {
+            self.is_short = true;
+            return Ok(None);
+        }
+        Ok(Some(left))
+    }
+
+    /// Whether the disk has less than the room that is kept ahead, and that was not seen before.
+    fn runs_short<R: Clock>(&mut self, rt: &R) -> Result<bool, KeeperFault>
+        ensures fault { IfErr result HasStopped }
+    {
+        Ok(!self.is_full && !self.has_room(rt, AHEAD)?)
     }
 
     /// Takes a piece of what each heap has made into its log, and writes it. It says how many

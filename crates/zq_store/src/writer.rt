@@ -30,6 +30,9 @@ pub struct Writer<D: Disk> {
     pub(crate) is_behind: bool,
     /// Whether the disk is full: it has not the room that is kept ahead.
     pub(crate) is_full: bool,
+    /// Whether the last turn ended before all was taken, since the disk has not the room that is kept
+    /// ahead: the next turn follows at once.
+    pub(crate) is_short: bool,
     /// What room was refused lately to the log, and to the next file.
     pub(crate) refused: Refused,
     pub(crate) refused_next: Refused,
@@ -43,6 +46,8 @@ pub struct Writer<D: Disk> {
     pub(crate) crowd: u64,
     /// For how long it is waited for so many before a round: a part of what the last one took.
     pub(crate) patience: Duration,
+    /// How many zeros there are for the next file, while it is not begun yet.
+    pub(crate) spare: u64,
     /// When a switch may begin again after one that was given up.
     pub(crate) again_at: Duration,
     /// When a round was written last.
@@ -61,6 +66,7 @@ impl<D: Disk> Writer<D> {
             switch: None,
             is_behind: false,
             is_full: false,
+            is_short: false,
             refused: Refused::new(),
             refused_next: Refused::new(),
             waiting: None,
@@ -68,6 +74,7 @@ impl<D: Disk> Writer<D> {
             switched: None,
             crowd: 0,
             patience: Duration::from_millis(0),
+            spare: 0,
             again_at: Duration::from_millis(0),
             wrote_at: Duration::from_millis(0),
         }

@@ -6,6 +6,7 @@ ghost use Rattle.zq_store.specs.Faults.{HasStopped, goes_on_after};
 use crate::round::Round;
 use crate::writer::{Writer, now_of};
 use std::alloc::Global;
+use std::slice::from_ref;
 use std::sync::Wait;
 use std::time::{Clock, Duration};
 use zq_dots::Vector;
@@ -46,7 +47,8 @@ impl<D: Disk> Writer<D> {
         Ok(true)
     }
 
-    /// Writes a round, and says whether there was room for it: it waits where there was none.
+    /// Writes a round, at once where there is room for it, and else batch by batch. It says whether
+    /// there was room for all of it: what had none waits.
     fn write_round<R: Wait + Clock>(
         &mut self,
         rt: &R,
@@ -57,12 +59,40 @@ impl<D: Disk> Writer<D> {
         ensures fault { IfErr result HasStopped }
     {
         if !self.has_room(rt, round.most_bytes(alloc))? {
-            self.waiting = Some(round);
-            return Ok(false);
+            return self.write_apart(rt, alloc, logs, round);
         }
         self.round(rt, alloc, logs, &round.batches)?;
         self.round_next(rt, alloc, logs, &round.ahead)?;
         self.wrote_at = now_of(rt);
+        Ok(true)
+    }
+
+    /// Writes the batches of a round one by one, as long as there is room for the next one, and says
+    /// whether there was for all of them: those for which there was none wait.
+    fn write_apart<R: Wait + Clock>(
+        &mut self,
+        rt: &R,
+        alloc: Global,
+        logs: &Logs,
+        mut round: Round,
+    ) -> Result<bool, KeeperFault>
+        ensures fault { IfErr result HasStopped }
+    {
+        for _ in 0..u64::MAX {
+            let Some(bytes) = round.most_next(alloc) else {
+                break;
+            };
+            if !self.has_room(rt, bytes)? {
+                self.waiting = Some(round);
+                return Ok(false);
+            }
+            if let Some(batch) = round.batches.pop() {
+                self.round(rt, alloc, logs, from_ref(&batch))?;
+            } else if let Some(batch) = round.ahead.pop() {
+                self.round_next(rt, alloc, logs, from_ref(&batch))?;
+            }
+            self.wrote_at = now_of(rt);
+        }
         Ok(true)
     }
 

@@ -4,15 +4,17 @@ ghost use Rattle.std.specs.Prelude.{◌≡◌, ◌≤◌, IfErr, IfOk, IfSome, N
 
 use crate::folder::{check_name, drop_pages, lock_folder, make, open_log, remove};
 use crate::grown::{Grown, unless_full};
+use crate::past::Past;
 use crate::{FileFault, OpenFault};
 use std::fs;
 use std::fs::File;
-use std::io::Read;
+use std::io::{self, ErrorKind, Read};
+use std::mem::replace;
 use std::rt::Files;
 use zq_wal::Behind;
 
-/// How many pieces of zeros are written ahead at once in the next file: 4 MiB.
-const NEXT_AHEAD: u64 = 64;
+/// How many pieces of zeros are written ahead at once in the next file: a mebibyte.
+const NEXT_AHEAD: u64 = 16;
 
 /// The log's file, the next file and their folder.
 #[derive(Drop)]
@@ -24,6 +26,8 @@ pub struct LogFiles<R: Files<File = File> + Drop> {
     log: Grown,
     /// The next file, or zeros that it is to be written over.
     next: Option<Grown>,
+    /// The file that was the log before, as far as it is not freed yet.
+    past: Option<Past>,
     /// Whether the next file was begun.
     is_begun: bool,
     /// How many pieces of zeros are written ahead at once in the log.
@@ -57,6 +61,7 @@ impl<R: Files<File = File> + Drop> LogFiles<R> {
             next_path,
             log: Grown::new(log, 0),
             next: None,
+            past: None,
             is_begun: false,
             ahead,
             moved: false,
@@ -64,7 +69,7 @@ impl<R: Files<File = File> + Drop> LogFiles<R> {
         })
     }
 
-    /// Reads the log's next bytes; none at its end.
+    /// Reads the log's next bytes; none at its end. A read that a signal interrupts is made again.
     pub(crate) fn read(&mut self, piece: &mut [u8]) -> Result<usize, FileFault>
         ensures within { IfOk result (λ n. n ≤ length piece.new) }
         ensures over { IfSome self.old.fault
@@ -73,7 +78,7 @@ impl<R: Files<File = File> + Drop> LogFiles<R> {
         if let Some(fault) = self.fault {
             return Err(fault);
         }
-        match self.log.file.read(piece) {
+        match read_uninterrupted(&mut self.log.file, piece) {
             Ok(n) => Ok(n),
             Err(error) => Err(self.fail(FileFault::from(error))),
         }
@@ -208,8 +213,36 @@ impl<R: Files<File = File> + Drop> LogFiles<R> {
         }
     }
 
-    /// Has zeros ahead, and says whether they are there.
+    /// Has zeros ahead, and says whether they are there. A piece of what was the log before is freed
+    /// first, and all of it where there is no room.
     fn widen(&mut self, behind: Behind, bytes: u64) -> Result<bool, FileFault>
+        ensures { self.new.fault ≡ self.old.fault }
+    {
+        self.free_piece()?;
+        let has_room = self.widen_one(behind, bytes)?;
+        if has_room || self.past.is_none() {
+            return Ok(has_room);
+        }
+        self.past = None;
+        self.widen_one(behind, bytes)
+    }
+
+    /// Frees a piece of the file that was the log before.
+    fn free_piece(&mut self) -> Result<(), FileFault>
+        ensures { self.new.fault ≡ self.old.fault }
+    {
+        let is_left = match &mut self.past {
+            Some(past) => past.free()?,
+            None => return Ok(()),
+        };
+        if !is_left {
+            self.past = None;
+        }
+        Ok(())
+    }
+
+    /// Has zeros ahead in a file, and says whether they are there.
+    fn widen_one(&mut self, behind: Behind, bytes: u64) -> Result<bool, FileFault>
         ensures { self.new.fault ≡ self.old.fault }
     {
         match behind {
@@ -320,9 +353,23 @@ impl<R: Files<File = File> + Drop> LogFiles<R> {
             return Err(FileFault::NotBegun);
         };
         fs::rename(&self.rt, self.next_path.as_str(), self.log_path.as_str())?;
-        self.log = next;
+        let past = replace(&mut self.log, next);
+        self.past = Some(past.into_past());
         self.is_begun = false;
         self.moved = true;
         Ok(())
     }
+}
+
+/// Reads a file's next bytes; none at its end. Where a signal interrupts the call it is made again.
+fn read_uninterrupted(file: &mut File, piece: &mut [u8]) -> io::Result<usize>
+    ensures { IfOk result (λ n. n ≤ length piece.new) }
+{
+    for _ in 0..u64::MAX {
+        match file.read(piece) {
+            Err(error) if error.kind() == ErrorKind::Interrupted => {}
+            done => return done,
+        }
+    }
+    Err(ErrorKind::Interrupted.into())
 }

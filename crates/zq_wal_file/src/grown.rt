@@ -3,6 +3,7 @@
 ghost use Rattle.std.specs.Prelude.{◌≡◌, ◌≤◌, IfOk};
 
 use crate::FileFault;
+use crate::past::Past;
 use std::fs::File;
 use std::io;
 use std::os::unix::fs::FileExt;
@@ -31,6 +32,11 @@ impl Grown {
             room: end,
             is_written: false,
         }
+    }
+
+    /// The file, as one that was the log before.
+    pub(crate) fn into_past(self) -> Past {
+        Past::new(self.file, self.room)
     }
 
     /// Writes these bytes behind the others.

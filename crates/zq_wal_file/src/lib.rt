@@ -36,6 +36,7 @@ mod fault;
 mod files;
 mod folder;
 mod grown;
+mod past;
 mod record;
 
 pub use disk::{FileDisk, FoundLog, open};
