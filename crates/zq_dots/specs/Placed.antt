@@ -1,6 +1,6 @@
 -- An operation of a site with some number of heaps.
 
-use Rattle.std.specs.Prelude.{length, slice_index, ℕ, ◌+◌, ◌<◌, ◌≡◌, ◌≤◌}
+use Rattle.std.specs.Prelude.{List, length, slice_index, ℕ, ◌+◌, ◌<◌, ◌≡◌, ◌≤◌}
 pub use Rattle.zq_model.specs.Operation.{LONGEST}
 use Rattle.zq_model.specs.Operation.{IsAct, Operation}
 use Rattle.zq_model.specs.Sets.{IsCounters, IsHeaps, LAST, SITES}
@@ -21,3 +21,18 @@ pub record IsRanged (p : Placed) : Type 0 where
   pub key : length p.operation.key ≤ LONGEST
   pub member : length p.operation.member ≤ LONGEST
   pub act : IsAct p.operation.act
+
+-- the same operation of another key and another member
+abbrev pub renamed : Placed → List ℕ → List ℕ → Placed
+renamed p key member = record {
+  heaps = p.heaps;
+  operation = record {
+    heap = p.operation.heap;
+    site = p.operation.site;
+    n = p.operation.n;
+    seen = p.operation.seen;
+    key = key;
+    member = member;
+    act = p.operation.act;
+  };
+}

@@ -1,16 +1,17 @@
 //! An operation of a site, and its parts.
 
-ghost use Rattle.std.specs.Prelude.{◌≡◌, ◌≤◌, ◌<◌, ◌+◌, IfOk, length, slice_index};
+ghost use Rattle.std.specs.Prelude.{◌≡◌, ◌≤◌, ◌<◌, ◌+◌, IfOk, [], length, slice_index};
 ghost use Rattle.zq_model.specs.Operation.{IsAct};
 ghost use Rattle.zq_model.specs.Sets.{IsCounters, IsHeaps, LAST};
 ghost use Rattle.zq_dots.specs.Act.{act_of};
-ghost use Rattle.zq_dots.specs.Placed.{IsRanged, LONGEST};
+ghost use Rattle.zq_dots.specs.Placed.{IsRanged, LONGEST, renamed};
 
 use crate::act::Act;
 use crate::dot::Dot;
 use crate::vector::Vector;
 use std::alloc::{AllocError, Global};
 use std::marker::Model;
+use std::mem::swap;
 
 /// The most bytes of a key and of a member.
 pub const LONGEST: usize = 1_048_576;
@@ -129,6 +130,33 @@ impl Op {
         ensures member { result.1.items ≡ self.operation.member }
     {
         (self.key, self.member)
+    }
+
+    /// The same operation of an empty key and an empty member. It allocates nothing.
+    pub fn bare(&self, alloc: Global) -> Op
+        ensures { result ≡ renamed self.now [] [] }
+    {
+        Op {
+            heap: self.heap,
+            heaps: self.heaps,
+            dot: self.dot,
+            seen: self.seen,
+            key: Vec::new(alloc),
+            member: Vec::new(alloc),
+            act: self.act,
+        }
+    }
+
+    /// Gives this operation the key and the member of another one, and the other one this one's. It
+    /// copies nothing.
+    pub fn swap_names(&mut self, other: &mut Op)
+        ensures own { self.new
+            ≡ renamed self.old other.old.operation.key other.old.operation.member }
+        ensures other { other.new
+            ≡ renamed other.old self.old.operation.key self.old.operation.member }
+    {
+        swap(&mut self.key, &mut other.key);
+        swap(&mut self.member, &mut other.member);
     }
 
     /// What it does to its member.

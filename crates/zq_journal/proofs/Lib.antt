@@ -1,6 +1,7 @@
 pub mod Missing
 pub mod Sinces
 pub mod Entered
+pub mod Pushed
 pub mod BoundedTails
 pub mod CutOff
 pub mod Replays

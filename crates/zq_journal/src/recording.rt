@@ -2,8 +2,8 @@
 ghost use Rattle.std.specs.Prelude.{◌≡◌, ◌≢◌, ◌≤◌, ◌<◌, ◌+◌, ◌↔◌, ◌⊎◌, ◌++◌, ◌∷◌, [], IfOk, IsErrOf, List, OnErr, OnOk, is_some, length, slice_index, true, ℕ};
 ghost use Rattle.std.specs.FinMap.{get};
 ghost use Rattle.zq_dots.specs.Act.{act_of};
-ghost use Rattle.zq_dots.specs.Placed.{IsRanged, LONGEST};
-ghost use Rattle.zq_model.specs.Books.{Book as Books, Made, Step, is_change_over, recorded};
+ghost use Rattle.zq_dots.specs.Placed.{IsRanged, LONGEST, renamed};
+ghost use Rattle.zq_model.specs.Books.{Book as Books, Made, Step, Took, is_change_over, recorded};
 ghost use Rattle.zq_model.specs.Reach.{IsWorked};
 ghost use Rattle.zq_journal.specs.Books.{LAST_STAMP, book_taken, state_of, step_of, steps_taken};
 ghost use Rattle.zq_journal.specs.Records.{IsRecordable, change_of, placed_in, whole};
@@ -158,6 +158,53 @@ impl Book {
         Ok(taken)
     }
 
+    /// Takes an operation of another site as [`Book::take`] does, but copies nothing: where it is
+    /// New its key and its member go into the record, and both are empty in the operation that is
+    /// left. What is Known or Early is left as it was.
+    ///
+    /// `WrongHeap` where the heap, the number of heaps or the member's hash is another. A New one
+    /// is refused with `Worn` where the book's count is at its last value, else with `NoMemory`
+    /// where a growth was refused; after each nothing has changed, and the operation is as it was.
+    #[tactic(auto, unfolding(crate::specs::Books::LAST_STAMP))]
+    pub fn take_from(&mut self, alloc: Global, stamp: u64, op: &mut Op) -> Result<Taken, TakeFault>
+        requires stamp { self.old.stamp ≤ stamp }
+        requires bounded { stamp ≤ LAST_STAMP }
+        ensures judged { IfOk result
+            (λ taken. answer_of taken ≡ sets.taken_of self.old.state.vector op.old.operation) }
+        ensures wrong_heap { IsErrOf result TakeFault.WrongHeap
+            ↔ (IsOfHeap (state_of self.old) op.old → ⊥) }
+        ensures placed { OnOk result (IsOfHeap (state_of self.old) op.old) }
+        ensures worn { IsErrOf result TakeFault.Worn
+            ↔ (IsOfHeap (state_of self.old) op.old
+            × (sets.taken_of self.old.state.vector op.old.operation ≡ sets.New)
+            × (self.old.count ≡ LAST_STAMP)) }
+        ensures no_memory { IsErrOf result TakeFault.NoMemory →
+            sets.taken_of self.old.state.vector op.old.operation ≡ sets.New }
+        ensures book { OnOk result (self.new ≡ book_taken self.old stamp op.old.operation) }
+        ensures worked { OnOk result ((a : Books) (steps : List Step) →
+            IsWorked self.old a stamp steps →
+            IsWorked self.new a stamp (steps ++ steps_taken self.old stamp op.old.operation)) }
+        ensures handed_over { OnOk result
+            (sets.taken_of self.old.state.vector op.old.operation ≡ sets.New →
+            op.new ≡ renamed op.old [] []) }
+        ensures left { OnOk result
+            (sets.taken_of self.old.state.vector op.old.operation ≢ sets.New → op.new ≡ op.old) }
+        ensures refused { OnErr result (self.new ≡ self.old) }
+        ensures kept { OnErr result (op.new ≡ op.old) }
+    {
+        let Ok(taken) = self.shard.judge(op) else {
+            return Err(TakeFault::WrongHeap);
+        };
+        if taken != Taken::New {
+            return Ok(taken);
+        }
+        if self.count == LAST_COUNT {
+            return Err(TakeFault::Worn);
+        }
+        self.enter_from(alloc, stamp, op)?;
+        Ok(taken)
+    }
+
     /// The dot of the next operation of a site, where a record of it can be counted.
     #[tactic(auto, unfolding(crate::specs::Books::LAST_STAMP))]
     fn next_here(&self, site: SiteNo) -> Result<Dot, MakeFault>
@@ -238,6 +285,46 @@ impl Book {
         self.stamp = at;
         self.count += 1;
         Ok(stood)
+    }
+
+    /// Takes an operation of this heap that is new to the state, with a record at this stamp to
+    /// which its key and its member go. Where memory is short nothing changes.
+    #[tactic(auto, unfolding(crate::specs::Books::LAST_STAMP))]
+    fn enter_from(&mut self, alloc: Global, at: u64, op: &mut Op) -> Result<(), AllocError>
+        requires stamp { self.old.stamp ≤ at }
+        requires bounded { at ≤ LAST_STAMP }
+        requires count { self.old.count < LAST_STAMP }
+        requires placed { IsOfHeap (state_of self.old) op.old }
+        requires new { sets.taken_of self.old.state.vector op.old.operation ≡ sets.New }
+        ensures recorded { OnOk result
+            (self.new ≡ recorded self.old at (Took op.old.operation)) }
+        ensures worked { OnOk result ((a : Books) (steps : List Step) →
+            IsWorked self.old a at steps →
+            IsWorked self.new a at (steps ++ step_of at (Took op.old.operation) ∷ [])) }
+        ensures handed_over { OnOk result (op.new ≡ renamed op.old [] []) }
+        ensures refused { OnErr result (self.new ≡ self.old) }
+        ensures kept { OnErr result (op.new ≡ op.old) }
+    {
+        // For the proof: a record of what is new keeps what a book keeps.
+        keeping();
+        // For the proof: it leaves the base as it was.
+        undoing();
+        // For the proof: it goes on with a call's work.
+        working();
+        let mut own = Box::new(alloc, op.bare(alloc))?;
+        self.tail.reserve(1)?;
+        let before = self.shard.put_in(alloc, op)?;
+        own.swap_names(op);
+        let bytes = (own.key().len() + own.member().len()) as u128;
+        self.tail.push_back_reserved(Record {
+            stamp: at,
+            what: Change::Took(own),
+            before,
+        });
+        self.bytes += bytes;
+        self.stamp = at;
+        self.count += 1;
+        Ok(())
     }
 }
 

@@ -295,6 +295,14 @@ heard_batch old mid h m ops answer same is below call =
       omega (arith, long, count),
     )
 
+-- and no more than those
+pub batch_within : (old mid : Node) (h m : ℕ) (ops : List Placed) (answer : TakenAll) → IsCall (IsTakenAll (pass_of mid).stamp (take m ops) answer) (pass_of old) (pass_of mid) (h ∷ []) → answer.taken ≤ length (take m ops)
+batch_within old mid h m ops answer call =
+    let so = (alone (IsTakenAll (pass_of mid).stamp (take m ops) answer) (pass_of old) (pass_of mid) h call).done in
+    let long : length (take m ops) ≡ length so.taken + length so.left = ap length so.split ∙ length-append so.taken so.left in
+    let count = so.number in
+    omega (arith, long, count)
+
 -- and then it was stopped
 pub settle_stopped : (ops : List Placed) (n : ℕ) (old mid new : Node) (why : NodeFault) → HasHeardSome ops (take n ops) old mid → WasStopped [] mid new → IsOwnFault why → WasStoppedIn ops old new why
 settle_stopped ops n old mid new why some stopped own = record {

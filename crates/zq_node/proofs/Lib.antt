@@ -6,6 +6,7 @@ pub mod Works
 pub mod Nodes
 pub mod Grown
 pub mod Batched
+pub mod Parts
 pub mod Told
 pub mod Haves
 pub mod Opened

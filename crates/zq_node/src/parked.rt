@@ -1,12 +1,12 @@
 //! Operations that came early.
-ghost use Rattle.std.specs.Prelude.{◌≡◌, ◌≢◌, ◌≤◌, ◌<◌, ◌+◌, ◌↔◌, [], IfNone, IfOk, IfSome, IsSome, IsTrue, None, OnErr, Some, false, length, true};
+ghost use Rattle.std.specs.Prelude.{◌≡◌, ◌≢◌, ◌≤◌, ◌<◌, ◌+◌, ◌↔◌, [], IfErr, IfNone, IfOk, IfSome, IsSome, IsTrue, None, OnErr, Some, false, length, true};
 ghost use Rattle.zq_dots.specs.Placed.{Placed};
 ghost use Rattle.zq_model.specs.Sets as sets;
 ghost use Rattle.zq_node.specs.Limits as limits;
 ghost use Rattle.zq_node.specs.Parked as parked;
 ghost use Rattle.zq_node.specs.Parked.{ArePlaced, HasPlaceOf, IsNext, IsParked, IsReadyAt, IsSiteEarly, IsUpdated};
 
-use std::alloc::{AllocError, Global};
+use std::alloc::{AllocError, AllocFailed, Global};
 use std::collections::BTreeMap;
 use std::marker::Model;
 use zq_dots::{Dot, Op, SITES, SiteNo, Vector};
@@ -96,11 +96,35 @@ impl Parked {
         ensures most { self.new.most ≡ self.old.most }
         ensures refused { OnErr result (self.new ≡ self.old) }
     {
+        Ok(self.park_or_return(op)?)
+    }
+
+    /// The same, but where memory is refused the operation is given back.
+    pub(crate) fn park_or_return(&mut self, op: Op) -> Result<bool, AllocFailed<Op>>
+        ensures full { IfOk result
+            (λ kept. IsTrue kept ↔ (length self.old.entries < self.old.most)) }
+        ensures parked { IfOk result (λ kept. IsTrue kept →
+            IsUpdated self.old.entries self.new.entries (parked.place_of op) (Some op)) }
+        ensures dropped { IfOk result (λ kept. kept ≡ false → self.new ≡ self.old) }
+        ensures more { IfOk result (λ kept. IsTrue kept → (HasPlaceOf self.old.entries op → ⊥) →
+            length self.new.entries ≡ length self.old.entries + 1) }
+        ensures again { IfOk result (λ kept. IsTrue kept → HasPlaceOf self.old.entries op →
+            length self.new.entries ≡ length self.old.entries) }
+        ensures most { self.new.most ≡ self.old.most }
+        ensures refused { OnErr result (self.new ≡ self.old) }
+        ensures given_back { IfErr result (λ failed. failed.value ≡ op) }
+    {
         if self.is_full() {
             return Ok(false);
         }
         let place = place_of(&op);
-        drop(self.ops.insert(place, op)?);
+        match self.ops.insert(place, op) {
+            Ok(before) => drop(before),
+            Err(failed) => {
+                let (_, op) = failed.value;
+                return Err(AllocFailed { value: op });
+            }
+        }
         self.sites[place.1 as usize] = true;
         Ok(true)
     }

@@ -38,6 +38,34 @@ pub(crate) fn keep(parked: &mut Parked, alloc: Global, op: &Op) -> Result<(), Al
     Ok(())
 }
 
+/// Parks an operation itself, unless one of its heap and dot is parked: its key and its member are
+/// empty then. Where as many are parked as there may be, it is dropped, as if it had been lost.
+/// Where memory is refused it is as it was.
+pub(crate) fn keep_own(parked: &mut Parked, alloc: Global, op: &mut Op) -> Result<(), AllocError>
+    ensures put { OnOk result
+        (IsPutAway parked.old.most op.old parked.old.entries parked.new.entries) }
+    ensures most { parked.new.most ≡ parked.old.most }
+    ensures refused { OnErr result (parked.new ≡ parked.old) }
+    ensures kept { OnErr result (op.new ≡ op.old) }
+{
+    if parked.has_place_of(op) {
+        return Ok(());
+    }
+    if parked.is_full() {
+        return Ok(());
+    }
+    let mut own = op.bare(alloc);
+    own.swap_names(op);
+    match parked.park_or_return(own) {
+        Ok(_) => Ok(()),
+        Err(failed) => {
+            let mut own = failed.value;
+            own.swap_names(op);
+            Err(AllocError)
+        }
+    }
+}
+
 impl Node<'_> {
     /// Hands the site an operation.
     fn hand<R: Wait>(&mut self, rt: &R, alloc: Global, op: &Op) -> Result<Taken, NodeFault>

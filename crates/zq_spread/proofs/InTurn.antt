@@ -1,7 +1,7 @@
 -- Operations that a heap takes one after the other.
 
-use Rattle.std.proofs.Common.{ap, arith, drop, get_or, refl, subst, sym, take, ◌∙◌, ◌<◌}
-use Rattle.std.proofs.lemmas.List.{append-nil, append_assoc, length-append, take-append-drop, take_more}
+use Rattle.std.proofs.Common.{ap, arith, drop, get_or, refl, set, subst, sym, take, ◌∙◌, ◌<◌}
+use Rattle.std.proofs.lemmas.List.{append-nil, append_assoc, drop-drop, drop-set-lt, get_or-drop, length-append, set-get_or, take-append-drop, take_more}
 use Rattle.std.specs.Prelude.{List, [], length, ℕ, ◌+◌, ◌++◌, ◌∷◌, ◌≡◌, ◌≢◌, ◌≤◌}
 use Rattle.zq_dots.specs.Placed.{Placed}
 use Rattle.zq_journal.specs.Books.{book_when, state_of, steps_taken, steps_when}
@@ -112,3 +112,19 @@ taken_so_far stamp ops done left old now a answer is split number fresh end begu
       end = here;
     } in
     (steps, is.worked a begun, subst (λ (h : HeapImage). IsTakenSoFar stamp ops answer h a.count steps) (begun_state old a stamp begun) so)
+
+-- ---- what is left of a list that is written in turn
+
+-- the next one is as it was
+pub next_left : (first now : List Placed) (i : ℕ) (d : Placed) → drop i now ≡ drop i first → get_or now i d ≡ get_or first i d
+next_left first now i d left =
+    let at : i + 0 ≡ i = omega arith in
+    ap (λ n. get_or now n d) (sym at) ∙ sym (get_or-drop i now 0 d) ∙ ap (λ l. get_or l 0 d) left ∙ get_or-drop i first 0 d ∙ ap (λ n. get_or first n d) at
+
+-- and those after one that is written are
+pub rest_left : (first now : List Placed) (i : ℕ) (x : Placed) → drop i now ≡ drop i first → drop (i + 1) (set now i x) ≡ drop (i + 1) first
+rest_left first now i x left = drop-set-lt (i + 1) now i x (omega arith) ∙ sym (drop-drop 1 i now) ∙ ap (drop 1) left ∙ drop-drop 1 i first
+
+-- and all where that is written as it was
+pub all_left : (first now : List Placed) (i : ℕ) (x : Placed) → drop i now ≡ drop i first → x ≡ get_or now i x → drop i (set now i x) ≡ drop i first
+all_left first now i x left is = ap (λ y. drop i (set now i y)) is ∙ ap (drop i) (set-get_or now i x) ∙ left

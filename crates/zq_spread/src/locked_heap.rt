@@ -1,5 +1,5 @@
 //! What the lock of a heap keeps.
-ghost use Rattle.std.specs.Prelude.{◌≡◌, ◌≤◌, [], IfErr, OnErr, OnOk, length};
+ghost use Rattle.std.specs.Prelude.{◌≡◌, ◌≤◌, [], IfErr, OnErr, OnOk, drop, length};
 ghost use Rattle.zq_model.specs.Books.{Book as Books};
 ghost use Rattle.zq_model.specs.Reach.{IsWorked};
 ghost use Rattle.zq_journal.specs.Books.{LAST_STAMP, state_of};
@@ -64,17 +64,19 @@ impl LockedHeap {
     }
 
     /// Takes operations in turn, as its book does, up to the first that is Early or that the book
-    /// refuses.
-    pub(crate) fn take_all(&mut self, alloc: Global, stamp: u64, ops: &[Op]) -> TakenAll
+    /// refuses. What is New goes into the book by value, so that its key and its member are empty
+    /// then; those that it did not take are as they were.
+    pub(crate) fn take_all(&mut self, alloc: Global, stamp: u64, ops: &mut [Op]) -> TakenAll
         requires stamp { self.old.book.stamp ≤ stamp }
         requires bounded { stamp ≤ LAST_STAMP }
         ensures total { self.new.total ≡ self.old.total }
         ensures worked { (a : Books) → IsWorked self.old.book a stamp [] →
-            HasWorked (IsTakenAll stamp ops.now result) self.new.book a stamp }
+            HasWorked (IsTakenAll stamp ops.old result) self.new.book a stamp }
+        ensures left { drop result.taken ops.new ≡ drop result.taken ops.old }
     {
         let before = self.book.count();
         let mut taken = 0;
-        for op in ops {
+        for op in ops.iter_mut() {
             if let Err(end) = self.take_next(alloc, stamp, op) {
                 let fresh = self.book.count() - before;
                 return TakenAll { taken, fresh, end };
@@ -90,18 +92,19 @@ impl LockedHeap {
     }
 
     /// Takes an operation that is New or Known, or says why it takes it not: then nothing has
-    /// changed.
-    fn take_next(&mut self, alloc: Global, stamp: u64, op: &Op) -> Result<(), TakeEnd>
+    /// changed. One that is New leaves its key and its member with the book.
+    fn take_next(&mut self, alloc: Global, stamp: u64, op: &mut Op) -> Result<(), TakeEnd>
         requires stamp { self.old.book.stamp ≤ stamp }
         requires bounded { stamp ≤ LAST_STAMP }
         ensures total { self.new.total ≡ self.old.total }
         ensures taken { OnOk result
-            (IsTakenNext stamp op.now self.old.book self.new.book) }
+            (IsTakenNext stamp op.old self.old.book self.new.book) }
         ensures end { IfErr result
-            (λ end. IsNotTaken end op.now (state_of self.old.book) self.old.book.count) }
+            (λ end. IsNotTaken end op.old (state_of self.old.book) self.old.book.count) }
         ensures refused { OnErr result (self.new ≡ self.old) }
+        ensures kept { OnErr result (op.new ≡ op.old) }
     {
-        match self.book.take(alloc, stamp, op) {
+        match self.book.take_from(alloc, stamp, op) {
             Ok(Taken::Early) => Err(TakeEnd::Early),
             Ok(_) => Ok(()),
             Err(fault) => Err(TakeEnd::Refused(fault)),

@@ -1,5 +1,5 @@
 //! Operations of other sites.
-ghost use Rattle.std.specs.Prelude.{◌≡◌, ◌<◌, ◌↔◌, ◌⊎◌, ◌∷◌, [], IfOk, IsErrOf, OnErr, true};
+ghost use Rattle.std.specs.Prelude.{◌≡◌, ◌<◌, ◌↔◌, ◌⊎◌, ◌∷◌, [], IfOk, IsErrOf, OnErr, drop, true};
 ghost use Rattle.zq_spread.specs.Answers.{IsTaken};
 ghost use Rattle.zq_spread.specs.Batches.{IsTakenAll};
 ghost use Rattle.zq_spread.specs.Calls.{IsCall, IsOfSite, heaps_of};
@@ -67,25 +67,31 @@ impl Site {
     /// at its last value, `NoMemory` where it is New and a growth was refused. Those before it stay
     /// taken.
     ///
+    /// What was New is handed over by value: its key and its member are empty then. Those from the
+    /// first on that it did not take are as they were.
+    ///
     /// Other calls wait for the heap until all are taken, so its caller hands over few at a time.
     ///
     /// `Worn` where the heap's lock or the stamp is at its last value, and then no image, book or
-    /// stamp has changed.
+    /// stamp has changed, and no operation.
     pub fn take_all<R: Wait>(
         &self,
         rt: &R,
         alloc: Global,
         pass: &mut Pass,
         heap: u8,
-        ops: &[Op],
+        ops: &mut [Op],
     ) -> Result<TakenAll, Worn>
         requires pass { IsPassOf self.now pass.old }
         requires heap { heap < heaps_of self.now }
         ensures pass { IsPassOf self.now pass.new }
         ensures called { IfOk result
-            (λ taken. IsCall (IsTakenAll pass.new.stamp ops.now taken) pass.old pass.new
+            (λ taken. IsCall (IsTakenAll pass.new.stamp ops.old taken) pass.old pass.new
             (heap ∷ [])) }
+        ensures left { IfOk result
+            (λ taken. drop taken.taken ops.new ≡ drop taken.taken ops.old) }
         ensures refused { OnErr result (IsWornIn (heap ∷ []) pass.old pass.new) }
+        ensures kept { OnErr result (ops.new ≡ ops.old) }
     {
         let heap = usize::from(heap);
         let Ok((mut held, stamp)) = self.begin_in(rt, pass, heap) else {

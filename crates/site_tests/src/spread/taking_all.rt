@@ -72,8 +72,8 @@ fn take_chosen<R: Wait>(
     requires pass { IsPassOf site.now pass.old }
     ensures pass { IsPassOf site.now pass.new }
 {
-    let some = chosen(alloc, ops, places)?;
-    site.take_all(rt, alloc, pass, 0, &some).ok()
+    let mut some = chosen(alloc, ops, places)?;
+    site.take_all(rt, alloc, pass, 0, &mut some).ok()
 }
 
 /// What a heap of a site shows.

@@ -108,8 +108,8 @@ fn takes<R: Wait + Abort>(rt: &R, alloc: Global, node: &mut Node, heard: Heard) 
     requires node { IsNode node.old }
     ensures node { IsNode node.new }
 {
-    let frame = frame_of(rt, alloc, heard);
-    let Frame::Ops(ops) = &frame else {
+    let mut frame = frame_of(rt, alloc, heard);
+    let Frame::Ops(ops) = &mut frame else {
         return false;
     };
     node.hear_ops(rt, alloc, ops).is_ok()
@@ -161,9 +161,9 @@ fn fault_of<R: Wait + Abort>(
     requires node { IsNode node.old }
     ensures node { IsNode node.new }
 {
-    let frame = frame_of(rt, alloc, heard);
+    let mut frame = frame_of(rt, alloc, heard);
     let fault = node.hear(rt, alloc, &frame).err();
-    let Frame::Ops(ops) = &frame else {
+    let Frame::Ops(ops) = &mut frame else {
         return fault;
     };
     if node.hear_ops(rt, alloc, ops).err() == fault {

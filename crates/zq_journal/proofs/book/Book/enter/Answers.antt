@@ -1,17 +1,14 @@
-use Rattle.std.proofs.Common.{List, [], ap, arith, length, refl, subst, sym, true, ◌++◌, ◌∙◌, ◌∷◌, ◌≡◌, ◌≤◌}
+use Rattle.std.proofs.Common.{[], ap, arith, length, refl, subst, sym, true, ◌++◌, ◌∙◌, ◌∷◌, ◌≡◌, ◌≤◌}
 use Rattle.zq_model.proofs.NewRecords.{change_is_new}
 use Rattle.zq_model.specs.Books.{Book, is_change_over, recorded}
 use Rattle.zq_model.specs.Reach.{IsWorked}
 use Rattle.zq_journal.specs.Limits.{limits_of}
-use Rattle.zq_journal.proofs.BoundedTails.{bounded_state}
-use Rattle.zq_journal.proofs.Entered.{IsPutIn, entered_is, entered_stands, next_from, record_from}
-use Rattle.zq_journal.proofs.Lasts.{longer_is}
 use Rattle.zq_journal.proofs.Missing.{operation_is}
+use Rattle.zq_journal.proofs.Pushed.{pushed_bytes, pushed_is, pushed_stands}
 use Rattle.zq_journal.proofs.Weighed.{bytes_bounded}
-use Rattle.zq_journal.proofs.Weights.{bytes_more, bytes_whole}
-use Rattle.zq_journal.specs.BookView.{book_of, records_of}
+use Rattle.zq_journal.specs.BookView.{book_of}
 use Rattle.zq_journal.specs.Books.{step_of}
-use Rattle.zq_journal.specs.Records.{Change, IsRecordable, Record, bytes_kept_in, change_of, placed_in, records_in, whole}
+use Rattle.zq_journal.specs.Records.{Change, IsRecordable, bytes_kept_in, change_of, placed_in, records_in, whole}
 use Rattle.zq_journal.specs.Standing.{IsStanding}
 use Rattle.zq_journal.specs.declared.records.Record as code
 use Rattle.zq_model.specs.Sets.{New, taken_of}
@@ -51,58 +48,38 @@ invariant_of-self-2 c =
     let s : HeapImage = c.self.inside.shard in
     let b : Book = book_of c.self.inside in
     let change : Change = whole s.heap s.heaps s.image.vector c.args.what in
-    let r : Record = record { stamp = c.args.at; what = change; before = c.in_ok-before.before } in
     let over : is_change_over b.heaps b.heap b.state.vector (change_of change) ≡ true =
     subst (λ (q : Book). is_change_over q.heaps q.heap q.state.vector (change_of (whole q.heap q.heaps q.state.vector c.args.what)) ≡ true) (sym c.self.view_is) c.requires.over in
     let own : IsRecordable s.heap s.heaps (placed_in change) =
     subst (λ (q : Book). IsRecordable q.heap q.heaps (placed_in (whole q.heap q.heaps q.state.vector c.args.what))) (sym c.self.view_is) c.requires.recordable in
-    let put : IsPutIn s c.put_in.new.shard r (placed_in change) = record {
-      op = refl;
-      heap = c.in_ok-before.ensures.heap;
-      heaps = c.in_ok-before.ensures.heaps;
-      rule = c.in_ok-before.ensures.rule;
-      image = c.in_ok-before.ensures.image;
-      had = c.in_ok-before.ensures.before;
-      bounded = bounded_state s c.self.inside.vector (records_of c.self.inside) (limits_of c.self.inside.limits) c.self.inside.handed c.self.inside.stamp c.self.inside.count c.self.invariant.standing;
-    } in
-    let after : List Record = records_in c.put_in.new.shard c.self.inside.vector c.push_back_reserved.new.self.items in
-    let pushed : code.Record = record { stamp = c.args.at; what = c.args.what; before = c.in_ok-before.before } in
-    let longer : after ≡ records_of c.self.inside ++ r ∷ [] =
-    longer_is s c.put_in.new.shard c.self.inside.vector c.self.inside.tail.items c.push_back_reserved.new.self.items pushed (limits_of c.self.inside.limits) c.self.inside.handed c.self.inside.stamp c.self.inside.count c.self.invariant.standing.book
-    c.in_ok-before.ensures.heap c.in_ok-before.ensures.heaps (c.push_back_reserved.ensures.items ∙ ap (λ xs. xs ++ pushed ∷ []) c.in_ok-reserve.ensures.items) in
     let stamp_is : b.stamp ≡ c.args.self.now.stamp = ap (λ q. q.stamp) c.self.view_is in
     let count_is : b.count ≡ c.args.self.now.count = ap (λ q. q.count) c.self.view_is in
     let rises : b.stamp ≤ c.args.at = omega (arith, stamp_is, c.requires.stamp) in
+    let e = c.in_ok-before.ensures in
+    let pushed : code.Record = record { stamp = c.args.at; what = c.args.what; before = c.in_ok-before.before } in
     let items : c.push_back_reserved.new.self.items ≡ c.self.inside.tail.items ++ pushed ∷ [] = c.push_back_reserved.ensures.items ∙ ap (λ xs. xs ++ pushed ∷ []) c.in_ok-reserve.ensures.items in
     record {
       standing =
-          entered_stands s c.put_in.new.shard c.self.inside.vector (records_of c.self.inside) after r (limits_of c.self.inside.limits) c.self.inside.handed c.self.inside.stamp c.self.inside.count (next_from s c.put_in.new.shard r (placed_in change) put) longer
-          c.self.invariant.standing (c.keeping.ensures.recording b c.args.at (change_of change) rises over c.self.invariant.standing.book) (record_from s c.put_in.new.shard r (placed_in change) put own) c.requires.bounded
-          (omega (arith, count_is, c.requires.count));
-      bytes = omega (arith, c.self.invariant.bytes, ap length c.requires.key, ap length c.requires.member, bytes_whole c.args.self.now.heap c.args.self.now.heaps c.args.self.now.state.vector c.args.what, bytes_more c.self.inside.tail.items pushed, ap bytes_kept_in items);
+          pushed_stands s c.put_in.new.shard c.self.inside.vector c.self.inside.tail.items c.push_back_reserved.new.self.items pushed change (limits_of c.self.inside.limits) c.self.inside.handed c.self.inside.stamp c.self.inside.count c.self.invariant.standing
+          refl items e.heap e.heaps e.rule e.image e.before (c.keeping.ensures.recording b c.args.at (change_of change) rises over c.self.invariant.standing.book) own c.requires.bounded (omega (arith, count_is, c.requires.count));
+      bytes =
+          let more = pushed_bytes s c.put_in.new.shard c.self.inside.vector c.self.inside.tail.items c.push_back_reserved.new.self.items pushed change (limits_of c.self.inside.limits) c.self.inside.handed c.self.inside.stamp c.self.inside.count c.self.invariant.standing
+          refl items e.heap e.heaps e.rule e.image e.before in
+          let same : whole c.args.self.now.heap c.args.self.now.heaps c.args.self.now.state.vector c.args.what ≡ change = ap (λ (q : Book). whole q.heap q.heaps q.state.vector c.args.what) (sym c.self.view_is) in
+          let key = ap length c.requires.key ∙ ap (λ (q : Change). length (placed_in q).operation.key) same in
+          let member = ap length c.requires.member ∙ ap (λ (q : Change). length (placed_in q).operation.member) same in
+          omega (arith, more, c.self.invariant.bytes, key, member);
     }
 
 pub returns-clause-recorded : goal.returns-clause-recorded
 returns-clause-recorded c =
     let s : HeapImage = c.self.inside.shard in
-    let b : Book = book_of c.self.inside in
     let change : Change = whole s.heap s.heaps s.image.vector c.args.what in
-    let r : Record = record { stamp = c.args.at; what = change; before = c.in_ok-before.before } in
-    let put : IsPutIn s c.put_in.new.shard r (placed_in change) = record {
-      op = refl;
-      heap = c.in_ok-before.ensures.heap;
-      heaps = c.in_ok-before.ensures.heaps;
-      rule = c.in_ok-before.ensures.rule;
-      image = c.in_ok-before.ensures.image;
-      had = c.in_ok-before.ensures.before;
-      bounded = bounded_state s c.self.inside.vector (records_of c.self.inside) (limits_of c.self.inside.limits) c.self.inside.handed c.self.inside.stamp c.self.inside.count c.self.invariant.standing;
-    } in
-    let after : List Record = records_in c.put_in.new.shard c.self.inside.vector c.push_back_reserved.new.self.items in
+    let e = c.in_ok-before.ensures in
     let pushed : code.Record = record { stamp = c.args.at; what = c.args.what; before = c.in_ok-before.before } in
-    let longer : after ≡ records_of c.self.inside ++ r ∷ [] =
-    longer_is s c.put_in.new.shard c.self.inside.vector c.self.inside.tail.items c.push_back_reserved.new.self.items pushed (limits_of c.self.inside.limits) c.self.inside.handed c.self.inside.stamp c.self.inside.count c.self.invariant.standing.book
-    c.in_ok-before.ensures.heap c.in_ok-before.ensures.heaps (c.push_back_reserved.ensures.items ∙ ap (λ xs. xs ++ pushed ∷ []) c.in_ok-reserve.ensures.items) in
-    entered_is s c.put_in.new.shard c.self.inside.vector (records_of c.self.inside) after r (limits_of c.self.inside.limits) c.self.inside.handed c.self.inside.stamp c.self.inside.count (next_from s c.put_in.new.shard r (placed_in change) put) longer
+    let items : c.push_back_reserved.new.self.items ≡ c.self.inside.tail.items ++ pushed ∷ [] = c.push_back_reserved.ensures.items ∙ ap (λ xs. xs ++ pushed ∷ []) c.in_ok-reserve.ensures.items in
+    pushed_is s c.put_in.new.shard c.self.inside.vector c.self.inside.tail.items c.push_back_reserved.new.self.items pushed change (limits_of c.self.inside.limits) c.self.inside.handed c.self.inside.stamp c.self.inside.count c.self.invariant.standing
+    refl items e.heap e.heaps e.rule e.image e.before
     ∙ ap (λ (q : Book). recorded q c.args.at (change_of (whole q.heap q.heaps q.state.vector c.args.what))) c.self.view_is
 
 pub returns-clause-worked : goal.returns-clause-worked
