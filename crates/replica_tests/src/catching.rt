@@ -127,6 +127,44 @@ fn a_heap_on_its_way_is_not_asked_for_again(rt: HostRuntime) {
     play(&rt, rt.alloc(), 2, SHORT, &ONCE);
 }
 
+/// A calm of site 1 is under way when all pieces of heap 1 go to it, and members v of that heap and
+/// w of the other one are put behind them: site 0 hears what site 1 had before these pieces came.
+/// The heap does not go again: of both 5 pieces go, and v and w as operations.
+const STALE: [Step; 27] = [
+    Put(0, 1000),
+    Link(0, 1),
+    Hear(10),
+    Push,
+    Hear(2),
+    Hear(1),
+    Push,
+    Push,
+    Push,
+    Push,
+    Push,
+    Hear(5),
+    Hear(3),
+    Tick(5),
+    Push,
+    Push,
+    Push,
+    Push,
+    Push,
+    Pieces(10),
+    Run(0, "ZADD q 1 v 2 w"),
+    Hear(4),
+    Push,
+    Settle,
+    Same(1002),
+    Pieces(0),
+    Went(2, 2),
+];
+
+#[test]
+fn a_heap_on_its_way_does_not_go_again(rt: HostRuntime) {
+    play(&rt, rt.alloc(), 2, SHORT, &STALE);
+}
+
 /// Site 2 is behind both others, and is given each heap by one of them.
 const JOINER: [Step; 10] = [
     Put(0, 1000),

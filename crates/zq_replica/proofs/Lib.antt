@@ -7,4 +7,5 @@ pub mod Replaced
 pub mod Tried
 pub mod Fed
 pub mod Gathers
+pub mod Putting
 pub mod Taken

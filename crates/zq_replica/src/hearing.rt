@@ -123,8 +123,8 @@ impl Replica<'_> {
     {
         let is_pushed = self.is_pushed_at(place);
         match read_heard(alloc, bytes, self.hasher, is_pushed) {
-            Ok(frame) => self
-                .hear_unless_fenced(rt, alloc, node, place, from, &frame, out)
+            Ok(mut frame) => self
+                .hear_unless_fenced(rt, alloc, node, place, from, &mut frame, out)
                 .map_err(Unheard::Refused),
             Err(fault) => Err(Unheard::Unread(fault)),
         }
@@ -139,7 +139,7 @@ impl Replica<'_> {
     }
 
     /// Has the node hear a frame of the peer at this place, unless the frame proves that another run
-    /// used this site's number.
+    /// used this site's number. What the node takes of it is handed over by value.
     fn hear_unless_fenced<R: Wait>(
         &mut self,
         rt: &R,
@@ -147,16 +147,16 @@ impl Replica<'_> {
         node: &mut Node<'_>,
         place: usize,
         from: SiteNo,
-        frame: &Frame,
+        frame: &mut Frame,
         out: &mut Parcels,
     ) -> Result<(), NodeFault>
         requires node { IsNode node.old }
         ensures node { IsNode node.new }
         ensures home { IsSameHome node.old node.new }
-        ensures given { IsGiven frame.now node.old node.new }
-        ensures gathers { IsGatheringBy from self.old frame.now (gathered_of self.new) }
+        ensures given { IsGiven frame.old node.old node.new }
+        ensures gathers { IsGatheringBy from self.old frame.old (gathered_of self.new) }
         ensures weighed { MatchResult result
-            (λ _. IsWeighedBy from frame.now node.old node.new self.old self.new
+            (λ _. IsWeighedBy from frame.old node.old node.new self.old self.new
             out.old.items out.new.items)
             (λ _. fence_of self.new ≡ fence_of self.old) }
     {
@@ -175,20 +175,23 @@ impl Replica<'_> {
         node: &mut Node<'_>,
         place: usize,
         from: SiteNo,
-        frame: &Frame,
+        frame: &mut Frame,
         out: &mut Parcels,
     ) -> Result<(), NodeFault>
         requires node { IsNode node.old }
         ensures node { IsNode node.new }
         ensures home { IsSameHome node.old node.new }
-        ensures given { IsGiven frame.now node.old node.new }
-        ensures gathers { IsGatheringBy from self.old frame.now (gathered_of self.new) }
+        ensures given { IsGiven frame.old node.old node.new }
+        ensures gathers { IsGatheringBy from self.old frame.old (gathered_of self.new) }
         ensures standing { IsStanding self.old self.new }
     {
         match frame {
             Frame::Ops(ops) => self.hear_ops(rt, alloc, node, place, from, ops, out),
             Frame::Have(_) => self.hear_and_answer(rt, alloc, node, frame, out),
-            Frame::State(shard) => self.hear_state(rt, alloc, node, frame, shard.heap(), out),
+            Frame::State(shard) => {
+                let heap = shard.heap();
+                self.hear_state(rt, alloc, node, frame, heap, out)
+            }
         }
     }
 
@@ -247,15 +250,15 @@ impl Replica<'_> {
         node: &mut Node<'_>,
         place: usize,
         from: SiteNo,
-        ops: &[Op],
+        ops: &mut [Op],
         out: &mut Parcels,
     ) -> Result<(), NodeFault>
         requires node { IsNode node.old }
         ensures node { IsNode node.new }
         ensures home { IsSameHome node.old node.new }
-        ensures given { (frame : Frames) → IsOpsOf frame ops.now →
+        ensures given { (frame : Frames) → IsOpsOf frame ops.old →
             IsGiven frame node.old node.new }
-        ensures gathers { (frame : Frames) → IsOpsOf frame ops.now →
+        ensures gathers { (frame : Frames) → IsOpsOf frame ops.old →
             IsGatheringBy from self.old frame (gathered_of self.new) }
         ensures standing { IsStanding self.old self.new }
     {
@@ -273,7 +276,8 @@ impl Replica<'_> {
     }
 
     /// Has the node hear operations of a heap of the peer at this place. The peer has them, so that
-    /// it is not sent them; and peers to which it is owed are told what this site has then.
+    /// it is not sent them; and peers to which it is owed are told what this site has then. What the
+    /// node took of them keeps its heap, its dot and its vector.
     fn take_ops<R: Wait>(
         &mut self,
         rt: &R,
@@ -282,13 +286,13 @@ impl Replica<'_> {
         place: usize,
         from: SiteNo,
         heap: u8,
-        ops: &[Op],
+        ops: &mut [Op],
         out: &mut Parcels,
     ) -> Result<(), NodeFault>
         requires node { IsNode node.old }
         ensures node { IsNode node.new }
         ensures home { IsSameHome node.old node.new }
-        ensures given { (frame : Frames) → IsOpsOf frame ops.now →
+        ensures given { (frame : Frames) → IsOpsOf frame ops.old →
             IsGiven frame node.old node.new }
         ensures steady { IsSteady self.old self.new }
     {

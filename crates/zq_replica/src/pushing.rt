@@ -1,7 +1,10 @@
 //! Pushing to peers what they lack.
 
+ghost use Rattle.std.specs.Prelude.{OnErr, OnOk, ◌≡◌};
+ghost use Rattle.zq_follow.specs.Follow.{pushed};
 ghost use Rattle.zq_node.specs.Node.{IsNode};
 ghost use Rattle.zq_replica.specs.Nodes.{Shows};
+ghost use Rattle.zq_replica.specs.Put.{HasPut};
 
 use crate::end::End;
 use crate::parcels::{Parcels, address};
@@ -11,7 +14,7 @@ use std::alloc::Global;
 use std::sync::Wait;
 use zq_backlog::Batch;
 use zq_dots::{SITES, SiteNo};
-use zq_follow::{SiteSet, class_of};
+use zq_follow::{Follow, SiteSet, class_of};
 use zq_links::{by_differences, write_frame};
 use zq_node::{Node, NodeFault};
 
@@ -165,20 +168,11 @@ impl Replica<'_> {
         let Some(end) = self.ends.get_mut(place) else {
             return Ok(());
         };
-        let Batch {
-            frame,
-            sent,
-            next,
-            ..
-        } = batch;
-        if let Some(frame) = frame {
-            let bytes = by_differences(alloc, frame)?;
-            address(out, end.peer, bytes)?;
+        let peer = end.peer;
+        match end.heaps.get_mut(usize::from(heap)) {
+            Some(at_heap) => post(alloc, peer, &mut at_heap.follow, batch, out),
+            None => Ok(()),
         }
-        if let Some(at_heap) = end.heaps.get_mut(usize::from(heap)) {
-            at_heap.follow.note_pushed(sent, next);
-        }
-        Ok(())
     }
 
     /// Tells each peer that asks what this site has of each heap, by the protocol that such a peer
@@ -224,4 +218,48 @@ fn class_at(own: SiteNo, end: &End, sources: &[Option<SiteNo>; SITES]) -> SiteSe
         None => SiteSet::empty(),
     };
     class_of(own, end.peer, &end.asked, &end.far, &reach, sources)
+}
+
+/// Puts a batch behind what goes to a peer, and only then counts it as sent there.
+fn post(
+    alloc: Global,
+    peer: SiteNo,
+    follow: &mut Follow,
+    batch: Batch,
+    out: &mut Parcels,
+) -> Result<(), NodeFault>
+    ensures put { OnOk result (HasPut peer batch.frame out.old.items out.new.items) }
+    ensures sent { OnOk result (follow.new ≡ pushed batch.sent batch.next follow.old) }
+    ensures refused { OnErr result
+        ((follow.new ≡ follow.old) × (out.new.items ≡ out.old.items)) }
+{
+    let Batch {
+        frame,
+        sent,
+        next,
+        ..
+    } = batch;
+    put(alloc, peer, frame, out)?;
+    follow.note_pushed(sent, next);
+    Ok(())
+}
+
+/// Puts a frame of operations, if there is one, behind what goes to a peer, by differences where it
+/// can.
+fn put(
+    alloc: Global,
+    peer: SiteNo,
+    frame: Option<Vec<u8>>,
+    out: &mut Parcels,
+) -> Result<(), NodeFault>
+    ensures put { OnOk result (HasPut peer frame out.old.items out.new.items) }
+    ensures refused { OnErr result (out.new.items ≡ out.old.items) }
+{
+    match frame {
+        Some(frame) => {
+            let bytes = by_differences(alloc, frame)?;
+            address(out, peer, bytes)
+        }
+        None => Ok(()),
+    }
 }

@@ -3,7 +3,7 @@
 ghost use Rattle.std.specs.Prelude.{IfOk, IsTrue, ◌≡◌};
 ghost use Rattle.zq_links.specs.Control.{IsHeapOf};
 ghost use Rattle.zq_replica.specs.Joined.{IsNewSite};
-ghost use Rattle.zq_replica.specs.Sites.{place_of};
+ghost use Rattle.zq_replica.specs.Sites.{is_up, place_of};
 
 use crate::catching::Catching;
 use crate::end::End;
@@ -122,6 +122,13 @@ impl<'l> Replica<'l> {
         ensures { result ≡ place_of peer link self.now }
     {
         self.ends.iter().position(|end| end.is_of(peer, link))
+    }
+
+    /// Whether the link of this number to a peer is up, by what was told last.
+    pub fn is_up(&self, peer: SiteNo, link: u64) -> bool
+        ensures { result ≡ is_up peer link self.now }
+    {
+        self.place_of(peer, link).is_some()
     }
 
     /// From now on each peer may have so many operations of a heap under way to this site. It is told

@@ -14,7 +14,8 @@ use zq_node::{Node, NodeFault};
 
 impl Replica<'_> {
     /// Tells a peer what this site has of a heap. Where it is a calm, what the peer will have is
-    /// noted, so that its answer shows what was lost.
+    /// noted, so that its answer shows what was lost. To the peer from which the heap is fetched it
+    /// is shut until it came: else the peer, once all of it went, would find this site behind again.
     pub(crate) fn tell_at<R: Wait>(
         &mut self,
         rt: &R,
@@ -34,6 +35,7 @@ impl Replica<'_> {
             return Err(NodeFault::WrongHeap);
         }
         let vector = node.vector(rt, heap)?;
+        let is_awaited = self.is_awaited_at(place, heap);
         let Some(end) = self.ends.get_mut(place) else {
             return Ok(());
         };
@@ -45,7 +47,7 @@ impl Replica<'_> {
             heaps: self.heaps,
             heap,
             rule: self.rule,
-            open: head.open,
+            open: head.open && !is_awaited,
             turn: head.turn,
             echo: head.echo,
             window: self.window,
@@ -59,6 +61,14 @@ impl Replica<'_> {
         let frame = write_control(alloc, &Control::At(at))?;
         address(out, end.peer, frame)?;
         Ok(())
+    }
+
+    /// Whether this heap is being fetched from the peer at this place.
+    fn is_awaited_at(&self, place: usize, heap: u8) -> bool {
+        match self.ends.get(place) {
+            Some(end) => self.is_awaited(end.peer, heap),
+            None => false,
+        }
     }
 
     /// Tells a peer what this site has of each heap.

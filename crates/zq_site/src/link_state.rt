@@ -114,6 +114,20 @@ impl<S> LinkState<S> {
         }
     }
 
+    /// The same where the link of this number is up. Elsewhere it was made for another link, and is
+    /// dropped.
+    pub fn send_over(&mut self, number: u64, frame: Vec<u8>) -> Result<(), AllocError>
+        ensures waits { OnOk result (self.new
+            ≡ (if is_up number self.old.link then sent frame.items self.old else self.old)) }
+        ensures refused { OnErr result (self.new ≡ self.old) }
+    {
+        if self.is_up(number) {
+            self.send(frame)
+        } else {
+            Ok(())
+        }
+    }
+
     /// The frame waits, in the place of an older one of its topic. Where there is no link, or the
     /// site has no such heap, it is dropped.
     fn put(&mut self, topic: Topic, frame: Vec<u8>)

@@ -105,6 +105,20 @@ impl PeerLink {
         self.changed.notify_all();
     }
 
+    /// The same where the link of this number is up. Elsewhere the frame was made for another link,
+    /// and is dropped: what a peer is told over a link begins with that link.
+    pub fn send_over<R: Wait>(&self, rt: &R, number: u64, frame: Vec<u8>) {
+        let _ = self.state.lock(rt).send_over(number, frame);
+        self.changed.notify_all();
+    }
+
+    /// The number of the link that is up.
+    pub fn number<R: Wait>(&self, rt: &R) -> Option<u64> {
+        let state = self.state.lock(rt);
+        let Connection { number, .. } = state.link.as_ref()?;
+        Some(*number)
+    }
+
     /// Whether a link is up.
     pub fn is_up<R: Wait>(&self, rt: &R) -> bool {
         self.state.lock(rt).link.is_some()

@@ -139,7 +139,7 @@ fn serve<L: Log + Wait>(
     beat(log, shared, node, replica, beats, &mut out);
     tell(log, shared, node, replica, calls, &mut out);
     let more = replica.push(log, shared.alloc, node, &peers, &mut out);
-    post_all(log, shared, out);
+    post_all(log, shared, replica, out);
     if shared.front.leaves() {
         tell_passed_on(log, shared, node, replica);
     }
@@ -310,7 +310,7 @@ fn raise<L: Log + Wait>(
     if is_reused {
         out.clear();
         let _ = replica.lower(log, alloc, node, peer, link, out);
-        refuse_run(log, shared, peer);
+        refuse_run(log, shared, peer, link);
     }
     replica.set_window(window_of(shared, replica.links()));
 }
@@ -364,13 +364,14 @@ fn is_reused<L: Log + Wait>(
     is_reused
 }
 
-/// Tells a peer that another run used its number. What it says is not heard.
-fn refuse_run<L: Log + Wait>(log: &L, shared: Shared<'_>, peer: SiteNo) {
+/// Tells a peer over the link of this number that another run used the peer's number. What it says is
+/// not heard.
+fn refuse_run<L: Log + Wait>(log: &L, shared: Shared<'_>, peer: SiteNo, link: u64) {
     warn_of(log, shared.settings.site, Warning::Reused(peer));
     if let Ok(frame) = write_notice(shared.alloc, Notice::Refused)
         && let Some(peer_link) = peer_link_of(shared.peer_links, peer)
     {
-        peer_link.send(log, frame);
+        peer_link.send_over(log, link, frame);
     }
 }
 
@@ -414,14 +415,17 @@ fn window_of(shared: Shared<'_>, links: usize) -> u64 {
 }
 
 /// Has each frame wait for its peer, once all that it may tell of is on the disk, where the site
-/// keeps a log.
-fn post_all<L: Wait>(rt: &L, shared: Shared<'_>, out: Parcels) {
+/// keeps a log. What was made for a link that was replaced meanwhile is dropped.
+fn post_all<L: Wait>(rt: &L, shared: Shared<'_>, replica: &Replica<'_>, out: Parcels) {
     if out.is_empty() || !is_kept(rt, shared) {
         return;
     }
     for (to, frame) in out {
-        if let Some(peer_link) = peer_link_of(shared.peer_links, to) {
-            peer_link.send(rt, frame);
+        if let Some(peer_link) = peer_link_of(shared.peer_links, to)
+            && let Some(number) = peer_link.number(rt)
+            && replica.is_up(to, number)
+        {
+            peer_link.send_over(rt, number, frame);
         }
     }
 }

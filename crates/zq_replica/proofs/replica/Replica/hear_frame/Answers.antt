@@ -4,7 +4,7 @@ use Rattle.zq_replica.proofs.replica.Replica.hear_frame.Goals as goal
 
 pub returns-in-Ops-clause-gathers : goal.returns-in-Ops-clause-gathers
 returns-in-Ops-clause-gathers g c =
-    c.hear_ops.ensures.gathers c.args.frame.now (rw c.in-Ops.is (sym c.deref.ensures.value))
+    c.hear_ops.ensures.gathers c.args.frame.now (rw c.in-Ops.is (sym c.deref_mut.ensures.value))
 
 pub returns-in-Have-clause-gathers : goal.returns-in-Have-clause-gathers
 returns-in-Have-clause-gathers g c =
