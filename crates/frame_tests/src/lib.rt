@@ -21,4 +21,8 @@ mod parts;
 #[cfg(test)]
 mod pieces;
 #[cfg(test)]
+mod stream;
+#[cfg(test)]
 mod transfer;
+#[cfg(test)]
+mod walks;

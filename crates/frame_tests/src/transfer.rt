@@ -1,41 +1,22 @@
-//! The two ends of a stream of pieces, with drawn operations between the pieces, over frames as they
-//! are written and read. The link breaks where it is drawn, and the stream goes on.
+//! The two ends of a stream of pieces, with drawn operations between the pieces. The link breaks
+//! where it is drawn, and the stream goes on.
 
-ghost use Rattle.std.specs.Prelude.{length, ◌≡◌};
-
+use crate::stream::{LIFE, Stream};
 use rand_core::{Rng, SeedableRng};
 use rand_pcg::Pcg64;
 use std::alloc::Global;
-use zq_dots::{Act, Op, Score, SiteNo};
-use zq_links::{Piece, read_piece, write_piece};
+use zq_dots::{Act, Score, SiteNo};
+use zq_links::write_piece;
 use zq_posheap::Seeded;
-use zq_shard::{Shard, Taken};
+use zq_shard::Shard;
 use zq_stage::{Portion, PortionLimits};
-use zq_transfer::{Receiving, Sending};
-
-/// The life of the heap that goes.
-const LIFE: u64 = 4;
+use zq_transfer::Sending;
 
 /// Three members at once.
 const LIMITS: PortionLimits = PortionLimits {
     rows: 3,
     bytes: 1_000_000,
 };
-
-/// The heap that goes, the operations that it made and that did not go yet, and both ends.
-#[derive(Drop)]
-struct Run {
-    heap: Shard,
-    unsent: Vec<Op>,
-    sending: Sending,
-    receiving: Option<Receiving>,
-}
-
-fn key_of(member: u8) -> &'static [u8]
-    ensures { length result.now ≡ 1 }
-{
-    if member % 3 == 0 { b"p" } else { b"q" }
-}
 
 /// What is drawn for a member.
 fn act_of(drawn: u8) -> Option<Act> {
@@ -47,110 +28,36 @@ fn act_of(drawn: u8) -> Option<Act> {
     }
 }
 
-impl Run {
-    fn new(alloc: Global) -> Run {
-        Run {
-            heap: Shard::new(alloc, 0, 1),
-            unsent: Vec::new(alloc),
-            sending: Sending::anew(LIFE),
-            receiving: None,
+/// Does what is drawn.
+fn follows(stream: &mut Stream, alloc: Global, drawn: [u8; 8]) -> Option<()> {
+    match drawn[0] % 8 {
+        0 | 1 => stream.hands(alloc),
+        2 => stream.breaks(),
+        3 => stream.flushes(alloc),
+        _ => {
+            let (key, member) = (u32::from(drawn[1] % 3), u32::from(drawn[1] % 20));
+            stream.makes(alloc, key, member, act_of(drawn[2])?)
         }
     }
+}
 
-    /// The heap's site makes an operation, which waits.
-    fn makes(&mut self, alloc: Global, member: u8, drawn: u8) -> Option<()> {
-        let name = [b'a' + member % 20];
-        let site = SiteNo::new(member % 2)?;
-        let op = self
-            .heap
-            .make(alloc, site, key_of(member), &name, act_of(drawn)?)
-            .ok()?;
-        self.unsent.push(op).ok()
+/// Whether the other end comes to have the heap.
+fn ends(mut stream: Stream, alloc: Global) -> Option<bool> {
+    for _piece in 0..20u8 {
+        stream.flushes(alloc)?;
+        stream.hands(alloc)?;
     }
-
-    /// What waits goes.
-    fn flushes(&mut self, alloc: Global) -> Option<()> {
-        if let Some(receiving) = &mut self.receiving {
-            for op in self.unsent.iter() {
-                if receiving.take(alloc, op) != Ok(Taken::New) {
-                    return None;
-                }
-            }
-            self.sending.note_sent(*self.heap.vector());
-        }
-        self.unsent.clear();
-        Some(())
-    }
-
-    /// The next piece goes, unless operations wait that have to go before it.
-    fn hands(&mut self, alloc: Global) -> Option<()> {
-        let spot = self.sending.spot;
-        let portion = Portion::of(&self.heap, alloc, spot, LIMITS, Seeded::new(1)).ok()?;
-        let waits = self.receiving.is_some() && !self.unsent.is_empty();
-        match self.sending.piece(portion) {
-            Ok(piece) if !waits => self.hears(alloc, &piece),
-            Err(_) if waits => Some(()),
-            _ => None,
-        }
-    }
-
-    /// The other end hears a piece.
-    fn hears(&mut self, alloc: Global, piece: &Piece) -> Option<()> {
-        let bytes = write_piece(alloc, piece).ok()?;
-        let read = read_piece(alloc, &bytes, Seeded::new(2)).ok()?;
-        match &mut self.receiving {
-            Some(receiving) => receiving.piece(alloc, &read).ok(),
-            None => {
-                self.unsent.clear();
-                self.receiving = Some(Receiving::new(read).ok()?);
-                Some(())
-            }
-        }
-    }
-
-    /// The link breaks, and the stream goes on where the other end stands: where it was.
-    fn breaks(&mut self) -> Option<()> {
-        if let Some(receiving) = &self.receiving {
-            let resume = receiving.resume();
-            let sending = Sending::resumed(LIFE, &resume)?;
-            if sending != self.sending || Sending::resumed(LIFE + 1, &resume).is_some() {
-                return None;
-            }
-            self.sending = sending;
-        }
-        Some(())
-    }
-
-    /// Does what is drawn.
-    fn follows(&mut self, alloc: Global, drawn: [u8; 8]) -> Option<()> {
-        match drawn[0] % 8 {
-            0 | 1 => self.hands(alloc),
-            2 => self.breaks(),
-            3 => self.flushes(alloc),
-            _ => self.makes(alloc, drawn[1], drawn[2]),
-        }
-    }
-
-    /// Whether the other end comes to have the heap.
-    fn ends(mut self, alloc: Global) -> Option<bool> {
-        for _piece in 0..20u8 {
-            self.flushes(alloc)?;
-            self.hands(alloc)?;
-        }
-        self.flushes(alloc)?;
-        let whole = self.receiving?.finish()?;
-        Some(whole.same(&self.heap))
-    }
+    stream.ends(alloc)
 }
 
 /// Whether a stream of so many drawn steps goes as it should.
 fn goes(alloc: Global, seed: u64) -> Option<bool> {
     let mut draws = Pcg64::seed_from_u64(seed);
-    let mut run = Run::new(alloc);
+    let mut stream = Stream::new(alloc, Shard::new(alloc, 0, 1), LIMITS);
     for _step in 0..120u8 {
-        run.follows(alloc, draws.next_u64().to_le_bytes())?;
+        follows(&mut stream, alloc, draws.next_u64().to_le_bytes())?;
     }
-    run.ends(alloc)
+    ends(stream, alloc)
 }
 
 #[test]
