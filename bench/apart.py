@@ -3,14 +3,16 @@
 while clients write at all three. Then the relays heal, and all sites have to answer every reading command alike. At last
 one site is cut off while a client adds members at another, and catches up.
 
-Usage: bench/apart.py [--seeds N] [--first N] [--seconds S] [--operations N] [--program PATH]
+Usage: bench/apart.py [--seeds N] [--first N] [--seconds S] [--operations N] [--record FORM] [--program PATH]
        bench/apart.py --self-test
 It prints for each seed what was done and how long after healing the sites were alike, and how many operations a second were
-caught up. Status 1 where the sites of a seed are not alike within 30 seconds after healing. With --self-test plain servers
-stand in the sites' place: servers that share all have to be found alike, and servers apart not.
+caught up. Status 1 where the sites of a seed are not alike within 30 seconds after healing. With --record the figures go to
+bench/results/apart.csv, of this form of the code, as "proved program". With --self-test plain servers stand in the sites'
+place: servers that share all have to be found alike, and servers apart not; and seeds are judged that were made by hand.
 """
 import argparse
 import contextlib
+import dataclasses
 import pathlib
 import random
 import signal
@@ -22,11 +24,12 @@ import tempfile
 import threading
 import time
 
+import apart_tried
 import plain_model
+import recording
 import served
 import streams
 from relay import Relay
-from stand import Stand
 
 SITES = 3
 HEAPS = 4
@@ -202,8 +205,29 @@ def disturb(draw, relays, seconds, done):
         time.sleep(draw.random() * 0.3)
 
 
+@dataclasses.dataclass(frozen=True)
+class Seed:
+    """What came of a seed: the changes, what was done to links, dials, whether the sites differed before healing, the seconds from
+    then on until they were alike, or `None`, and what went wrong beside."""
+    seed: int
+    changes: int
+    done: dict
+    dials: int
+    was_apart: bool
+    took: float | None
+    failures: tuple = ()
+
+    def is_well(self):
+        return self.took is not None and not self.failures
+
+    def told(self):
+        done, told = self.done, "never alike" if self.took is None else f"alike {self.took:.2f} s after healing"
+        return (f"seed {self.seed}: {self.changes} changes at 3 sites, {done['cut']} cuts, {done['stall']} stalls, {done['delay']} delays, "
+                f"{self.dials} dials, {'apart' if self.was_apart else 'alike'} before healing; {'; '.join([told, *self.failures])}")
+
+
 def run_seed(program, seed, seconds):
-    """Runs one seed, prints its line, and answers how long after healing the sites were alike, or None."""
+    """What comes of a seed."""
     draw, done = random.Random(f"apart {seed}"), dict.fromkeys(["cut", "stall", "delay", "heal"], 0)
     with Apart(program) as apart:
         writers = [Writer(port, f"{seed} {site}") for site, port in enumerate(apart.ports)]
@@ -213,16 +237,28 @@ def run_seed(program, seed, seconds):
         for writer in writers:
             writer.is_over = True
             writer.join()
-        apart_before = not are_alike(apart.ports)
+        was_apart = not are_alike(apart.ports)
         apart.heal()
         took = seconds_until_alike(apart.ports)
-        failures = [f"; a client at site {site}: {writer.failure!r}" for site, writer in enumerate(writers) if writer.failure]
-        failures += [] if apart.are_alive() else ["; a site ended"]
-        links = sum(relay.accepted for relay in apart.relays.values())
-    told = "never alike" if took is None else f"alike {took:.2f} s after healing"
-    print(f"seed {seed}: {sum(writer.done for writer in writers)} changes at 3 sites, {done['cut']} cuts, {done['stall']} stalls, "
-          f"{done['delay']} delays, {links} dials, {'apart' if apart_before else 'alike'} before healing; {told}{''.join(failures)}", flush=True)
-    return None if failures else took
+        failures = [f"a client at site {site}: {writer.failure!r}" for site, writer in enumerate(writers) if writer.failure]
+        failures += [] if apart.are_alive() else ["a site ended"]
+        dials = sum(relay.accepted for relay in apart.relays.values())
+    return Seed(seed, sum(writer.done for writer in writers), done, dials, was_apart, took, tuple(failures))
+
+
+def figures(seeds, operations, rate):
+    """The figures of seeds, and of operations that were caught up so fast, or `None`."""
+    case, well = f"{SITES} sites, {len(seeds)} seeds from {seeds[0].seed} on", [each for each in seeds if each.is_well()]
+    done = {kind: sum(each.done[kind] for each in seeds) for kind in ("cut", "stall", "delay")}
+    note = (f"{done['cut']} cuts, {done['stall']} stalls, {done['delay']} delays, {sum(each.dials for each in seeds)} dials, "
+            f"{sum(each.was_apart for each in seeds)} apart before healing")
+    rows = [(case, "changes", sum(each.changes for each in seeds), "operations", note), (case, "alike after healing", len(well), "seeds", "")]
+    if well:
+        times = [each.took for each in well]
+        rows += [(case, "from healing until alike, median", round(statistics.median(times), 2), "s", ""),
+                 (case, "from healing until alike, longest", round(max(times), 2), "s", "")]
+    caught = "never" if rate is None else round(rate)
+    return [*rows, ("a site that was cut off", "caught up", caught, "operations a second", f"{operations:,} operations")]
 
 
 def fill(port, operations):
@@ -236,10 +272,10 @@ def fill(port, operations):
 
 
 def catch_up(program, operations):
-    """Operations a second that a site catches up which was cut off while they were made, and whether it has them."""
+    """Operations a second that a site catches up which was cut off while they were made; `None` where it does not have them in time."""
     with Apart(program) as apart:
         if seconds_until_alike(apart.ports) is None:
-            return 0, False
+            return None
         for relay in apart.relays.values():
             relay.cut()
         fill(apart.ports[0], operations)
@@ -251,23 +287,7 @@ def catch_up(program, operations):
                 time.sleep(0.005)
             took = time.monotonic() - begin
             has_all = client.ask(b"ZCARD", b"caught") == wanted
-    return operations / took, has_all
-
-
-def self_test():
-    """What is seen of plain servers otherwise than it has to be."""
-    with Stand() as one, Stand(beside=one) as two, Stand(beside=one) as three, Stand() as other:
-        with Client(one.port) as client:
-            client.ask(b"ZADD", KEYS[0], b"1", b"m1")
-        found = [] if seconds_until_alike([one.port, two.port, three.port], 1) is not None else ["servers that share all are not alike"]
-        found += [] if seconds_until_alike([one.port, two.port, other.port], 0.2) is None else ["a server apart is alike"]
-        with Relay(one.port) as relay:
-            found += [] if seconds_until_alike([one.port, relay.port], 1) is not None else ["a relay changes what it carries"]
-            relay.cut()
-            with contextlib.suppress(RuntimeError, OSError), Client(relay.port) as client:
-                client.ask(b"PING")
-                found.append("a relay that is cut carries")
-    return found
+    return operations / took if has_all else None
 
 
 def main():
@@ -276,23 +296,36 @@ def main():
     words.add_argument("--first", type=int, default=1)
     words.add_argument("--seconds", type=float, default=3)
     words.add_argument("--operations", type=int, default=200_000)
+    words.add_argument("--record", metavar="FORM")
     words.add_argument("--program", type=pathlib.Path)
     words.add_argument("--self-test", action="store_true")
     asked = words.parse_args()
     for number in (signal.SIGTERM, signal.SIGHUP):
         signal.signal(number, lambda number, _: sys.exit(128 + number))
     if asked.self_test:
-        found = self_test()
+        found = apart_tried.faults()
         for line in found:
             print(f"apart: {line}", file=sys.stderr)
         return 1 if found else 0
     program = asked.program.resolve() if asked.program else served.built()
-    took = [run_seed(program, seed, asked.seconds) for seed in range(asked.first, asked.first + asked.seeds)]
-    if took and None not in took:
-        print(f"all {len(took)} seeds end alike; after healing the median is {statistics.median(took):.2f} s, the longest {max(took):.2f} s")
-    rate, has_all = catch_up(program, asked.operations)
-    print(f"{asked.operations} operations caught up after a cut: {rate:,.0f} a second" if has_all else "a site that was cut off does not catch up")
-    return 0 if has_all and None not in took else 1
+    seeds = []
+    for seed in range(asked.first, asked.first + asked.seeds):
+        seeds.append(run_seed(program, seed, asked.seconds))
+        print(seeds[-1].told(), flush=True)
+    rate = catch_up(program, asked.operations)
+    return conclude(seeds, asked.operations, rate, asked.record)
+
+
+def conclude(seeds, operations, rate, form=None):
+    """Says what came of all, keeps it where that is asked for, and answers the status."""
+    are_well = all(each.is_well() for each in seeds)
+    if seeds and are_well:
+        times = [each.took for each in seeds]
+        print(f"all {len(seeds)} seeds end alike; after healing the median is {statistics.median(times):.2f} s, the longest {max(times):.2f} s")
+    print("a site that was cut off does not catch up" if rate is None else f"{operations} operations caught up after a cut: {rate:,.0f} a second")
+    if form and seeds:
+        recording.record("apart.csv", form, figures(seeds, operations, rate))
+    return 0 if rate is not None and are_well else 1
 
 
 if __name__ == "__main__":

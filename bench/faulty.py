@@ -70,14 +70,14 @@ class Failing:
 
 
 def says_why(said, place):
-    ensure(f"it says why: {said!r}", f"zqueue: {place.folder}/log: " in said)
+    ensure(f"it says why: {said!r}", f"zqueue: {place.folder}/log: Input/output error (os error 5)\n" in said)
 
 
 def interrupted(group):
     """Reads and writes that do a part, and calls that are interrupted, are gone on with: at a start, under writes, and in a switch."""
     peer, writers = group.start(0, alone=0, link_backlog=1 << 20), Writers()
     expect("members added", 20_000, peer.adds(b"m", 20_000))
-    place = Played(group, "interrupted", interrupts=3, piece=4_000)
+    place = Played(group, "interrupted", interrupts=3, reads=True, piece=4_000)
     for _ in range(2):
         member = start(group, place, 1, [0])
         writers.check(member)

@@ -121,6 +121,23 @@ def full(group, place, end, left=0):
     expect("the peer's long members", peer.ask(b"ZCARD", b"long"), member.ask(b"ZCARD", b"long"))
 
 
+def long_round(group, place):
+    """One request takes almost all the room that is kept ahead, by names of hundreds of kilobytes: it is answered, and the site ends as
+    it is told to."""
+    member = start(group, place)
+    expect("members added", 100, member.adds(b"a", 100))
+    place.fill()
+    with Client(member.port) as client:
+        client.link.settimeout(SEEN)
+        words = [word for number in range(12) for word in (b"1", b"%d." % number + LONG * 30)]
+        expect("an addition of long names", b":12\r\n", client.ask(b"ZADD", b"long", *words))
+    ensure("the disk is found full", holds(lambda: member.has_said(" disk full") and is_refused(member), SEEN))
+    refused(member)
+    expect("status", 0, stopped(group, member))
+    place.free()
+    expect("the long members", b":12\r\n", start(group, place).ask(b"ZCARD", b"long"))
+
+
 def full_at_start(group, place):
     """A first start on a full disk ends and says why; once there is room the next one is a first start."""
     place.fill()

@@ -11,11 +11,12 @@ can. Links go over a relay (relay.c) that delays them, and cuts them where that 
     one      all workers pop at one site. Expected: 0
     effects  as in `doubles`, and a job that is done already has no effect again. Expected: one effect for each job
 
-Usage: bench/jobs.py [--quick] [--seconds N] [--json FILE] [--program PATH] [PART ..]
+Usage: bench/jobs.py [--quick] [--seconds N] [--only TEXT ..] [--json FILE] [--program PATH] [PART ..]
        bench/jobs.py --self-test
 It prints a line for each run: how many pops there were, of how many jobs, how many jobs were popped twice, and which part of all jobs
-that is. Rates are of jobs added a second in all; `waiting` jobs were all added before. Status 1 where a job was never popped, or an
-expectation does not hold. Needs a C compiler.
+that is. With --only just the runs of `doubles` are made whose case has each of these texts, as "3 sites". Rates are of jobs added a
+second in all; `waiting` jobs were all added before. Status 1 where a job was never popped, or an expectation does not hold. Needs a C
+compiler.
 """
 import argparse
 import collections
@@ -30,10 +31,11 @@ import tempfile
 import threading
 import time
 
+import jobs_tried
 import linked
 import served
 from apart import Client
-from linked import Child, Group, Idle, Sites
+from linked import Child, Idle, Sites
 
 JOBS = b"jobs:00000"
 WAITING = 20000
@@ -218,7 +220,6 @@ class Report:
               f"{expected} | {came['idle']:.2f} |", flush=True)
         self.runs.append({"pattern": pattern, "case": told, "most": most, "fault": fault, **came})
 
-
     def give_up(self, part, fault):
         """A part that broke off."""
         self.has_failed = True
@@ -231,6 +232,7 @@ class Bench:
     tools: linked.Tools
     seconds: float
     is_quick: bool
+    only: list
     report: Report
 
 
@@ -248,8 +250,13 @@ def cases(is_quick):
             for rate in (100, 1000, 10000, 0) for has_cuts in (False, True)]
 
 
+def chosen(cases, only):
+    """The cases that have each of these texts."""
+    return [case for case in cases if all(text in case.told() for text in only)]
+
+
 def measure_doubles(bench):
-    for case in cases(bench.is_quick):
+    for case in chosen(cases(bench.is_quick), bench.only):
         with opened(bench.program, bench.tools, case) as group:
             bench.report.add("one key", case.told(), run(group, case, bench.seconds, each_alone(case)))
 
@@ -308,74 +315,11 @@ def measure_effects(bench):
 PARTS = {"doubles": measure_doubles, "keys": measure_keys, "one": measure_one, "effects": measure_effects}
 
 
-# the bench tried itself
-
-class Plain(Group):
-    """Plain servers that know nothing of each other: so many, each reached at so many places."""
-
-    def __init__(self, tools, count, places):
-        super().__init__(tools)
-        try:
-            ports = served.free_ports(count)
-            for server, port in enumerate(ports):
-                self.started(server, linked.redis_words(port, self.folder))
-                linked.answers(port)
-            self.ports, self.writable = ports * places, list(range(count))
-        except BaseException:
-            self.held.close()
-            raise
-
-
-def pop_all(group, places):
-    """What workers pop until there is nothing left."""
-    with Workers(group, "ZPOPMIN", places) as workers:
-        has_run_dry(group, [JOBS])
-        return workers.stop()
-
-
-def try_doubles(tools):
-    """What is found of plain servers otherwise than it has to be."""
-    found = []
-    with Plain(tools, 2, 1) as group:
-        for server in (0, 1):
-            group.fill(500, server, JOBS)
-        came = judged(pop_all(group, [(0, [JOBS]), (1, [JOBS])]), 500)
-        if came != {"pops": 1000, "jobs": 500, "doubles": 500, "lost": 0, "effects": 500}:
-            found.append(f"two servers apart with 500 jobs each: {came}")
-        if judged([[b"a", b"b"], [b"b"]], 3) != {"pops": 3, "jobs": 3, "doubles": 1, "lost": 1, "effects": 2}:
-            found.append("pops are counted otherwise")
-    with Plain(tools, 1, 2) as group:
-        group.fill(500, 0, JOBS)
-        came = judged(pop_all(group, [(0, [JOBS]), (1, [JOBS])]), 500)
-        if came != {"pops": 500, "jobs": 500, "doubles": 0, "lost": 0, "effects": 500}:
-            found.append(f"two workers at one server with 500 jobs: {came}")
-    return found
-
-
-def try_keys(tools):
-    """What a worker does otherwise than it was told."""
-    found = []
-    with Plain(tools, 1, 1) as group, Workers(group, "ZPOPMIN", [(0, [key_of(0)])]) as workers, Client(group.ports[0]) as client:
-        group.fill(50, 0, key_of(1))
-        workers.children[0].tell(key_of(1).decode())
-        if not has_run_dry(group, [key_of(1)]):
-            found.append("a worker that was given a key leaves it")
-        workers.children[0].tell("-" + key_of(1).decode())
-        group.fill(50, 0, key_of(1))
-        group.fill(50, 0, key_of(0))
-        if not has_run_dry(group, [key_of(0)]):
-            found.append("a worker leaves its first key")
-        if client.ask(b"ZCARD", key_of(1)) != b":50\r\n":
-            found.append("a worker takes of a key that it was to leave")
-        if len(workers.stop()[0]) != 100:
-            found.append("a worker does not tell what it popped")
-    return found
-
-
 def main():
     words = argparse.ArgumentParser(description=__doc__, formatter_class=argparse.RawDescriptionHelpFormatter)
     words.add_argument("--quick", action="store_true", help="a few runs of a second")
     words.add_argument("--seconds", type=float, help="for which jobs are added in a run (4)")
+    words.add_argument("--only", action="append", default=[], metavar="TEXT", help="of `doubles` the runs whose case has this text")
     words.add_argument("--json", type=pathlib.Path, metavar="FILE", help="keeps the runs there")
     words.add_argument("--program", type=pathlib.Path, help="in place of the one that is proved and built here")
     words.add_argument("--self-test", action="store_true")
@@ -386,17 +330,16 @@ def main():
             words.error(f"{part}: no such part")
     for name in (signal.SIGTERM, signal.SIGHUP):
         signal.signal(name, lambda number, _: sys.exit(128 + number))
+    if options.self_test:
+        found = jobs_tried.faults()
+        for line in found:
+            print(f"jobs: {line}", file=sys.stderr)
+        return 1 if found else 0
     with tempfile.TemporaryDirectory() as folder:
         tools = linked.Tools(folder)
-        if options.self_test:
-            linked.needed()
-            found = try_doubles(tools) + try_keys(tools)
-            for line in found:
-                print(f"jobs: {line}", file=sys.stderr)
-            return 1 if found else 0
         program = options.program.resolve() if options.program else served.built()
         seconds = options.seconds or (1 if options.quick else 4)
-        bench = Bench(program, tools, seconds, options.quick, Report())
+        bench = Bench(program, tools, seconds, options.quick, options.only, Report())
         for part in options.parts or PARTS:
             try:
                 PARTS[part](bench)

@@ -15,10 +15,13 @@ that delays and counts what they carry. Sites have 4 heaps and 2 workers, keys 1
     del      a DEL of a large key with two links: the longest call of another client meanwhile, and what went over the links
 
 Usage: bench/links.py [--rows ROW[,ROW..]] [--quick | --long] [--json FILE] [--program PATH] [--no-secret]
-       bench/links.py --self-test
+       bench/links.py --self-test [--long]
 It prints a line for each figure: zqueue's, the aim, redis-server's, and which part of the processors' time was idle meanwhile, zqueue's
 run first; and at the end which aims were missed. Where next to nothing was idle the figures tell of the machine. An aim of a time
 holds beside the delay of the link, which is said for each way. Needs a C compiler and redis-server.
+
+The self-test tries what is made of readings by hand, and what the relay counts, where there is a C compiler. With --long it also tries
+the relay's delays and rates, and writers and probes over redis-server; then an idle machine is needed.
 """
 import argparse
 import contextlib
@@ -32,6 +35,7 @@ import threading
 import time
 
 import linked
+import links_reckoned
 import links_tried
 import served
 from apart import Client
@@ -520,7 +524,7 @@ def main():
     words = argparse.ArgumentParser(description=__doc__, formatter_class=argparse.RawDescriptionHelpFormatter)
     words.add_argument("--rows", type=rows, default=list(ROWS), help="between commas: " + " ".join(ROWS))
     words.add_argument("--quick", action="store_true", help="short forms")
-    words.add_argument("--long", action="store_true", help="a peer that takes nothing for 600 seconds")
+    words.add_argument("--long", action="store_true", help="a peer that takes nothing for 600 seconds; a longer self-test")
     words.add_argument("--json", type=pathlib.Path, metavar="FILE", help="keeps the figures there")
     words.add_argument("--program", type=pathlib.Path, help="in place of the one that is proved and built here")
     words.add_argument("--no-secret", action="store_true", help="between the sites")
@@ -528,14 +532,14 @@ def main():
     options = words.parse_args()
     for name in (signal.SIGTERM, signal.SIGHUP):
         signal.signal(name, lambda number, _: sys.exit(128 + number))
+    if options.self_test:
+        found = links_reckoned.faults() + links_tried.faults(options.long)
+        for line in found:
+            print(f"links: {line}", file=sys.stderr)
+        return 1 if found else 0
     linked.needed()
     with tempfile.TemporaryDirectory() as folder:
         tools = linked.Tools(folder)
-        if options.self_test:
-            found = links_tried.faults(tools)
-            for line in found:
-                print(f"links: {line}", file=sys.stderr)
-            return 1 if found else 0
         program = options.program.resolve() if options.program else served.built()
         bench = Bench(program, tools, Sizes(options.quick, options.long), None if options.no_secret else linked.SECRET)
         for row in options.rows:

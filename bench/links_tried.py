@@ -2,11 +2,15 @@
 replica."""
 import contextlib
 import random
+import shutil
 import signal
 import socket
+import sys
+import tempfile
 import threading
 import time
 
+import linked
 from apart import Client
 from linked import KEY, Idle, Relay, Replicated
 
@@ -78,18 +82,18 @@ WANTED = {"out": {"operations": 70003, "unread": 0, "frames.5": 1, "frames.2": 2
           "back": {"operations": 5, "unread": 0, "frames.7": 2, "frames.2": 2, "bytes.7": 7 + 13, "bytes": len(BY_SECRET)}}
 
 
-def try_counters(tools):
-    """What the relay counts otherwise than it has to."""
-    found = []
+def try_counters(tools, more=b""):
+    """What the relay counts otherwise than it has to, where one side says so much more than is said of it."""
+    found, openly = [], OPENLY + more
     with Echo(BY_SECRET) as echo, Relay(tools, [echo.port], 0.001) as relay:
         with socket.create_connection(("127.0.0.1", relay.ports[0])) as link:
-            in_pieces(link, OPENLY)
+            in_pieces(link, openly)
             if took(link, len(BY_SECRET)) != BY_SECRET:
                 found.append("what is sent back does not come as it was")
             end = time.monotonic() + 5
-            while (not echo.heard or len(echo.heard[0]) < len(OPENLY)) and time.monotonic() < end:
+            while (not echo.heard or len(echo.heard[0]) < len(openly)) and time.monotonic() < end:
                 time.sleep(0.01)
-        if not echo.heard or bytes(echo.heard[0]) != OPENLY:
+        if not echo.heard or bytes(echo.heard[0]) != openly:
             found.append("what is sent does not come as it was")
         counted = relay.counters()
         if not counted.are_known():
@@ -232,9 +236,21 @@ def try_clients(tools):
     return found
 
 
-def faults(tools):
-    """All of it."""
-    found = try_counters(tools) + try_carrying(tools) + try_clients(tools)
+def faults(is_long):
+    """What is found where there is a C compiler: of what the relay counts, and where it is asked for also of what it carries, and of
+    writers and probes."""
+    if shutil.which("cc") is None and not is_long:
+        print("links: there is no C compiler (cc), so the relay is not tried", file=sys.stderr)
+        return []
+    if is_long:
+        linked.needed()
+    with tempfile.TemporaryDirectory() as folder:
+        tools = linked.Tools(folder)
+        found = try_counters(tools)
+        found += [] if try_counters(tools, framed(ops(3, 200))) else ["operations that go once more are not counted"]
+        if not is_long:
+            return found
+        found += try_carrying(tools) + try_clients(tools)
     with Idle() as idle:
         time.sleep(0.2)
     return found + ([] if 0 <= idle.share <= 1 else [f"the idle share is {idle.share}"])

@@ -1,9 +1,10 @@
 #!/usr/bin/env python3
 """Plays drawn worlds of sites that push to each other, by `mesh_trials`, on all processors, and prints the seed of each
 world that goes wrong, and what is wrong with it, and then the sums of what was counted. The status is 1 where a world went
-wrong. A world is played alone by `mesh_trials 1 SEED`.
+wrong. A world is played alone by `mesh_trials 1 SEED`. With --record the sums go to bench/results/meshes.csv, of this form of
+the code, as "proved program".
 
-Usage: bench/meshes.py [--worlds N] [--first SEED] [--jobs N] [--program PATH]
+Usage: bench/meshes.py [--worlds N] [--first SEED] [--jobs N] [--record FORM] [--program PATH]
        bench/meshes.py --self-test
 """
 import argparse
@@ -11,8 +12,9 @@ import multiprocessing
 import pathlib
 import subprocess
 import sys
-import tempfile
 
+import meshes_tried
+import recording
 import served
 
 # How many worlds a process plays.
@@ -21,16 +23,6 @@ SHARE = 1000
 GREATEST = "the most beats"
 # The line that says how many worlds went wrong.
 WRONG = "worlds that went wrong"
-# A program in the place of `mesh_trials`: its first worlds are one that went wrong, and it fails from seed 9000 on.
-STAND_IN = """#!/bin/sh
-[ "$2" -lt 9000 ] || exit 2
-wrong=0
-if [ "$2" = 0 ]; then echo "seed 7: a gap before 3: 4"; wrong=1; fi
-echo "worlds: $1"
-echo "the most beats: $(($2 / 1000))"
-echo "worlds that went wrong: $wrong"
-exit $wrong
-"""
 
 
 def play(share):
@@ -62,23 +54,15 @@ def play_all(program, first, worlds, jobs, tell):
     return sums
 
 
-def self_test():
-    """What is wrong with what is made of a program's words: of a world that went wrong, of shares, and of a program that fails."""
-    found, told = [], []
-    with tempfile.TemporaryDirectory() as folder:
-        program = pathlib.Path(folder) / "mesh_trials"
-        program.write_text(STAND_IN)
-        program.chmod(0o755)
-        sums = play_all(program, 0, 2500, 2, told.append)
-        found += [] if told == ["seed 7: a gap before 3: 4"] else [f"told of a world that went wrong: {told}"]
-        found += [] if sums == {"worlds": 2500, GREATEST: 2, WRONG: 1} else [f"sums of three shares: {sums}"]
-        try:
-            play_all(program, 8500, 1000, 1, told.append)
-            play_all(program, 9000, 1, 1, told.append)
-            found.append("a program that fails is taken for one that played")
-        except RuntimeError:
-            pass
-    return found
+def figures(first, worlds, sums):
+    """The sums of so many worlds as figures."""
+    units = {GREATEST: "seconds that are played"}
+    return [(f"{worlds:,} worlds from {first} on", name, number, units.get(name, ""), "") for name, number in sums.items()]
+
+
+def status(sums, worlds):
+    """0 where so many worlds were played, and none of them went wrong."""
+    return 0 if sums.get(WRONG) == 0 and sums.get("worlds") == worlds else 1
 
 
 def main():
@@ -86,11 +70,12 @@ def main():
     reader.add_argument("--worlds", type=int, default=100_000)
     reader.add_argument("--first", type=int, default=1_000_000)
     reader.add_argument("--jobs", type=int, default=multiprocessing.cpu_count())
+    reader.add_argument("--record", metavar="FORM")
     reader.add_argument("--program", type=pathlib.Path)
     reader.add_argument("--self-test", action="store_true")
     given = reader.parse_args()
     if given.self_test:
-        found = self_test()
+        found = meshes_tried.faults()
         for line in found:
             print(f"meshes: {line}", file=sys.stderr)
         return 1 if found else 0
@@ -98,7 +83,9 @@ def main():
     sums = play_all(program, given.first, given.worlds, given.jobs, lambda line: print(line, flush=True))
     for name, number in sums.items():
         print(f"{name}: {number}")
-    return 1 if sums.get(WRONG) else 0
+    if given.record:
+        recording.record("meshes.csv", given.record, figures(given.first, given.worlds, sums))
+    return status(sums, given.worlds)
 
 
 if __name__ == "__main__":
