@@ -1,6 +1,6 @@
 -- The vector of a book, counted down over its newest records, and what a vector that covers the count lacks of the older ones.
 
-use Rattle.std.proofs.Common.{List, Option, [], ap, arith, drop, get_or, get_or-set_same, inl, inr, length, length-set, map, refl, subst, suc, sym, take, true, zero, ℕ, ◌++◌, ◌-◌, ◌<◌, ◌∙◌, ◌∷◌, ◌≡◌, ◌≤◌}
+use Rattle.std.proofs.Common.{List, Option, [], ap, arith, drop, get_or, get_or-set_same, inl, inr, length, length-set, map, refl, subst, suc, sym, take, true, zero, ℕ, ◌++◌, ◌-◌, ◌<◌, ◌∙◌, ◌∷◌, ◌≡◌, ◌≤◌, ◌⊎◌}
 use Rattle.std.proofs.lemmas.Bool.{and_parts, cases_lt}
 use Rattle.std.proofs.lemmas.List.{length-drop, map-append, take-append-drop}
 use Rattle.std.proofs.lemmas.List.Elements.{All-drop, All-head, All-tail, filter-append}
@@ -135,19 +135,27 @@ missing-parts n w records =
 -- ---- the records of a book, from the place n on, over its vector counted down to there
 
 module _ (s : HeapImage) (base : List ℕ) (tail : List code.Record) (limits : TailLimits) (handed : Option ℕ) (stamp count : ℕ) (is : IsStanding s base (records_in s base tail) limits handed stamp count) (h K n : ℕ)
-    (last seen : List ℕ) (heap : h ≡ s.heap) (heaps : K ≡ s.heaps) (last_is : last ≡ s.image.vector) (under : seen ≡ vector_under s.heap s.heaps last (drop n tail)) where
+    (last seen : List ℕ) (heap : h ≡ s.heap) (heaps : K ≡ s.heaps) (last_is : last ≡ s.image.vector)
+    (counted_to : (seen ≡ vector_over s.heap s.heaps base (take n tail)) ⊎ (seen ≡ vector_under s.heap s.heaps last (drop n tail))) where
   all_new : AreNewOver s.heap s.heaps base tail
   all_new = new_over s.heap s.heaps base tail (book_over s base (leaves_of (records_in s base tail)) limits handed stamp count).base refl is.each is.book.steps
 
   abbrev before : List ℕ
   before = vector_over s.heap s.heaps base (take n tail)
 
-  -- the count is the vector before them
-  seen_is : seen ≡ before
-  seen_is =
+  counted_down : seen ≡ vector_under s.heap s.heaps last (drop n tail) → seen ≡ before
+  counted_down under =
       under
       ∙ ap (λ v. vector_under s.heap s.heaps v (drop n tail)) (last_is ∙ state_vector s base tail limits handed stamp count is.book ∙ sym (vector_parts n s.heap s.heaps base tail))
       ∙ counted_back s.heap s.heaps before (drop n tail) (new_rest n s.heap s.heaps base tail all_new)
+
+  -- counted up or down, it is the vector before them
+  seen_is : seen ≡ before
+  seen_is =
+      elim counted_to [
+        | inl over ↦ over
+        | inr under ↦ counted_down under
+      ]
 
   rest_is : records_over h K seen (drop n tail) ≡ drop n (records_in s base tail)
   rest_is =

@@ -2,7 +2,7 @@
 
 use Rattle.std.proofs.Common.{List, [], ap, arith, drop, false, get_or, get_or-set_other, get_or-set_same, inl, inr, length, refl, slice_set, subst, suc, sym, take, true, zero, ℕ, ◌+◌, ◌++◌, ◌-◌, ◌<◌, ◌∙◌, ◌∷◌, ◌≡◌, ◌≤◌}
 use Rattle.std.proofs.lemmas.Bool.{cases_Bool, cases_eq, cases_lt}
-use Rattle.std.proofs.lemmas.List.{get_or_past, length-map}
+use Rattle.std.proofs.lemmas.List.{get_or_past, length-map, length-set}
 use Rattle.std.specs.Prelude.{cond, if◌then◌else◌, not, slice_index}
 use Rattle.zq_journal.proofs.Missing.{operation_is}
 use Rattle.zq_journal.proofs.Replays.{length_written}
@@ -11,6 +11,7 @@ use Rattle.zq_journal.specs.Records.{AreCounted, LacksFirst, Record, change_of, 
 use Rattle.zq_journal.specs.declared.records.Record as code
 use Rattle.zq_model.specs.Books.{operation_of, operations_of}
 use Rattle.zq_model.specs.Operation.{Operation, has}
+use Rattle.zq_model.proofs.Dots.{has_parts}
 use Rattle.zq_model.proofs.Taken.{covers_at, covers_from}
 use Rattle.zq_model.specs.Sets.{SITES, covers}
 use Rattle.zq_model.specs.Tail.{lacking, lacking_from}
@@ -48,6 +49,30 @@ covers_after v after s n positive counted other covered =
         elim (cases_lt s (length after)) [
           | inl below ↦ below
           | inr past ↦ (let none : get_or after s 0 ≡ 0 = get_or_past after s 0 past in absurd (omega (arith, none, counted, positive)))
+        ]
+
+-- what covers a vector covers it too with a counter that it has
+pub covers_had : (v seen : List ℕ) (s n : ℕ) → has v s n ≡ true → covers v seen ≡ true → covers v (slice_set seen s n) ≡ true
+covers_had v seen s n had covered =
+    let after : List ℕ = slice_set seen s n in
+    covers_from v after (λ t below.
+    elim (cases_eq t s) [
+      | inl same ↦ subst (λ r. slice_index after r ≤ slice_index v r) (sym same) (own after refl)
+      | inr apart ↦ (
+          let kept : get_or after t 0 ≡ get_or seen t 0 = get_or-set_other seen s t n 0 apart in
+          let least = covers_at v seen t covered below in
+          omega (arith, kept, least))
+    ])
+  where
+    own : (after : List ℕ) → after ≡ slice_set seen s n → slice_index after s ≤ slice_index v s
+    own after is =
+        elim (cases_lt s (length seen)) [
+          | inl within ↦ (
+              let set : get_or after s 0 ≡ n = ap (λ u. get_or u s 0) is ∙ get_or-set_same seen s n 0 within in
+              omega (arith, set, (has_parts v s n had).1))
+          | inr past ↦ (
+              let none : get_or after s 0 ≡ 0 = get_or_past after s 0 (omega (arith, ap length is, length-set seen s n, past)) in
+              omega (arith, none))
         ]
 
 -- older records of which the vector lacks none say nothing of where what it lacks begins

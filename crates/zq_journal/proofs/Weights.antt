@@ -1,6 +1,6 @@
 -- The bytes of the keys and members of records.
 
-use Rattle.std.proofs.Common.{List, [], ap, arith, drop, drop-cons, get_or, length, refl, subst, suc, sym, true, false, ℕ, ◌+◌, ◌++◌, ◌<◌, ◌∙◌, ◌∷◌, ◌≡◌, ◌≤◌}
+use Rattle.std.proofs.Common.{List, [], ap, arith, drop, drop-cons, get_or, length, max, min, refl, suc, sym, true, ℕ, ◌+◌, ◌++◌, ◌<◌, ◌∙◌, ◌∷◌, ◌≡◌, ◌≤◌}
 use Rattle.std.proofs.lemmas.Bool.Decides.{nat_tests}
 use Rattle.std.proofs.lemmas.List.Sums.{sum_by-append}
 use Rattle.std.specs.Prelude.{if◌then◌else◌, nat_le}
@@ -53,3 +53,7 @@ none_cut most (r ∷ records) light =
 pub bytes_more : (records : List code.Record) (r : code.Record) → bytes_kept_in (records ++ r ∷ []) ≡ bytes_kept_in records + bytes_kept r.what
 bytes_more [] r = omega arith
 bytes_more (q ∷ records) r = omega (arith, bytes_more records r)
+
+-- a cut that takes no more than all looks for what is heavy among those alone that may go
+pub cut_once : (n most long heavy : ℕ) → min most (max long heavy) ≤ n → min (max long (min (min n most) heavy)) (min n most) ≡ min most (max long heavy)
+cut_once n most long heavy within = omega arith

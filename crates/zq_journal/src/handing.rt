@@ -58,13 +58,23 @@ impl Book {
                 newest: self.tail.len(),
             });
         }
-        let start = Start::of(&self.tail, self.shard.vector(), vector);
+        let last = self.shard.vector();
+        let start = Start::of(&self.tail, &self.vector, last, vector, self.is_mostly_new());
         let (heap, heaps) = (self.shard.heap(), self.shard.heaps());
         let ops = missing(alloc, heap, heaps, &start, &self.tail, vector, most)?;
         Ok(FirstSince {
             since: Since::Ops(ops),
             newest: self.tail.len() - start.place,
         })
+    }
+
+    /// Whether more of its records were made since the last that it knows to be handed on than
+    /// before. Who hands on lacks these, and finds the oldest of them sooner from the oldest on.
+    fn is_mostly_new(&self) -> bool {
+        match self.handed {
+            None => false,
+            Some(handed) => self.count.saturating_sub(handed) > self.tail.len() as u64 / 2,
+        }
     }
 
     /// Whether it knows already that all its steps were handed on but those that made its newest

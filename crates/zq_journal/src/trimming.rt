@@ -1,7 +1,7 @@
 //! How a call cuts a book's tail.
-ghost use Rattle.std.specs.Prelude.{◌≡◌, [], length};
+ghost use Rattle.std.specs.Prelude.{◌≡◌, ◌≤◌, [], length, min};
 ghost use Rattle.zq_model.specs.Books.{advanced};
-ghost use Rattle.zq_model.specs.Reach.{IsReachedBy, cut_by_bytes, cut_by_length, cut_of};
+ghost use Rattle.zq_model.specs.Reach.{IsReachedBy, cut_at_most, cut_by_bytes, cut_by_length, cut_of};
 ghost use Rattle.zq_journal.specs.Records.{bytes_kept_in, cut_kept};
 
 use crate::book::Book;
@@ -35,12 +35,23 @@ impl Book {
     {
         // For the proof: a cut takes records of the tail alone.
         cutting();
-        let long = self.cut_by_length().max(self.cut_by_bytes());
+        let most = self.most_cut();
+        let long = self.cut_by_length().max(self.cut_by_bytes(most));
+        long.min(most)
+    }
+
+    /// How many of the oldest records may go: those of them that were handed on, where that is asked.
+    #[inline(always)]
+    fn most_cut(&self) -> usize
+        ensures { result ≡ min (length self.now.tail)
+            (cut_at_most self.now.handed self.now.count (length self.now.tail)) }
+    {
+        let records = self.tail_len();
         match self.handed {
-            None => long,
+            None => records,
             Some(handed) => {
-                let before = self.count() - self.tail_len() as u64;
-                (long as u64).min(handed.saturating_sub(before)) as usize
+                let before = self.count() - records as u64;
+                (records as u64).min(handed.saturating_sub(before)) as usize
             }
         }
     }
@@ -58,30 +69,33 @@ impl Book {
         }
     }
 
-    /// How many go where they have too many bytes.
+    /// How many go where they have too many bytes, of the oldest, so many.
     #[inline(always)]
-    fn cut_by_bytes(&self) -> usize
-        ensures { result ≡ cut_by_bytes self.now.limits.bytes self.now.tail }
+    fn cut_by_bytes(&self, oldest: usize) -> usize
+        requires { oldest ≤ length self.now.tail }
+        ensures { result ≡ min oldest (cut_by_bytes self.now.limits.bytes self.now.tail) }
     {
         match self.limits.bytes {
             None => 0,
-            Some(most) => cut_to_bytes(&self.tail, self.bytes, most),
+            Some(most) => cut_to_bytes(&self.tail, self.bytes, most, oldest),
         }
     }
 }
 
 /// How many of the oldest records go, of a tail of so many bytes, so that the keys and members of
-/// the rest have at most `most`. It looks at no others.
-fn cut_to_bytes(tail: &VecDeque<Record>, bytes: u128, most: u64) -> usize
-    requires { bytes ≡ bytes_kept_in tail.now.items }
-    ensures { result ≡ cut_kept most tail.now.items }
+/// the rest have at most `most`; or all of the oldest, so many, where that is not enough. It looks
+/// at no others.
+fn cut_to_bytes(tail: &VecDeque<Record>, bytes: u128, most: u64, oldest: usize) -> usize
+    requires bytes { bytes ≡ bytes_kept_in tail.now.items }
+    requires oldest { oldest ≤ length tail.now.items }
+    ensures { result ≡ min oldest (cut_kept most tail.now.items) }
 {
     let mut left = bytes;
-    for place in 0..tail.len() {
+    for place in 0..oldest {
         if left <= u128::from(most) {
             return place;
         }
         left -= u128::from(tail[place].what.bytes());
     }
-    tail.len()
+    oldest
 }

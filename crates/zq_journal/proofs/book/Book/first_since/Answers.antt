@@ -1,4 +1,4 @@
-use Rattle.std.proofs.Common.{ap, arith, length, map, rules, subst, sym, take, true, true≢false, ℕ, ◌-◌, ◌∙◌, ◌≡◌}
+use Rattle.std.proofs.Common.{ap, arith, length, map, rules, subst, sym, take, true, true≢false, ℕ, ◌-◌, ◌<◌, ◌∙◌, ◌≡◌}
 use Rattle.std.specs.List.{take-map}
 use Rattle.std.specs.List.{All}
 use Rattle.std.proofs.lemmas.List.Elements.{All-filter, All-map, All-same, All-take, All-weaker}
@@ -18,11 +18,20 @@ use Rattle.zq_model.specs.Tail.{lacking, lacking_from}
 use Rattle.zq_shard.specs.Shard.{HeapImage, IsOfHeap}
 use Rattle.zq_journal.proofs.book.Book.first_since.Goals as goal
 
+-- what it begins with covers the base
+base_within : (c : goal.After-len-2) → covers c.args.vector.now c.self.inside.vector ≡ true
+base_within c =
+    let tested : c.covers.result ≡ true = search rules in
+    sym c.covers.ensures.value ∙ tested
+
+of_covered : (c : goal.After-len-2) → 0 < c.of-start.result.place → covers c.args.vector.now c.of-start.result.seen ≡ true
+of_covered c = c.of-start.ensures.covered (base_within c)
+
 pub missing-requires : goal.missing-requires
 missing-requires c =
     let s : HeapImage = c.self.inside.shard in
     rest_each s c.self.inside.vector c.self.inside.tail.items (limits_of c.self.inside.limits) c.self.inside.handed c.self.inside.stamp c.self.inside.count c.self.invariant.standing
-    c.heap-heap.result c.heaps-heaps.result c.of-start.result.place c.vector.result.now c.of-start.result.seen c.heap-heap.ensures.same c.heaps-heaps.ensures.same c.vector.ensures.same
+    c.heap-heap.result c.heaps-heaps.result c.of-start.result.place c.vector-last.result.now c.of-start.result.seen c.heap-heap.ensures.same c.heaps-heaps.ensures.same c.vector-last.ensures.same
     (c.of-start.ensures.seen s.heap s.heaps)
 
 -- they are what is lacked of all records
@@ -31,8 +40,8 @@ all_missing c =
     let s : HeapImage = c.self.inside.shard in
     c.in_ok-ops.ensures
     ∙ ap (take c.args.most) (missing_from s c.self.inside.vector c.self.inside.tail.items (limits_of c.self.inside.limits) c.self.inside.handed c.self.inside.stamp c.self.inside.count c.self.invariant.standing
-    c.heap-heap.result c.heaps-heaps.result c.of-start.result.place c.vector.result.now c.of-start.result.seen c.heap-heap.ensures.same c.heaps-heaps.ensures.same c.vector.ensures.same
-    (c.of-start.ensures.seen s.heap s.heaps) c.args.vector.now c.of-start.ensures.covered)
+    c.heap-heap.result c.heaps-heaps.result c.of-start.result.place c.vector-last.result.now c.of-start.result.seen c.heap-heap.ensures.same c.heaps-heaps.ensures.same c.vector-last.ensures.same
+    (c.of-start.ensures.seen s.heap s.heaps) c.args.vector.now (of_covered c))
 
 pub returns-clause-ops : goal.returns-clause-ops
 returns-clause-ops c =
@@ -55,13 +64,13 @@ returns-clause-placed c =
     (All-map P (λ r. placed_in r.what) (records_of c.self.inside) here)))
 
 -- the vector covers the base's, which is the count over all records
-base_covered : (c : goal.After-len-2) → covers c.args.vector.now (vector_under c.self.inside.shard.heap c.self.inside.shard.heaps c.vector.result.now c.self.inside.tail.items) ≡ true
+base_covered : (c : goal.After-len-2) → covers c.args.vector.now (vector_under c.self.inside.shard.heap c.self.inside.shard.heaps c.vector-last.result.now c.self.inside.tail.items) ≡ true
 base_covered c =
     let s : HeapImage = c.self.inside.shard in
     let tested : c.covers.result ≡ true = search rules in
     ap (covers c.args.vector.now)
     (base_counted s c.self.inside.vector c.self.inside.tail.items (limits_of c.self.inside.limits) c.self.inside.handed c.self.inside.stamp c.self.inside.count c.self.invariant.standing
-    c.heap-heap.result c.heaps-heaps.result c.of-start.result.place c.vector.result.now c.of-start.result.seen c.heap-heap.ensures.same c.heaps-heaps.ensures.same c.vector.ensures.same
+    c.heap-heap.result c.heaps-heaps.result c.of-start.result.place c.vector-last.result.now c.of-start.result.seen c.heap-heap.ensures.same c.heaps-heaps.ensures.same c.vector-last.ensures.same
     (c.of-start.ensures.seen s.heap s.heaps))
     ∙ sym c.covers.ensures.value ∙ tested
 
@@ -69,12 +78,12 @@ pub returns-clause-newest : goal.returns-clause-newest
 returns-clause-newest c =
     let s : HeapImage = c.self.inside.shard in
     let counted = all_counted s c.self.inside.vector c.self.inside.tail.items (limits_of c.self.inside.limits) c.self.inside.handed c.self.inside.stamp c.self.inside.count c.self.invariant.standing
-    c.heap-heap.result c.heaps-heaps.result c.of-start.result.place c.vector.result.now c.of-start.result.seen c.heap-heap.ensures.same c.heaps-heaps.ensures.same c.vector.ensures.same
+    c.heap-heap.result c.heaps-heaps.result c.of-start.result.place c.vector-last.result.now c.of-start.result.seen c.heap-heap.ensures.same c.heaps-heaps.ensures.same c.vector-last.ensures.same
     (c.of-start.ensures.seen s.heap s.heaps) in
     let first = c.of-start.ensures.lacked s.heap s.heaps counted (base_covered c) in
     let left = lacking_from-left s c.self.inside.vector c.self.inside.tail.items (limits_of c.self.inside.limits) c.self.inside.handed c.self.inside.stamp c.self.inside.count c.self.invariant.standing
-    c.heap-heap.result c.heaps-heaps.result c.of-start.result.place c.vector.result.now c.of-start.result.seen c.heap-heap.ensures.same c.heaps-heaps.ensures.same c.vector.ensures.same
-    (c.of-start.ensures.seen s.heap s.heaps) c.args.vector.now c.of-start.ensures.covered first in
+    c.heap-heap.result c.heaps-heaps.result c.of-start.result.place c.vector-last.result.now c.of-start.result.seen c.heap-heap.ensures.same c.heaps-heaps.ensures.same c.vector-last.ensures.same
+    (c.of-start.ensures.seen s.heap s.heaps) c.args.vector.now (of_covered c) first in
     ap (λ n. n - c.of-start.result.place) (c.len-2.ensures ∙ c.self.inside.tail.ok.0)
     ∙ sym left
     ∙ ap (λ (b : Book). lacking_from c.args.vector.now (operations_of b.tail)) c.self.view_is

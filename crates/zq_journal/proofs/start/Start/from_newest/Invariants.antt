@@ -1,7 +1,7 @@
 use Rattle.std.proofs.Common.{drop, length, true, ℕ, ◌-◌, ◌≡◌}
 use Rattle.zq_journal.specs.Records.{AreCounted, vector_under}
 use Rattle.zq_model.specs.Sets.{covers}
-use Rattle.zq_journal.proofs.start.Start.of.Given as goal
+use Rattle.zq_journal.proofs.start.Start.from_newest.Given as goal
 
 abbrev pub invariant-loop-newer : goal.invariant-loop-newer
 invariant-loop-newer l = record {
