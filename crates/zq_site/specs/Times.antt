@@ -34,7 +34,7 @@ stepping = 4 * 1_000_000
 
 -- calls are gathered for so long before their operations are pushed
 abbrev pub gathering : ℕ
-gathering = 200 * 1_000
+gathering = 1_000_000
 
 -- where nothing came to be sent over a link for so long a heartbeat is sent
 abbrev pub heartbeat : ℕ

@@ -68,11 +68,11 @@ pub fn stepping() -> Duration
     Duration::from_millis(4)
 }
 
-/// For how long calls are gathered before their operations are pushed: 200 microseconds.
+/// For how long calls are gathered before their operations are pushed: a millisecond.
 pub fn gathering() -> Duration
     ensures { as_nanos result ≡ wanted.gathering }
 {
-    Duration::from_micros(200)
+    Duration::from_millis(1)
 }
 
 /// After what time in which nothing came to be sent over a link a heartbeat is sent: 6 seconds.
