@@ -13,6 +13,11 @@ abbrev pub AreOpsOf : Vec ℕ Global → Vec ℕ Global → Type 0
 AreOpsOf frame bytes = (ops : List Placed) → All IsRanged ops → length ops < 2 ^ 32 →
     frame.items ≡ frame_spelling (newest (OfOps ops)) → IsOneOf (OfOps ops) bytes.items
 
+-- a frame of operations, and how it is spelt
+pub record SpeltFrame : Type 0 where
+  pub frame : Vec ℕ Global
+  pub bytes : Vec ℕ Global
+
 -- the operations of the frame, if there is one, came behind what goes to peers, to this one
 abbrev pub HasPut : ℕ → Option (Vec ℕ Global) → List (ℕ × Vec ℕ Global) →
     List (ℕ × Vec ℕ Global) → Type 0

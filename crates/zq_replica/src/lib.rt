@@ -34,6 +34,7 @@ mod raising;
 mod replica;
 mod routing;
 mod serving;
+mod spelling;
 mod telling;
 mod told;
 mod unwritten;

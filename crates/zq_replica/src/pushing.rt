@@ -10,12 +10,13 @@ use crate::end::End;
 use crate::parcels::{Parcels, address};
 use crate::protocol::Protocol;
 use crate::replica::Replica;
+use crate::spelling::{Spelling, spelt};
 use std::alloc::Global;
 use std::sync::Wait;
 use zq_backlog::Batch;
 use zq_dots::{SITES, SiteNo};
 use zq_follow::{Follow, SiteSet, class_of};
-use zq_links::{by_differences, write_frame};
+use zq_links::write_frame;
 use zq_node::{Node, NodeFault};
 
 /// What came of pushing a heap to a peer.
@@ -165,12 +166,16 @@ impl Replica<'_> {
         batch: Batch,
         out: &mut Parcels,
     ) -> Result<(), NodeFault> {
+        let heap = usize::from(heap);
         let Some(end) = self.ends.get_mut(place) else {
             return Ok(());
         };
+        let Some(last) = self.spellings.get_mut(heap) else {
+            return Ok(());
+        };
         let peer = end.peer;
-        match end.heaps.get_mut(usize::from(heap)) {
-            Some(at_heap) => post(alloc, peer, &mut at_heap.follow, batch, out),
+        match end.heaps.get_mut(heap) {
+            Some(at_heap) => post(alloc, peer, &mut at_heap.follow, batch, last, out),
             None => Ok(()),
         }
     }
@@ -220,12 +225,14 @@ fn class_at(own: SiteNo, end: &End, sources: &[Option<SiteNo>; SITES]) -> SiteSe
     class_of(own, end.peer, &end.asked, &end.far, &reach, sources)
 }
 
-/// Puts a batch behind what goes to a peer, and only then counts it as sent there.
+/// Puts a batch behind what goes to a peer, and only then counts it as sent there. It is spelt as the
+/// last one of its heap was, where that had the same operations.
 fn post(
     alloc: Global,
     peer: SiteNo,
     follow: &mut Follow,
     batch: Batch,
+    last: &mut Option<Spelling>,
     out: &mut Parcels,
 ) -> Result<(), NodeFault>
     ensures put { OnOk result (HasPut peer batch.frame out.old.items out.new.items) }
@@ -239,7 +246,7 @@ fn post(
         next,
         ..
     } = batch;
-    put(alloc, peer, frame, out)?;
+    put(alloc, peer, frame, last, out)?;
     follow.note_pushed(sent, next);
     Ok(())
 }
@@ -250,6 +257,7 @@ fn put(
     alloc: Global,
     peer: SiteNo,
     frame: Option<Vec<u8>>,
+    last: &mut Option<Spelling>,
     out: &mut Parcels,
 ) -> Result<(), NodeFault>
     ensures put { OnOk result (HasPut peer frame out.old.items out.new.items) }
@@ -257,7 +265,7 @@ fn put(
 {
     match frame {
         Some(frame) => {
-            let bytes = by_differences(alloc, frame)?;
+            let bytes = spelt(alloc, frame, last)?;
             address(out, peer, bytes)
         }
         None => Ok(()),

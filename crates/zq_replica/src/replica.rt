@@ -12,6 +12,7 @@ use crate::gathering::Gathering;
 use crate::joining::Joining;
 use crate::lives::{Portioning, lives};
 use crate::logs::Logs;
+use crate::spelling::Spelling;
 use std::alloc::{AllocError, Global};
 use zq_dots::{Rule, SITES, SiteNo};
 use zq_follow::SiteSet;
@@ -44,6 +45,8 @@ pub struct Replica<'l> {
     pub(crate) ends: Vec<End>,
     /// For each heap, from which peer the last new operation of each site came.
     pub(crate) sources: Vec<[Option<SiteNo>; SITES]>,
+    /// For each heap, how the last frame of operations was spelt.
+    pub(crate) spellings: Vec<Option<Spelling>>,
     /// The heap that is fetched from a peer, if one is.
     pub(crate) catching: Option<Catching>,
     /// The heap that comes in pieces, as far as it came: the one that is fetched, or one that broke
@@ -83,8 +86,10 @@ impl<'l> Replica<'l> {
             ends.push(End::new(alloc, *peer, heaps)?)?;
         }
         let mut sources = Vec::new(alloc);
+        let mut spellings = Vec::new(alloc);
         for _heap in 0..heaps {
             sources.push([None; SITES])?;
+            spellings.push(None)?;
         }
         Ok(Replica {
             own,
@@ -95,6 +100,7 @@ impl<'l> Replica<'l> {
             logs,
             ends,
             sources,
+            spellings,
             catching: None,
             gathering: None,
             lives: lives(alloc, heaps, portioning.life)?,
