@@ -35,6 +35,8 @@ pub struct PeerLink {
     runs: Mutex<Runs>,
     /// Whether a thread writes the links, or is asked for.
     is_written: AtomicBool,
+    /// Whether it is waited for that the link takes more.
+    is_awaited: AtomicBool,
 }
 
 /// What became of a link that was opened.
@@ -73,6 +75,7 @@ impl PeerLink {
             changed: Condvar::new(),
             runs: Mutex::new(Runs::none()),
             is_written: AtomicBool::new(false),
+            is_awaited: AtomicBool::new(false),
         })
     }
 
@@ -124,9 +127,16 @@ impl PeerLink {
         self.state.lock(rt).link.is_some()
     }
 
-    /// Whether a link is up for which nothing waits, and to which nothing is being written.
+    /// Whether a link is up for which nothing waits, and to which nothing is being written. Where
+    /// that is not so it is waited for, as [`PeerLink::written`] says then.
     pub fn has_room<R: Wait>(&self, rt: &R) -> bool {
-        self.state.lock(rt).has_room()
+        // (noted before it is looked, so that nothing is written between both unseen)
+        self.is_awaited.store(true, Ordering::SeqCst);
+        let has_room = self.state.lock(rt).has_room();
+        if has_room {
+            self.is_awaited.store(false, Ordering::SeqCst);
+        }
+        has_room
     }
 
     /// A link is up over this stream, with this protocol, to the run of the peer that it told, in
@@ -192,9 +202,11 @@ impl PeerLink {
         unreachable!()
     }
 
-    /// What was taken for the link of this number is written.
-    pub fn written<R: Wait>(&self, rt: &R, number: u64) {
+    /// What was taken for the link of this number is written. It says whether that was waited for:
+    /// whether who asked for room last found none.
+    pub fn written<R: Wait>(&self, rt: &R, number: u64) -> bool {
         self.state.lock(rt).written(number);
+        self.is_awaited.swap(false, Ordering::SeqCst)
     }
 }
 

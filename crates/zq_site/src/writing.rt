@@ -22,15 +22,16 @@ use zq_wire::write_framed;
 /// Sends a peer the frames that wait for it, until the site ends, and a heartbeat where none came
 /// for some time: so a link is not lost where the link thread has much to do. Where a write fails
 /// the link is down. A frame for which there was no memory is dropped. Once all is written the link
-/// thread is told that the peer takes more.
+/// thread is told that the peer takes more, where it waits for that.
 pub fn write_link<L: Log + Wait + Clock>(log: &L, shared: Shared<'_>, peer_link: &PeerLink) {
     for _ in log.forever() {
         let Some(queued) = peer_link.next(log) else {
             break;
         };
         write_queued(log, shared, peer_link, &queued);
-        peer_link.written(log, queued.number);
-        shared.post.push(log);
+        if peer_link.written(log, queued.number) {
+            shared.post.push(log);
+        }
     }
 }
 
