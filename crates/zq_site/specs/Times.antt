@@ -36,6 +36,10 @@ stepping = 4 * 1_000_000
 abbrev pub gathering : ℕ
 gathering = 1_000_000
 
+-- behind a piece of each heap it is waited for so long, where one call made more
+abbrev pub spreading : ℕ → ℕ
+spreading heaps = 5 * heaps * 1_000_000
+
 -- where nothing came to be sent over a link for so long a heartbeat is sent
 abbrev pub heartbeat : ℕ
 heartbeat = seconds 6

@@ -5,13 +5,13 @@ ghost use Rattle.zq_node.specs.Node.{IsNode, IsSameHome};
 use crate::keeping::keep_site;
 use crate::post::Post;
 use crate::shared::Shared;
-use crate::times::gathering;
+use crate::times::{gathering, spreading};
 use crate::walks::Walks;
 use log::Log;
 use std::fs::File;
 use std::rt::Files;
 use std::sync::Wait;
-use std::time::Clock;
+use std::time::{Clock, Duration};
 use zq_dots::SiteNo;
 use zq_links::Message;
 use zq_node::Node;
@@ -66,8 +66,9 @@ pub(crate) fn intake_of<'a>(shared: Shared<'a>) -> Intake<'a, Post> {
 }
 
 /// Takes what is made and heard into the logs, until the site ends: at once what the first call
-/// after a rest made, and then what all made that came while some time was gathered. Between looks
-/// at the site's keys and members, where they are asked for.
+/// after a rest made, and then what all made that came while some time was gathered. What one call
+/// made that is more than a piece is taken piece by piece, with a pause behind each. Between looks at
+/// the site's keys and members, where they are asked for.
 fn drain_calls<L: Clock + Wait>(rt: &L, shared: Shared<'_>, node: &mut Node<'_>, hasher: Seeded)
     requires { IsNode node.old }
     ensures node { IsNode node.new }
@@ -75,32 +76,41 @@ fn drain_calls<L: Clock + Wait>(rt: &L, shared: Shared<'_>, node: &mut Node<'_>,
 {
     let mut calls = Incoming::new(rt, shared.mailbox);
     let mut walks = Walks::none();
+    let mut is_left = false;
     for _ in rt.forever() {
-        if let Message::Stop = calls.next() {
+        if !is_left && matches!(calls.next(), Message::Stop) {
             break;
         }
-        drain_and_look(rt, shared, node, hasher, &mut walks);
-        if shared.halt.wait(rt, gathering()) {
+        is_left = drain_and_look(rt, shared, node, hasher, &mut walks);
+        if shared.halt.wait(rt, pause_after(shared, is_left)) {
             break;
         }
     }
 }
 
-/// Takes all that was made into the logs, where a site may have peers, and looks at the next of its
-/// keys and members, where they are asked for.
+/// For how long nothing is taken after a piece of each heap, where more is left or not.
+fn pause_after(shared: Shared<'_>, is_left: bool) -> Duration {
+    if is_left {
+        spreading(shared.settings.heaps.value() as u8)
+    } else {
+        gathering()
+    }
+}
+
+/// Takes a piece of what was made into the logs, where a site may have peers, and looks at the next
+/// of its keys and members, where they are asked for. It says whether more was made.
 fn drain_and_look<L: Clock + Wait>(
     rt: &L,
     shared: Shared<'_>,
     node: &mut Node<'_>,
     hasher: Seeded,
     walks: &mut Walks,
-)
+) -> bool
     requires { IsNode node.old }
     ensures node { IsNode node.new }
     ensures home { IsSameHome node.old node.new }
 {
-    if !shared.peer_links.is_empty() {
-        intake_of(shared).drain(rt, node);
-    }
+    let is_left = !shared.peer_links.is_empty() && intake_of(shared).drain(rt, node);
     walks.go_on(rt, shared, node, hasher);
+    is_left
 }

@@ -75,6 +75,15 @@ pub fn gathering() -> Duration
     Duration::from_millis(1)
 }
 
+/// How long it is waited behind a piece of each heap, of so many, where one call made more: 5
+/// milliseconds for each. So peers take it about as fast as it comes into the logs, which drop the
+/// oldest operations where they have too many bytes.
+pub fn spreading(heaps: u8) -> Duration
+    ensures { as_nanos result ≡ wanted.spreading heaps }
+{
+    Duration::from_millis(5 * u64::from(heaps))
+}
+
 /// After what time in which nothing came to be sent over a link a heartbeat is sent: 6 seconds.
 pub fn heartbeat() -> Duration
     ensures { as_nanos result ≡ wanted.heartbeat }

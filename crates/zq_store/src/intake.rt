@@ -31,23 +31,17 @@ pub struct Intake<'a, P: Called> {
 }
 
 impl<P: Called> Intake<'_, P> {
-    /// Takes all that was made into the logs, round by round. While a round leaves too much the gate
-    /// before the site's calls is shut. What is refused memory is taken the next time.
-    pub fn drain<R: Wait>(&self, rt: &R, node: &mut Node<'_>)
+    /// Takes a piece of what each heap has made into its log, and says whether more is left. While a
+    /// round leaves too much the gate before the site's calls is shut. What is refused memory is
+    /// taken the next time.
+    pub fn drain<R: Wait>(&self, rt: &R, node: &mut Node<'_>) -> bool
         requires { IsNode node.old }
         ensures node { IsNode node.new }
         ensures home { IsSameHome node.old node.new }
     {
-        for _round in 0..u64::MAX {
-            let Ok(left) = self.drain_round(rt, node) else {
-                break;
-            };
-            if left == 0 {
-                break;
-            }
-            self.hold_calls(rt, left);
-        }
-        self.gate.set(rt, false);
+        let left = self.drain_round(rt, node).unwrap_or(0);
+        self.hold_calls(rt, left);
+        left > 0
     }
 
     /// Calls wait where so many operations are left.
