@@ -11,6 +11,7 @@ use log::Log;
 use std::fs::File;
 use std::rt::Files;
 use std::sync::Wait;
+use std::thread::Threads;
 use std::time::Clock;
 use zq_dots::SiteNo;
 use zq_links::Message;
@@ -29,7 +30,7 @@ impl Called for Post {
 /// Taking what the calls of a site's clients make, and what its link thread hears, into the logs of
 /// its heaps, and onto the disk where the site keeps a log there.
 #[derive(Drop)]
-pub struct Draining<'a, N: Files<File = File>, L: Log + Clock + Wait> {
+pub struct Draining<'a, N: Files<File = File>, L: Log + Clock + Threads + Wait + Sync> {
     /// Whose files the log is in.
     pub net: &'a N,
     pub log: &'a L,
@@ -38,7 +39,7 @@ pub struct Draining<'a, N: Files<File = File>, L: Log + Clock + Wait> {
     pub hasher: Seeded,
 }
 
-impl<N: Files<File = File>, L: Log + Clock + Wait> NodeWork for Draining<'_, N, L> {
+impl<N: Files<File = File>, L: Log + Clock + Threads + Wait + Sync> NodeWork for Draining<'_, N, L> {
     fn run(self, node: &mut Node<'_>, _others: &[SiteNo]) {
         let Draining {
             net,

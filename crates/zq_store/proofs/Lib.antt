@@ -1,2 +1,3 @@
 mod EscapedLengths
 mod Rereading
+pub mod Gathering

@@ -27,6 +27,7 @@ mod intake;
 mod keeping;
 mod kept;
 mod read_so_far;
+mod reading;
 mod recalling;
 mod restoring;
 mod room;
