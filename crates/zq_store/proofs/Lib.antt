@@ -1,3 +1,3 @@
 mod EscapedLengths
-mod Rereading
+pub mod Fronts
 pub mod Gathering

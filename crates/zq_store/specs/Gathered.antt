@@ -1,6 +1,7 @@
 -- Records that are gathered before they are read.
 
-use Rattle.std.specs.Prelude.{List, None, Ok, Vec, [], drop, map, ℕ, ◌++◌, ◌∷◌, ◌≡◌}
+use Rattle.std.specs.Prelude.{All, List, None, Ok, Vec, [], drop, flat_map, map, ℕ, ◌++◌, ◌∷◌, ◌≡◌}
+use Rattle.std.specs.declared.alloc.Global.{Global}
 use Rattle.zq_entries.specs.Entry.{entry_of}
 use Rattle.zq_entries.specs.Reading.{entry_at}
 use Rattle.zq_entries.specs.declared.entry.Entry.{Entry}
@@ -10,8 +11,8 @@ use Rattle.zq_store.specs.declared.reading.Front.{Front}
 use Rattle.zq_wal.specs.Replay.{Replayed}
 
 -- payloads that wait
-abbrev pub waits : List (Vec ℕ) → List (List ℕ)
-waits payloads = map (λ (payload : Vec ℕ). payload.items) payloads
+abbrev pub waits : List (Vec ℕ Global) → List (List ℕ)
+waits payloads = map (λ (payload : Vec ℕ Global). payload.items) payloads
 
 -- the reader has read the first of these records, and the others wait
 pub record Holds (first : Reader) (payloads : List (List ℕ)) (reader : Reader)
@@ -34,9 +35,20 @@ AreEntriesOf (payload ∷ payloads) [] = ⊥
 AreEntriesOf (payload ∷ payloads) (e ∷ entries) =
     (entry_at (drop 8 payload) ≡ Ok (entry_of e)) × AreEntriesOf payloads entries
 
-abbrev pub AreEntries : List (Vec ℕ) → List Entry → Type 0
+abbrev pub AreEntries : List (Vec ℕ Global) → List Entry → Type 0
 AreEntries payloads entries = AreEntriesOf (waits payloads) entries
 
--- where none of them is no entry
-abbrev pub IsReadUpTo : List (Vec ℕ) → Front → Type 0
+-- each of these records is an entry, where no fault was met
+abbrev pub IsReadUpTo : List (Vec ℕ Global) → Front → Type 0
 IsReadUpTo payloads front = front.fault ≡ None → AreEntries payloads front.entries.items
+
+-- it met no fault
+abbrev pub IsWhole : Front → Type 0
+IsWhole front = front.fault ≡ None
+
+abbrev pub AreWhole : List Front → Type 0
+AreWhole fronts = All IsWhole fronts
+
+-- the entries of them all
+abbrev pub entries_in : List Front → List Entry
+entries_in fronts = flat_map (λ (front : Front). front.entries.items) fronts

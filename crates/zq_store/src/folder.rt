@@ -131,7 +131,10 @@ fn read_log<'d, N: Files<File = File>, R: Threads + Wait + Sync>(
         Ok(found) => found,
         Err(error) => return Err(unread(error, &recalling.reader, &log)),
     };
-    recalling.take_gathered().map_err(of_refusal)?;
+    match recalling.take_gathered() {
+        Ok(()) => {}
+        Err(refusal) => return Err(of_refusal(refusal)),
+    }
     let Recalling { reader, .. } = recalling;
     let keeper = kept_by(alloc, found, log, &reader)?;
     Ok((keeper, reader))

@@ -28,7 +28,7 @@ pub(crate) fn read_entries<R: Threads + Sync>(
     requires { 0 < threads }
     ensures { IfOk result (λ r. r.1 ≡ None → AreEntries payloads.items r.0.items) }
 {
-    let size = payloads.len().div_ceil(threads);
+    let size = payloads.len().div_ceil(threads).max(1);
     let fronts = map_chunks(rt, alloc, payloads.as_slice(), size, &|_at: usize,
                                                                      part: &[Vec<u8>]|
      -> Front
