@@ -117,3 +117,15 @@ all_fronts size payloads fronts some many each whole =
     (λ n d within. (let from : n * size ≡ 0 + n * size = omega arith in
     subst (λ k. IsReadUpTo (take size (drop k payloads)) (slice_index_or fronts n d)) from
     (each n d within))) whole
+
+-- as a loop over the parts ends
+pub whole_read : (size : ℕ) (payloads : List (Vec ℕ Global)) (fronts done : List Front)
+    (entries : List Entry) → 0 < size →
+    length fronts ≡ length payloads / size + min 1 (length payloads % size) →
+    ((n : ℕ) (d : Front) → n < length fronts →
+    IsReadUpTo (take size (drop (n * size) payloads)) (slice_index_or fronts n d)) →
+    done ≡ fronts → entries ≡ entries_in done → AreWhole done → AreEntries payloads entries
+whole_read size payloads fronts done entries some many each all are whole =
+    subst (λ es. AreEntries payloads es) (sym are)
+    (subst (λ fs. AreEntries payloads (entries_in fs)) (sym all)
+    (all_fronts size payloads fronts some many each (subst AreWhole all whole)))

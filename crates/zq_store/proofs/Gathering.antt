@@ -151,7 +151,7 @@ one_read : (old new : Reader) (payload : List ℕ) (e : Entry) →
     Does e old.recovery.stages.items new.recovery.stages.items →
     new.recovery.identity ≡ old.recovery.identity → Reads old payload new
 one_read old new payload e read opens does identity =
-    taken {Unit {0}} {Refusal} (Ok tt) old new payload e read opens does identity
+    taken {X = Unit {0}} {F = Refusal} (Ok tt) old new payload e read opens does identity
 
 -- some records, one at least
 pub all_read : (payload : List ℕ) (payloads : List (List ℕ)) (e : Entry) (entries : List Entry)

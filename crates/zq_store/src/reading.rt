@@ -42,8 +42,9 @@ pub(crate) fn read_entries<R: Threads + Sync>(
         } = front;
         let mut more = more;
         entries.append(&mut more)?;
-        if fault.is_some() {
-            return Ok((entries, fault));
+        match fault {
+            None => {}
+            Some(_) => return Ok((entries, fault)),
         }
     }
     Ok((entries, None))
@@ -62,9 +63,12 @@ fn read_front(alloc: Global, hasher: Seeded, payloads: &[Vec<u8>]) -> Front
                 return Front { entries, fault };
             }
         };
-        if entries.push(entry).is_err() {
-            let fault = Some(Refusal::NoMemory);
-            return Front { entries, fault };
+        match entries.push(entry) {
+            Ok(()) => {}
+            Err(_) => {
+                let fault = Some(Refusal::NoMemory);
+                return Front { entries, fault };
+            }
         }
     }
     Front {

@@ -1,0 +1,8 @@
+use Rattle.std.proofs.Common.{ap, sym, ◌∙◌}
+use Rattle.zq_store.proofs.Gathering.{all_taken, gathers_all, gathers_one, kept, none_taken}
+use Rattle.zq_store.proofs.recalling.Recalling.keep.Goals as goal
+
+pub returns-clause-kept : goal.returns-clause-kept
+returns-clause-kept g c =
+    kept c.args.self.now.waiting.items _ c.in_ok-copy.copy c.args.payload.now
+    c.in_ok-push.ensures.items c.in_ok-copy.ensures.items
