@@ -78,13 +78,24 @@ fn drain_calls<L: Clock + Wait>(rt: &L, shared: Shared<'_>, node: &mut Node<'_>,
     let mut walks = Walks::none();
     let mut is_left = false;
     for _ in rt.forever() {
-        if !is_left && matches!(calls.next(), Message::Stop) {
+        if !goes_on(&mut calls, is_left) {
             break;
         }
         is_left = drain_and_look(rt, shared, node, hasher, &mut walks);
         if shared.halt.wait(rt, pause_after(shared, is_left)) {
             break;
         }
+    }
+}
+
+/// Waits for calls, unless more is left of those that came, and says whether the site goes on.
+fn goes_on<L: Wait>(calls: &mut Incoming<'_, L>, is_left: bool) -> bool {
+    if is_left {
+        return true;
+    }
+    match calls.next() {
+        Message::Stop => false,
+        _ => true,
     }
 }
 
