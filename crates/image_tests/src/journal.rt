@@ -4,6 +4,7 @@ mod calls;
 mod drawn;
 mod handing;
 mod limits;
+mod untouched;
 
 use crate::deed::Deed;
 use crate::rows::row_holds;

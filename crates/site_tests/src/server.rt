@@ -8,3 +8,4 @@ mod long;
 mod passing;
 mod plain;
 mod session;
+mod transacting;

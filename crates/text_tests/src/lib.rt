@@ -1,7 +1,12 @@
-//! Tests of what reads and writes bytes: fields, requests and replies, words, settings, streams,
-//! greetings, tags, and what waits for a peer.
+//! Tests of what reads and writes bytes: fields, requests and replies, words, other spellings of
+//! them, what a connection answers itself, settings, streams, greetings, tags, and what waits for a
+//! peer.
 #![tactic(auto)]
 
+#[cfg(test)]
+mod client;
+#[cfg(test)]
+mod dialect;
 #[cfg(test)]
 mod fields;
 #[cfg(test)]

@@ -23,8 +23,6 @@ mod options;
 mod password;
 mod profile;
 mod server;
-#[cfg(test)]
-mod tests;
 mod texts;
 mod why;
 

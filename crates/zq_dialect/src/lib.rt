@@ -24,6 +24,3 @@ mod scores;
 pub use asking::read_call;
 pub use laws::{bounds_take_the_same, further_requests, older_names, other_names, values_stay};
 pub use rewriting::rewritten;
-
-#[cfg(test)]
-mod tests;

@@ -17,3 +17,4 @@ pub mod Halves
 pub mod Crossing
 pub mod Weights
 pub mod Weighed
+pub mod Apart

@@ -6,3 +6,4 @@ pub mod Names
 pub mod Standing
 pub mod BookView
 pub mod Answers
+pub mod Untouched

@@ -17,6 +17,7 @@ mod replacing;
 mod since;
 mod start;
 mod trimming;
+mod untouched;
 
 pub use book::{Book, LAST_COUNT};
 pub use faults::{Advanced, MergeFault, TakeFault, TakeOverFault};

@@ -10,7 +10,7 @@ use Rattle.zq_model.specs.Rule.{Rule}
 use Rattle.zq_model.specs.Sets.{IsIn}
 use Rattle.zq_notes.proofs.GatheredSets.{AreOnce}
 use Rattle.zq_notes.specs.Does.{AreHeapsFor, Does}
-use Rattle.zq_notes.specs.Notes.{Answer, Asked, Copied, Handed, HandedAll, Joined, Portioned, Replied, RepliedEach, Shown, TakenOver, ToCopy, ToDrain, ToMerge, ToPortion, ToRun, ToRunEach, ToShow, ToTake, ToTakeAll, ToTakeOver, ToTell, Told}
+use Rattle.zq_notes.specs.Notes.{Answer, Asked, Copied, Handed, HandedAll, Joined, Portioned, Replied, RepliedEach, RepliedIf, Shown, TakenOver, ToCopy, ToDrain, ToMerge, ToPortion, ToRun, ToRunEach, ToRunWatched, ToShow, ToTake, ToTakeAll, ToTakeOver, ToTell, Told}
 use Rattle.zq_semantics.specs.Doing.{drawn, first_drawn, second_drawn}
 use Rattle.zq_words.specs.Command.{Command}
 use Rattle.zq_words.specs.Heaps.{heaps_of}
@@ -64,6 +64,7 @@ pub once_of : (rule : Rule) (K site stamp : ℕ) (asked : Asked) (heaps : List �
     Does rule K site stamp asked heaps answer found steps → AreOnce heaps
 once_of rule K site stamp (ToRun command w1 w2) heaps (Replied reply) found steps two is = heaps_once (heaps_of command K) rule K command w1 w2 heaps found two is.0
 once_of rule K site stamp (ToRunEach calls) heaps (RepliedEach replies) found steps two is = subst AreOnce (sym is.0) (range_once 0 K)
+once_of rule K site stamp (ToRunWatched watch calls) heaps (RepliedIf replies) found steps two is = subst AreOnce (sym is.0) (range_once 0 K)
 once_of rule K site stamp (ToTake op) heaps (Handed result) found steps two is = subst AreOnce (sym is.0) (one_once op.operation.heap)
 once_of rule K site stamp (ToTakeAll heap ops) heaps (HandedAll answer) found steps two is = subst AreOnce (sym is.0) (one_once heap)
 once_of rule K site stamp (ToMerge other) heaps (Joined result) found steps two is = subst AreOnce (sym is.0) (one_once other.heap)

@@ -1,11 +1,14 @@
 -- What a site's history gathers, and what its calls answer by then.
 
 use Rattle.std.proofs.Common.{ap, arith, subst, sym}
-use Rattle.std.specs.Prelude.{List, [], map, refl, ℕ, ◌++◌, ◌∷◌, ◌≡◌, ◌≤◌}
+use Rattle.std.specs.Prelude.{List, Some, [], map, refl, true, ℕ, ◌++◌, ◌∷◌, ◌≡◌, ◌≤◌}
 use Rattle.zq_dots.specs.Rule.{rule_of}
+use Rattle.zq_journal.specs.Untouched.{is_among}
 use Rattle.zq_model.proofs.JoinImages.{image_of-nothing}
+use Rattle.zq_model.proofs.Membership.{in_right}
 use Rattle.zq_model.proofs.Same.{image_of-same}
 use Rattle.zq_model.proofs.Worlds.{world_part}
+use Rattle.zq_model.specs.Books.{Step}
 use Rattle.zq_model.specs.Image.{image_of}
 use Rattle.zq_model.specs.Limits.{TailLimits}
 use Rattle.zq_model.specs.Operation.{Operation}
@@ -18,15 +21,19 @@ use Rattle.zq_notes.proofs.HeldOnce.{once_of}
 use Rattle.zq_notes.proofs.Tails.{all_in_base}
 use Rattle.zq_notes.proofs.ReadOff.{AreScoresMeant, read_off}
 use Rattle.zq_notes.specs.Calls.{AreCallsFrom, Call, notes_of}
-use Rattle.zq_notes.specs.Gathered.{AreImagesOf, AreOfWorld, HasTailOf, gathered}
-use Rattle.zq_notes.specs.Notes.{Books, Note}
-use Rattle.zq_notes.specs.Readings.{IsReadOff}
+use Rattle.zq_notes.specs.Gathered.{AreImagesOf, AreOfWorld, HasTailOf, brought, gathered, gathered_by, gathered_in}
+use Rattle.zq_notes.specs.Notes.{Books, Note, RepliedIf, ToRunWatched}
+use Rattle.zq_notes.specs.Readings.{IsAnswerOf, IsReadOff}
 use Rattle.zq_notes.specs.Sites.{empty_books}
 use Rattle.zq_notes.specs.Thread.{IsNoteOver, IsOneThread, left_by, left_by_all}
+use Rattle.zq_semantics.proofs.OneKey.{stays_as_it_was}
 use Rattle.zq_semantics.specs.Reading.{answer_of, answer_over, heaps_in, queues_over}
+use Rattle.zq_semantics.specs.Watching.{AreUnchanged, HasAllOf}
 use Rattle.zq_spread.specs.Calls.{heaps_of}
+use Rattle.zq_spread.specs.Watches.{Watch}
 use Rattle.zq_spread.specs.declared.site.Site.{Site}
 use Rattle.zq_words.specs.Command.{command_of}
+use Rattle.zq_words.specs.Calls.{Call as Asking}
 use Rattle.zq_words.specs.Words.{Word}
 
 pub opens : (limits : TailLimits) (rule : Rule) (K : ℕ) (W : List Operation) → AreImagesOf rule K W [] (empty_books limits rule K)
@@ -67,6 +74,39 @@ module _ (rule : Rule) (K site : ℕ) (W : List Operation) (two : 2 ≤ K) (worl
   world_before S books [] n after are is of = world_part K S W are.within world
   world_before S books (b ∷ before) n after are is of =
       world_before (gathered W (b ∷ []) S) (left_by b books) before n after (grows S books b (before ++ n ∷ after) are is.0 of) is.1 of.1
+
+  -- what a site has gathered it keeps
+  kept_in : (h : ℕ) (steps : List Step) (S : List Operation) (o : Operation) → IsIn o S → IsIn o (gathered_in W h steps S)
+  kept_in h [] S o i = i
+  kept_in h (step ∷ steps) S o i = kept_in h steps (brought W h step ++ S) o (in_right o (brought W h step) S i)
+
+  kept_by : (heaps : List ℕ) (steps : List (List Step)) (S : List Operation) (o : Operation) → IsIn o S → IsIn o (gathered_by W heaps steps S)
+  kept_by [] steps S o i = i
+  kept_by (h ∷ heaps) [] S o i = i
+  kept_by (h ∷ heaps) (ss ∷ steps) S o i = kept_by heaps steps (gathered_in W h ss S) o (kept_in h ss S o i)
+
+  kept : (notes : List Note) (S : List Operation) (o : Operation) → IsIn o S → IsIn o (gathered W notes S)
+  kept [] S o i = i
+  kept (n ∷ notes) S o i = kept notes (gathered_by W n.heaps n.steps S) o (kept_by n.heaps n.steps S o i)
+
+  -- nothing on a watched key came after the vectors, where what was asked ran
+  unchanged_off : (S : List Operation) (n : Note) (watch : Watch) (calls : List Asking) (replies : List Word) → IsReadOff rule K site S n → n.asked ≡ ToRunWatched watch calls → n.answer ≡ RepliedIf (Some replies) →
+      AreUnchanged S (heaps_in K) watch.vectors (is_among watch.keys)
+  unchanged_off S n watch calls replies is asked answered =
+      let off : IsAnswerOf rule K site S (ToRunWatched watch calls) n.stamp n.heaps (RepliedIf (Some replies)) n.steps =
+      subst (λ a. IsAnswerOf rule K site S (ToRunWatched watch calls) n.stamp n.heaps a n.steps) answered (subst (λ q. IsAnswerOf rule K site S q n.stamp n.heaps n.answer n.steps) asked is) in
+      subst (λ hs. AreUnchanged S hs watch.vectors (is_among watch.keys)) off.1.2 off.0
+
+  -- so the queue of each is what it was when the site had what these vectors have
+  pub watches : AreScoresMeant → (S : List Operation) (books : Books) (first more : List Note) (n : Note) (after : List Note) (watch : Watch) (calls : List Asking) (replies : List Word) (key : List ℕ) →
+      AreImagesOf rule K W S books → IsOneThread rule K site books (first ++ (more ++ n ∷ after)) → AreOfWorld W (first ++ (more ++ n ∷ after)) → n.asked ≡ ToRunWatched watch calls → n.answer ≡ RepliedIf (Some replies) →
+      HasAllOf (gathered W first S) (heaps_in K) watch.vectors → is_among watch.keys key ≡ true →
+      queues_over rule (gathered W more (gathered W first S)) (heaps_in K) key ≡ queues_over rule (gathered W first S) (heaps_in K) key
+  watches meant S books [] more n after watch calls replies key are is of asked answered had watched =
+      stays_as_it_was K (gathered W more S) S watch.vectors (is_among watch.keys) key (omega (arith, two)) (world_before S books more n after are is of) are.closed (λ o i. kept more S o i) had
+      (unchanged_off (gathered W more S) n watch calls replies (reads meant S books more n after are is of) asked answered) watched rule
+  watches meant S books (b ∷ first) more n after watch calls replies key are is of asked answered had watched =
+      watches meant (gathered W (b ∷ []) S) (left_by b books) first more n after watch calls replies key (grows S books b (first ++ (more ++ n ∷ after)) are is.0 of) is.1 of.1 asked answered had watched
 
 -- the notes of a list of calls that is cut in two
 notes_split : (before : List Call) (c : Call) (after : List Call) → notes_of (before ++ c ∷ after) ≡ notes_of before ++ c.note ∷ notes_of after

@@ -1,7 +1,7 @@
 -- What calls make: a command, and several things at once, the operations of the moves, and any other call none.
 
 use Rattle.std.proofs.Common.{Err, Ok, ap, inl, inr, refl, subst, sym, ◌∙◌}
-use Rattle.std.specs.Prelude.{List, [], false, if◌then◌else◌, map, slice_index, slice_set, true, ℕ, ◌+◌, ◌++◌, ◌==◌, ◌∷◌, ◌≡◌, ◌⊎◌}
+use Rattle.std.specs.Prelude.{List, None, Some, [], false, if◌then◌else◌, map, slice_index, slice_set, true, ℕ, ◌+◌, ◌++◌, ◌==◌, ◌∷◌, ◌≡◌, ◌⊎◌}
 use Rattle.zq_dots.specs.Placed.{Placed}
 use Rattle.zq_model.specs.Books.{Made, Step}
 use Rattle.zq_journal.specs.Books.{step_of, steps_when}
@@ -12,7 +12,7 @@ use Rattle.zq_model.specs.Rule.{Rule}
 use Rattle.zq_model.specs.Sets.{Early, Known, New, Taken, taken_of, vector_of}
 use Rattle.zq_model.specs.Moves.{Move}
 use Rattle.zq_notes.proofs.MadeWorlds.{AllMade, AllMadeIn}
-use Rattle.zq_notes.specs.Notes.{Answer, Asked, Copied, Handed, HandedAll, Joined, Portioned, Replied, RepliedEach, Shown, TakenOver, ToCopy, ToDrain, ToMerge, ToPortion, ToRun, ToRunEach, ToShow, ToTake, ToTakeAll, ToTakeOver, ToTell, Told}
+use Rattle.zq_notes.specs.Notes.{Answer, Asked, Copied, Handed, HandedAll, Joined, Portioned, Replied, RepliedEach, RepliedIf, Shown, TakenOver, ToCopy, ToDrain, ToMerge, ToPortion, ToRun, ToRunEach, ToRunWatched, ToShow, ToTake, ToTakeAll, ToTakeOver, ToTell, Told}
 use Rattle.zq_notes.specs.Readings.{IsAnswerOf, MayHandOn, heap_as, moved_in}
 use Rattle.zq_notes.specs.Sites.{made_in, made_in_all}
 use Rattle.zq_shard.specs.Shard.{HeapImage}
@@ -60,12 +60,19 @@ none_handed : (stamp : ℕ) (steps : List (List Step)) → MayHandOn stamp steps
 none_handed stamp steps (inl is) = none_of steps is
 none_handed stamp steps (inr told) = subst MakeNone (sym told.1) (λ W. refl)
 
+none_idle : (heaps : List ℕ) → MakeNone (map (λ (h : ℕ). []) heaps)
+none_idle [] = λ W. refl
+none_idle (h ∷ heaps) = none_idle heaps
+
 pub kinds : (rule : Rule) (K site : ℕ) (S : List Operation) (asked : Asked) (stamp : ℕ) (heaps : List ℕ) (answer : Answer) (steps : List (List Step)) → IsAnswerOf rule K site S asked stamp heaps answer steps →
     AllMadeIn site steps ⊎ MakeNone steps
 kinds rule K site S (ToRun command w1 w2) stamp heaps (Replied reply) steps is =
     inl (subst (AllMadeIn site) (sym is.2) (all_moved_in K site stamp is.0 (vector_of S) heaps))
 kinds rule K site S (ToRunEach calls) stamp heaps (RepliedEach replies) steps is =
     inl (subst (AllMadeIn site) (sym is.3) (all_moved_in K site stamp is.0 (vector_of S) heaps))
+kinds rule K site S (ToRunWatched watch calls) stamp heaps (RepliedIf (Some replies)) steps is =
+    inl (subst (AllMadeIn site) (sym is.1.3) (all_moved_in K site stamp is.1.0 (vector_of S) heaps))
+kinds rule K site S (ToRunWatched watch calls) stamp heaps (RepliedIf None) steps is = inr (subst MakeNone (sym is.1) (none_idle heaps))
 kinds rule K site S (ToTake op) stamp heaps (Handed (Ok taken)) steps is =
     inr (subst MakeNone (sym is.1) (none_taken (taken_of (vector_of S op.operation.heap) op.operation) stamp op.operation))
 kinds rule K site S (ToTake op) stamp heaps (Handed (Err fault)) steps is = inr (none_of steps is.2)

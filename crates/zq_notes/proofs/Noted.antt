@@ -2,7 +2,7 @@
 
 use Rattle.std.proofs.Common.{ap, inl, inr, subst, sym, ◌∙◌}
 use Rattle.std.proofs.lemmas.Option.{same_Some}
-use Rattle.std.specs.Prelude.{Err, IfOk, List, Ok, Result, [], map, refl, ℕ, ◌∷◌, ◌≡◌, ◌⊎◌}
+use Rattle.std.specs.Prelude.{Err, IfOk, List, Ok, Option, Result, [], map, refl, ℕ, ◌∷◌, ◌≡◌, ◌⊎◌}
 use Rattle.zq_dots.specs.Placed.{Placed}
 use Rattle.zq_commands.specs.Calls.{procedures}
 use Rattle.zq_dots.specs.Rule.{rule_of}
@@ -15,7 +15,7 @@ use Rattle.zq_journal.specs.declared.since.Since.{Since}
 use Rattle.zq_model.specs.Heaps.{heap_of}
 use Rattle.zq_notes.specs.Calls.{HasNote, HeldNone, HeldNoneIn}
 use Rattle.zq_notes.specs.Does.{AreHeapsFor, Does, IsOfHeaps, IsTold}
-use Rattle.zq_notes.specs.Notes.{Answer, Asked, Copied, Handed, HandedAll, Joined, Portioned, Replied, RepliedEach, Shown, TakenOver, ToCopy, ToDrain, ToMerge, ToPortion, ToRun, ToRunEach, ToShow, ToTake, ToTakeAll, ToTakeOver, ToTell, Told}
+use Rattle.zq_notes.specs.Notes.{Answer, Asked, Copied, Handed, HandedAll, Joined, Portioned, Replied, RepliedEach, RepliedIf, Shown, TakenOver, ToCopy, ToDrain, ToMerge, ToPortion, ToRun, ToRunEach, ToRunWatched, ToShow, ToTake, ToTakeAll, ToTakeOver, ToTell, Told}
 use Rattle.zq_semantics.specs.Doing.{drawn}
 use Rattle.zq_semantics.specs.Procedures.{procedure}
 use Rattle.zq_shard.specs.Shard.{HeapImage}
@@ -26,6 +26,8 @@ use Rattle.zq_spread.specs.Batches.{IsTakenAll}
 use Rattle.zq_spread.specs.Calls.{AreWorkedIn, HasSeenBook, IsCall, IsLikeSite, IsOfSite, heaps_of}
 use Rattle.zq_spread.specs.Dispatch.{DoesCommand, DoesNear, IsCalled, IsCalledIn, IsCommand, all_heaps}
 use Rattle.zq_spread.specs.Each.{AreAnswered, DoesEach}
+use Rattle.zq_spread.specs.Watches.{Watch}
+use Rattle.zq_spread.specs.Watching.{AreAnsweredIf, DoesWatched}
 use Rattle.zq_spread.specs.declared.faults.ReadFault.{ReadFault}
 use Rattle.zq_spread.specs.declared.faults.ReadFault.TheVariants as unread
 use Rattle.zq_spread.specs.declared.locked_heap.LockedHeap.{LockedHeap}
@@ -158,6 +160,17 @@ module _ (site : Site) (p : ℕ) (before after : Pass) where
       shown : (cs : List SiteCall) → procedures cs ≡ map procedure (map call_shown cs)
       shown [] = refl
       shown (c ∷ cs) = ap (λ ps. procedure (call_shown c) ∷ ps) (shown cs)
+
+  -- where nothing that is watched was changed
+  pub calls_watched : (watch : Watch) (calls : List SiteCall) (replies : Option (List Word)) → IsCall (DoesWatched site after.stamp watch (procedures calls) replies) before after (all_heaps site) →
+      HasNote site p before after (ToRunWatched watch (map call_shown calls)) (RepliedIf replies)
+  calls_watched watch calls replies call =
+      noted (DoesWatched site after.stamp watch (procedures calls) replies) (ToRunWatched watch (map call_shown calls)) (all_heaps site) (RepliedIf replies)
+      (λ found steps is. (refl, subst (λ ps. AreAnsweredIf (rule_of site.rule) site.number after.stamp watch ps replies found steps) (shown_each calls) is)) call
+    where
+      shown_each : (cs : List SiteCall) → procedures cs ≡ map procedure (map call_shown cs)
+      shown_each [] = refl
+      shown_each (c ∷ cs) = ap (λ ps. procedure (call_shown c) ∷ ps) (shown_each cs)
 
   -- ---- commands
 

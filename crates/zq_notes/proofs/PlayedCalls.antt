@@ -37,7 +37,7 @@ use Rattle.zq_notes.proofs.SaidCommands.{all_made, for_drawn, for_other, for_res
 use Rattle.zq_notes.proofs.TakenInTurn.{gathers_alike}
 use Rattle.zq_notes.specs.Does.{AreHeapsFor, Does}
 use Rattle.zq_notes.specs.Gathered.{AreImagesOf, covered_by, gathered, gathered_by, gathered_in}
-use Rattle.zq_notes.specs.Notes.{Answer, Asked, Books, Copied, Handed, HandedAll, Joined, Note, Portioned, Replied, RepliedEach, Shown, TakenOver, ToCopy, ToDrain, ToMerge, ToPortion, ToRun, ToRunEach, ToShow, ToTake, ToTakeAll, ToTakeOver, ToTell, Told}
+use Rattle.zq_notes.specs.Notes.{Answer, Asked, Books, Copied, Handed, HandedAll, Joined, Note, Portioned, Replied, RepliedEach, RepliedIf, Shown, TakenOver, ToCopy, ToDrain, ToMerge, ToPortion, ToRun, ToRunEach, ToRunWatched, ToShow, ToTake, ToTakeAll, ToTakeOver, ToTell, Told}
 use Rattle.zq_notes.specs.Played.{ArePlayedAs, AreTakes, IsAskedAs, IsNone, IsPlayed, IsPlayedAs, itself, popped}
 use Rattle.zq_notes.specs.Readings.{IsAnswerOf, IsRunOver, MayHandOn, heap_as, moved_in}
 use Rattle.zq_notes.specs.Sites.{AreBroughtIn, AreEventsOf, Event, IsBrought, books_at, has_at, made_in, made_in_all, made_of, notes_at}
@@ -75,6 +75,7 @@ pub record IsOne (rule : Rule) (K count : ℕ) (W : List Operation) (before : Li
 none_played : (rule : Rule) (K : ℕ) (r : Run) (s : ℕ) (heaps : List ℕ) (asked : Asked) (answer : Answer) → IsNone asked → ArePlayedAs rule K r s heaps asked answer []
 none_played rule K r s heaps (ToRun command w1 w2) answer none = absurd none
 none_played rule K r s heaps (ToRunEach calls) answer none = absurd none
+none_played rule K r s heaps (ToRunWatched watch calls) answer none = absurd none
 none_played rule K r s heaps (ToTake op) answer none = absurd none
 none_played rule K r s heaps (ToTakeAll heap ops) answer none = absurd none
 none_played rule K r s heaps (ToMerge other) answer none = absurd none
@@ -88,6 +89,7 @@ none_played rule K r s heaps (ToDrain heap vector most) answer none = none
 one_played : (rule : Rule) (K : ℕ) (r : Run) (s : ℕ) (heaps : List ℕ) (asked : Asked) (answer : Answer) (p : runs.Event) → IsPlayedAs rule K r s heaps asked answer p → ArePlayedAs rule K r s heaps asked answer (p ∷ [])
 one_played rule K r s heaps (ToRun command w1 w2) answer p is = is
 one_played rule K r s heaps (ToRunEach calls) answer p is = is
+one_played rule K r s heaps (ToRunWatched watch calls) answer p is = is
 one_played rule K r s heaps (ToTake op) answer p is = is
 one_played rule K r s heaps (ToTakeAll heap ops) answer p is = absurd is
 one_played rule K r s heaps (ToMerge other) answer p is = is
@@ -788,6 +790,7 @@ module _ (limits : ℕ → TailLimits) (rule : Rule) (K count : ℕ) (two : 2 �
         by : (asked : Asked) (answer : Answer) → n.asked ≡ asked → n.answer ≡ answer → IsOne rule K count W before e r
         by (ToRun command w1 w2) (Replied reply) asked answered = runs_it command w1 w2 reply asked answered
         by (ToRunEach calls) (RepliedEach replies) asked answered = absurd (subst (IsThere K before) asked own.asked)
+        by (ToRunWatched watch calls) (RepliedIf replies) asked answered = absurd (subst (IsThere K before) asked own.asked)
         by (ToTake op) (Handed (Ok taken)) asked answered = takes op taken asked answered
         by (ToTake op) (Handed (Err fault)) asked answered =
             absurd (subst (λ a. IsUncut rule (ToTake op) a (map books n.heaps) n.steps) answered (subst (λ q. IsUncut rule q n.answer (map books n.heaps) n.steps) asked own.uncut))

@@ -1,6 +1,8 @@
 -- What calls answer over the images of a set is read off the set.
 
 use Rattle.std.proofs.Common.{None, Option, Some, [], ap, arith, inl, inr, subst, sym, true≢false, ◌∙◌}
+use Rattle.std.proofs.lemmas.Bool.{and_parts, cases_Bool}
+use Rattle.std.specs.List.{list_all}
 use Rattle.std.specs.Prelude.{Bool, Err, List, Ok, Result, false, length, map, not, refl, slice_index, take, true, ℕ, ℤ, ◌+◌, ◌-◌, ◌<◌, ◌∷◌, ◌↔◌, ◌≡◌, ◌≤◌}
 use Rattle.zq_dots.specs.Placed.{Placed}
 use Rattle.zq_model.specs.Books.{Book, Step, operations_of}
@@ -8,6 +10,7 @@ use Rattle.zq_model.specs.Reach.{begun}
 use Rattle.zq_journal.specs.Answers.{IfOps}
 use Rattle.zq_journal.specs.Books.{state_of, steps_when}
 use Rattle.zq_journal.specs.Records.{placed_at}
+use Rattle.zq_journal.specs.Untouched.{is_among, is_apart, is_untouched}
 use Rattle.zq_journal.specs.declared.faults.MergeFault.{MergeFault}
 use Rattle.zq_journal.specs.declared.faults.MergeFault.TheVariants as unjoined
 use Rattle.zq_journal.specs.declared.faults.TakeOverFault.{TakeOverFault}
@@ -38,7 +41,7 @@ use Rattle.zq_model.specs.Moves.{Move, Queues, score_in}
 use Rattle.zq_notes.specs.Does.{AreHeapsFor, Does, IsTold}
 use Rattle.zq_notes.proofs.Tails.{in_tail_set, tail_begun}
 use Rattle.zq_notes.specs.Gathered.{AreImagesOf, HasTailOf}
-use Rattle.zq_notes.specs.Notes.{Answer, Asked, Books, Copied, Handed, HandedAll, Joined, Portioned, Replied, RepliedEach, Shown, TakenOver, ToCopy, ToDrain, ToMerge, ToPortion, ToRun, ToRunEach, ToShow, ToTake, ToTakeAll, ToTakeOver, ToTell, Told}
+use Rattle.zq_notes.specs.Notes.{Answer, Asked, Books, Copied, Handed, HandedAll, Joined, Portioned, Replied, RepliedEach, RepliedIf, Shown, TakenOver, ToCopy, ToDrain, ToMerge, ToPortion, ToRun, ToRunEach, ToRunWatched, ToShow, ToTake, ToTakeAll, ToTakeOver, ToTell, Told}
 use Rattle.zq_notes.proofs.EachOff.{IsAt, legal_from, runs_off}
 use Rattle.zq_notes.proofs.EachRun.{AreRunsFrom, cut_at, each_from}
 use Rattle.zq_notes.proofs.HomeMoves.{at_home}
@@ -54,6 +57,7 @@ use Rattle.zq_semantics.specs.Procedures.{Procedure, procedure}
 use Rattle.zq_semantics.specs.Replies.{bytes_of}
 use Rattle.zq_semantics.specs.Run.{ForReply, IsReadShort, IsRun, MayLack, Memory, Number, Takes, cut_error, cut_pop, part, popped_of, takes_of, whole}
 use Rattle.zq_semantics.specs.Reading.{heaps_in, is_reading, queues_over}
+use Rattle.zq_semantics.specs.Watching.{AreUnchanged, IsUnchanged}
 use Rattle.zq_shard.specs.Shard.{HeapImage}
 use Rattle.zq_shard.specs.declared.spot.Spot.{Spot}
 use Rattle.zq_shard.specs.declared.taken.Taken.{Taken}
@@ -65,6 +69,7 @@ use Rattle.zq_spread.specs.Batches.{IsTakenAll, IsTakenSoFar}
 use Rattle.zq_spread.specs.Commanded.{AreAppended, IsAnswered}
 use Rattle.zq_spread.specs.Dispatch.{HasNear}
 use Rattle.zq_spread.specs.Each.{AreAnswered}
+use Rattle.zq_spread.specs.Watching.{are_untouched}
 use Rattle.zq_spread.specs.declared.faults.ReadFault.{ReadFault}
 use Rattle.zq_spread.specs.declared.faults.ReadFault.TheVariants as unread
 use Rattle.zq_spread.specs.declared.taken_all.TakenAll.{TakenAll}
@@ -386,11 +391,46 @@ module _ (named : AreScoresMeant) (rule : Rule) (K : ℕ) (W S : List Operation)
   drain_off site stamp heap vector most heaps (Err unread.NoMemory) (ss ∷ []) is = (refl, ap (λ (l : List Step). l ∷ []) is.1)
   drain_off site stamp heap vector most heaps result (ss ∷ more ∷ steps) is = absurd is
 
+  -- where a book says that keys were not changed, the set has nothing more on them than its vector
+  unchanged : (stamp heap : ℕ) (vector : List ℕ) (keys : List Word) → is_untouched vector keys (begun stamp (books heap)) ≡ true → IsUnchanged S heap vector (is_among keys)
+  unchanged stamp heap vector keys says = λ o mine at among.
+      let parts = and_parts _ _ says in
+      elim (cases_Bool (has vector o.site o.n)) [
+        | inl known ↦ known
+        | inr lacked ↦
+            let ops : List Operation = lacking vector (operations_of (begun stamp (books heap)).tail) in
+            let told : IsIn o ops = (lacked_alike stamp heap vector parts.0).back o (in_filter (λ p. not (has vector p.site p.n)) (in_heap heap S) o (in_heap_too heap S o mine at) (ap not lacked)) in
+            let apart : is_apart keys o ≡ true = all_in (is_apart keys) ops o parts.1 told in
+            absurd (true≢false (sym apart ∙ ap not among))
+      ]
+    where
+      all_in : (p : Operation → Bool) (ops : List Operation) (o : Operation) → list_all p ops ≡ true → IsIn o ops → p o ≡ true
+      all_in p [] o all here = absurd here
+      all_in p (q ∷ ops) o all (inl same) = ap p (sym same) ∙ (and_parts _ _ all).0
+      all_in p (q ∷ ops) o all (inr there) = all_in p ops o (and_parts _ _ all).1 there
+
+  all_unchanged : (stamp : ℕ) (keys : List Word) (heaps : List ℕ) (vectors : List (List ℕ)) → are_untouched vectors keys (map (begun stamp) (map books heaps)) ≡ true → AreUnchanged S heaps vectors (is_among keys)
+  all_unchanged stamp keys [] vectors says = tt
+  all_unchanged stamp keys (h ∷ heaps) [] says = absurd (true≢false (sym says))
+  all_unchanged stamp keys (h ∷ heaps) (v ∷ vectors) says =
+      let parts = and_parts _ _ says in
+      (unchanged stamp h v keys parts.0, all_unchanged stamp keys heaps vectors parts.1)
+
+  abbrev no_steps : List Step
+  no_steps = []
+
+  idle_over : (heaps : List ℕ) → map (λ (b : Book). no_steps) (map books heaps) ≡ map (λ (h : ℕ). no_steps) heaps
+  idle_over [] = refl
+  idle_over (h ∷ heaps) = ap (λ (l : List (List Step)). [] ∷ l) (idle_over heaps)
+
   -- the answer to what was asked, and the steps, over the books of its heaps
   pub read_off : (site stamp : ℕ) (asked : Asked) (heaps : List ℕ) (answer : Answer) (steps : List (List Step)) → 0 < K → AreOwnIn stamp books heaps steps → Does rule K site stamp asked heaps answer (map books heaps) steps →
       IsAnswerOf rule K site S asked stamp heaps answer steps
   read_off site stamp (ToRun command w1 w2) heaps (Replied reply) steps some own is = run_off site stamp command w1 w2 heaps reply steps some is.0 is.1
   read_off site stamp (ToRunEach calls) heaps (RepliedEach replies) steps some own is = run_each_off site stamp (map procedure calls) heaps replies steps some own is.0 is.1
+  read_off site stamp (ToRunWatched watch calls) heaps (RepliedIf (Some replies)) steps some own is =
+      (all_unchanged stamp watch.keys heaps watch.vectors is.1.0, run_each_off site stamp (map procedure calls) heaps replies steps some own is.0 is.1.1)
+  read_off site stamp (ToRunWatched watch calls) heaps (RepliedIf None) steps some own is = (is.0, is.1.1 ∙ idle_over heaps)
   read_off site stamp (ToTake op) heaps (Handed result) steps some own is =
       take_off site stamp op heaps result steps (subst (λ hs. IsTaken stamp op result (map books hs) steps) is.0 is.1)
   read_off site stamp (ToTakeAll heap ops) heaps (HandedAll answer) steps some own is =

@@ -8,7 +8,7 @@ use Rattle.zq_model.specs.Reach.{begun}
 use Rattle.zq_journal.specs.declared.since.Since.{Since}
 use Rattle.zq_model.specs.Heaps.{heap_of}
 use Rattle.zq_model.specs.Rule.{Rule}
-use Rattle.zq_notes.specs.Notes.{Answer, Asked, Copied, Handed, HandedAll, Joined, Portioned, Replied, RepliedEach, Shown, TakenOver, ToCopy, ToDrain, ToMerge, ToPortion, ToRun, ToRunEach, ToShow, ToTake, ToTakeAll, ToTakeOver, ToTell, Told}
+use Rattle.zq_notes.specs.Notes.{Answer, Asked, Copied, Handed, HandedAll, Joined, Portioned, Replied, RepliedEach, RepliedIf, Shown, TakenOver, ToCopy, ToDrain, ToMerge, ToPortion, ToRun, ToRunEach, ToRunWatched, ToShow, ToTake, ToTakeAll, ToTakeOver, ToTell, Told}
 use Rattle.zq_semantics.specs.Doing.{drawn}
 use Rattle.zq_semantics.specs.Procedures.{procedure}
 use Rattle.zq_shard.specs.Shard.{HeapImage}
@@ -17,6 +17,7 @@ use Rattle.zq_spread.specs.Batches.{IsTakenAll}
 use Rattle.zq_spread.specs.Commanded.{IsAnswered}
 use Rattle.zq_spread.specs.Dispatch.{HasNear}
 use Rattle.zq_spread.specs.Each.{AreAnswered}
+use Rattle.zq_spread.specs.Watching.{AreAnsweredIf}
 use Rattle.zq_spread.specs.declared.faults.ReadFault.{ReadFault}
 use Rattle.zq_words.specs.Command.{Command}
 use Rattle.zq_words.specs.Heaps as named
@@ -60,6 +61,9 @@ Does rule K site stamp (ToRun command w1 w2) heaps (Replied reply) found steps =
 Does rule K site stamp (ToRunEach calls) heaps (RepliedEach replies) found steps =
     (heaps ≡ range_with_len 0 K)
     × AreAnswered rule site stamp (map procedure calls) replies found steps
+Does rule K site stamp (ToRunWatched watch calls) heaps (RepliedIf replies) found steps =
+    (heaps ≡ range_with_len 0 K)
+    × AreAnsweredIf rule site stamp watch (map procedure calls) replies found steps
 Does rule K site stamp (ToTake op) heaps (Handed result) found steps =
     (heaps ≡ op.operation.heap ∷ []) × IsTaken stamp op result found steps × IsOfHeaps K op
 Does rule K site stamp (ToTakeAll heap ops) heaps (HandedAll answer) found steps =

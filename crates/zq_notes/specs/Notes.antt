@@ -1,6 +1,6 @@
 -- Notes of calls.
 
-use Rattle.std.specs.Prelude.{List, Result, ℕ}
+use Rattle.std.specs.Prelude.{List, Option, Result, ℕ}
 use Rattle.zq_dots.specs.Placed.{Placed}
 use Rattle.zq_model.specs.Books.{Book, Step}
 use Rattle.zq_journal.specs.declared.faults.MergeFault.{MergeFault}
@@ -12,6 +12,7 @@ use Rattle.zq_shard.specs.declared.spot.Spot.{Spot}
 use Rattle.zq_shard.specs.declared.taken.Taken.{Taken}
 use Rattle.zq_stage.specs.declared.portion.Portion.{Portion}
 use Rattle.zq_stage.specs.declared.portion.PortionLimits.{PortionLimits}
+use Rattle.zq_spread.specs.Watches.{Watch}
 use Rattle.zq_spread.specs.declared.faults.ReadFault.{ReadFault}
 use Rattle.zq_spread.specs.declared.taken_all.TakenAll.{TakenAll}
 use Rattle.zq_words.specs.Calls.{Call}
@@ -24,6 +25,8 @@ pub data Asked : Type 0 where
   ToRun : (command : Command) → (w1 w2 : ℕ) → Asked
   -- to run several things that a site can be asked, one after the other
   ToRunEach : (calls : List Call) → Asked
+  -- to run them where nothing that is watched was changed
+  ToRunWatched : (watch : Watch) → (calls : List Call) → Asked
   -- to take an operation of another site
   ToTake : (op : Placed) → Asked
   -- to take operations of other sites in a heap, one after the other
@@ -47,6 +50,8 @@ pub data Asked : Type 0 where
 pub data Answer : Type 0 where
   Replied : (reply : Word) → Answer
   RepliedEach : (replies : List Word) → Answer
+  -- none where something that is watched was changed
+  RepliedIf : (replies : Option (List Word)) → Answer
   Handed : (result : Result Taken TakeFault) → Answer
   HandedAll : (answer : TakenAll) → Answer
   Joined : (result : Result (Unit {0}) MergeFault) → Answer

@@ -1,12 +1,13 @@
 -- What calls answer and do, read off the set of operations that the site had before them.
 
-use Rattle.std.specs.Prelude.{Bool, Err, List, Ok, Result, [], false, if◌then◌else◌, length, map, slice_index, slice_set, take, true, ℕ, ◌+◌, ◌++◌, ◌<◌, ◌==◌, ◌∷◌, ◌≡◌, ◌≤◌, ◌⊎◌}
+use Rattle.std.specs.Prelude.{Bool, Err, List, None, Ok, Option, Result, Some, [], false, if◌then◌else◌, length, map, slice_index, slice_set, take, true, ℕ, ◌+◌, ◌++◌, ◌<◌, ◌==◌, ◌∷◌, ◌≡◌, ◌≤◌, ◌⊎◌}
 use Rattle.zq_dots.specs.Placed.{Placed}
 use Rattle.zq_model.specs.Books as book
 use Rattle.zq_model.specs.Books.{Made, Step}
 use Rattle.zq_journal.specs.Answers.{IfOps}
 use Rattle.zq_journal.specs.Books.{step_of, steps_when}
 use Rattle.zq_journal.specs.Records.{placed_at}
+use Rattle.zq_journal.specs.Untouched.{is_among}
 use Rattle.zq_journal.specs.declared.faults.MergeFault.{MergeFault}
 use Rattle.zq_journal.specs.declared.faults.MergeFault.TheVariants as unmerged
 use Rattle.zq_journal.specs.declared.faults.TakeFault.{TakeFault}
@@ -22,7 +23,7 @@ use Rattle.zq_model.specs.Rule.{Rule}
 use Rattle.zq_model.specs.Sets.{AreSame, IsIn, New, covers, in_heap, taken_of, vector_of}
 use Rattle.zq_model.specs.Tail.{lacking}
 use Rattle.zq_model.specs.Moves.{Move, Queues}
-use Rattle.zq_notes.specs.Notes.{Answer, Asked, Copied, Handed, HandedAll, Joined, Note, Portioned, Replied, RepliedEach, Shown, TakenOver, ToCopy, ToDrain, ToMerge, ToPortion, ToRun, ToRunEach, ToShow, ToTake, ToTakeAll, ToTakeOver, ToTell, Told}
+use Rattle.zq_notes.specs.Notes.{Answer, Asked, Copied, Handed, HandedAll, Joined, Note, Portioned, Replied, RepliedEach, RepliedIf, Shown, TakenOver, ToCopy, ToDrain, ToMerge, ToPortion, ToRun, ToRunEach, ToRunWatched, ToShow, ToTake, ToTakeAll, ToTakeOver, ToTell, Told}
 use Rattle.zq_semantics.specs.Doing.{drawn}
 use Rattle.zq_semantics.specs.Plan.{is_there, plan_of}
 use Rattle.zq_semantics.specs.Procedures.{Procedure, answered_over, procedure}
@@ -30,6 +31,7 @@ use Rattle.zq_semantics.specs.Ranges.{ranged, turned_if}
 use Rattle.zq_semantics.specs.Replies.{bytes_of}
 use Rattle.zq_semantics.specs.Run.{ForReply, IsReadShort, Memory, Number, Takes, Want, cut_error, cut_reply, takes_of}
 use Rattle.zq_semantics.specs.Reading.{heaps_in, queues_over}
+use Rattle.zq_semantics.specs.Watching.{AreUnchanged}
 use Rattle.zq_shard.specs.Shard.{HeapImage}
 use Rattle.zq_shard.specs.Taken.{answer_of}
 use Rattle.zq_shard.specs.declared.spot.Spot.{Spot}
@@ -38,6 +40,7 @@ use Rattle.zq_stage.specs.Portion.{IsPortion}
 use Rattle.zq_stage.specs.declared.portion.Portion.{Portion}
 use Rattle.zq_stage.specs.declared.portion.PortionLimits.{PortionLimits}
 use Rattle.zq_spread.specs.Batches.{IsTakenSoFar}
+use Rattle.zq_spread.specs.Watches.{Watch}
 use Rattle.zq_spread.specs.declared.faults.ReadFault.{ReadFault}
 use Rattle.zq_spread.specs.declared.faults.ReadFault.TheVariants as unread
 use Rattle.zq_spread.specs.declared.taken_all.TakenAll.{TakenAll}
@@ -156,6 +159,16 @@ IsRunEachOff rule K site S ps stamp heaps replies steps = (moves : List Move)
     × AreRunsOf rule K site S ps moves replies × (heaps ≡ heaps_in K)
     × (steps ≡ map (λ h. moved_in K site stamp h moves (vector_of S h)) heaps)
 
+-- the same where the set has nothing on a watched key that came later; or no step was made. When
+-- that is so a set does not say: a book may not know
+abbrev pub IsRunWatchedOff : Rule → ℕ → ℕ → List Operation → Watch → List Procedure → ℕ →
+    List ℕ → Option (List Word) → List (List Step) → Type 0
+IsRunWatchedOff rule K site S watch ps stamp heaps (Some replies) steps =
+    AreUnchanged S heaps watch.vectors (is_among watch.keys)
+    × IsRunEachOff rule K site S ps stamp heaps replies steps
+IsRunWatchedOff rule K site S watch ps stamp heaps None steps = (heaps ≡ heaps_in K)
+    × (steps ≡ map (λ (h : ℕ). []) heaps)
+
 -- an operation of another site; one that is new may be refused, since the book counts no further or
 -- there was no memory, and no other
 abbrev pub IsTakenOff : List Operation → Placed → ℕ → Result Taken TakeFault → List (List Step) →
@@ -242,6 +255,8 @@ IsAnswerOf rule K site S (ToRun command w1 w2) stamp heaps (Replied reply) steps
     IsRunOff rule K site S command w1 w2 stamp heaps reply steps
 IsAnswerOf rule K site S (ToRunEach calls) stamp heaps (RepliedEach replies) steps =
     IsRunEachOff rule K site S (map procedure calls) stamp heaps replies steps
+IsAnswerOf rule K site S (ToRunWatched watch calls) stamp heaps (RepliedIf replies) steps =
+    IsRunWatchedOff rule K site S watch (map procedure calls) stamp heaps replies steps
 IsAnswerOf rule K site S (ToTake op) stamp heaps (Handed result) steps =
     IsTakenOff S op stamp result steps
 IsAnswerOf rule K site S (ToTakeAll heap ops) stamp heaps (HandedAll answer) steps =

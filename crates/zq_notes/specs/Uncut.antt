@@ -8,7 +8,7 @@ use Rattle.zq_model.specs.Rule.{Rule}
 use Rattle.zq_model.specs.Sets.{IsIn, SITES}
 use Rattle.zq_model.specs.Lent.{queues_of}
 use Rattle.zq_model.specs.Moves.{Queues}
-use Rattle.zq_notes.specs.Notes.{Answer, Asked, Handed, Joined, Replied, TakenOver, ToMerge, ToRun, ToRunEach, ToTake, ToTakeAll, ToTakeOver}
+use Rattle.zq_notes.specs.Notes.{Answer, Asked, Handed, Joined, Replied, TakenOver, ToMerge, ToRun, ToRunEach, ToRunWatched, ToTake, ToTakeAll, ToTakeOver}
 use Rattle.zq_notes.specs.Sites.{Event, books_at, made_of}
 use Rattle.zq_semantics.specs.Plan.{plan_of}
 use Rattle.zq_semantics.specs.Replies.{bytes_of}
@@ -50,6 +50,7 @@ abbrev pub IsThere : ℕ → List Event → Asked → Type 0
 IsThere K before (ToRun command w1 w2) =
     (words : List Word) × IsRequest words × (command_of words ≡ Ok command)
 IsThere K before (ToRunEach calls) = ⊥
+IsThere K before (ToRunWatched watch calls) = ⊥
 IsThere K before (ToTake op) = IsIn op.operation (made_of before)
 IsThere K before (ToTakeAll heap ops) = (op : Placed) → IsIn op ops →
     IsIn op.operation (made_of before)

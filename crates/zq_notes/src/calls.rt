@@ -1,6 +1,6 @@
 //! The notes of a site's calls.
 
-ghost use Rattle.std.specs.Prelude.{IfOk, List, Result as Results, [], map, ℕ, ◌∷◌, ◌⊎◌};
+ghost use Rattle.std.specs.Prelude.{IfOk, List, Option, Result as Results, [], map, ℕ, ◌∷◌, ◌⊎◌};
 ghost use Rattle.zq_commands.specs.Calls.{procedures};
 ghost use Rattle.zq_dots.specs.Placed.{Placed};
 ghost use Rattle.zq_journal.specs.declared.faults.MergeFault.{MergeFault};
@@ -8,7 +8,7 @@ ghost use Rattle.zq_journal.specs.declared.faults.TakeFault.{TakeFault};
 ghost use Rattle.zq_journal.specs.declared.faults.TakeOverFault.{TakeOverFault};
 ghost use Rattle.zq_journal.specs.declared.since.Since.{Since};
 ghost use Rattle.zq_notes.specs.Calls.{HasNote, HeldNone};
-ghost use Rattle.zq_notes.specs.Notes.{Copied, Handed, HandedAll, Joined, Portioned, Replied, RepliedEach, Shown, TakenOver, ToCopy, ToDrain, ToMerge, ToPortion, ToRun, ToRunEach, ToShow, ToTake, ToTakeAll, ToTakeOver, ToTell, Told};
+ghost use Rattle.zq_notes.specs.Notes.{Copied, Handed, HandedAll, Joined, Portioned, Replied, RepliedEach, RepliedIf, Shown, TakenOver, ToCopy, ToDrain, ToMerge, ToPortion, ToRun, ToRunEach, ToRunWatched, ToShow, ToTake, ToTakeAll, ToTakeOver, ToTell, Told};
 ghost use Rattle.zq_shard.specs.Shard.{HeapImage};
 ghost use Rattle.zq_shard.specs.declared.spot.Spot.{Spot};
 ghost use Rattle.zq_shard.specs.declared.taken.Taken.{Taken};
@@ -17,6 +17,8 @@ ghost use Rattle.zq_spread.specs.Batches.{IsTakenAll};
 ghost use Rattle.zq_spread.specs.Calls.{HasSeenBook, IsCall, IsLikeSite, IsOfSite};
 ghost use Rattle.zq_spread.specs.Dispatch.{IsCalled, all_heaps};
 ghost use Rattle.zq_spread.specs.Each.{DoesEach};
+ghost use Rattle.zq_spread.specs.Watches.{Watch};
+ghost use Rattle.zq_spread.specs.Watching.{DoesWatched};
 ghost use Rattle.zq_spread.specs.declared.faults.ReadFault.{ReadFault};
 ghost use Rattle.zq_spread.specs.declared.pass.Pass.{Pass};
 ghost use Rattle.zq_spread.specs.declared.site.Site.{Site};
@@ -29,9 +31,10 @@ ghost use Rattle.zq_words.specs.Words.{Word};
 ghost use Rattle.zq_words.specs.declared.site_call.SiteCall.{SiteCall};
 
 /// Each call of a site that held a heap leaves a note: what [`zq_spread::Site::call`], `try_call`,
-/// `call_each`, `take`, `take_all`, `merge`, `take_over`, `since`, `drain`, `state`, `portion` and
-/// `vector` promise is that there is one. A command that held none needs none, or was refused before
-/// it held any. An operation or a heap that is not of the site's kind is refused with no lock taken.
+/// `call_each`, `call_watched`, `take`, `take_all`, `merge`, `take_over`, `since`, `drain`, `state`,
+/// `portion` and `vector` promise is that there is one. A command that held none needs none, or was
+/// refused before it held any. An operation or a heap that is not of the site's kind is refused with
+/// no lock taken.
 pub fn noting()
     ensures calls { (site : Site) (p : ℕ) (before after : Pass) (command : Command) (w1 w2 : ℕ)
         (reply : Word) → IsCalled site command w1 w2 reply before after →
@@ -41,6 +44,11 @@ pub fn noting()
         (replies : List Word) → IsCall (DoesEach site after.stamp (procedures calls) replies)
         before after (all_heaps site) →
         HasNote site p before after (ToRunEach (map call_shown calls)) (RepliedEach replies) }
+    ensures calls_watched { (site : Site) (p : ℕ) (before after : Pass) (watch : Watch)
+        (calls : List SiteCall) (replies : Option (List Word)) →
+        IsCall (DoesWatched site after.stamp watch (procedures calls) replies) before after
+        (all_heaps site) → HasNote site p before after (ToRunWatched watch (map call_shown calls))
+        (RepliedIf replies) }
     ensures takes { (site : Site) (p : ℕ) (before after : Pass) (op : Placed)
         (result : Results Taken TakeFault) → IsOfSite site op →
         IsCall (IsTaken after.stamp op result) before after (op.operation.heap ∷ []) →

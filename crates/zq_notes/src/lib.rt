@@ -18,5 +18,5 @@ pub use examples::{
 };
 pub use history::{calling, one_history};
 pub use runs::playing;
-pub use sets::{gathering_notes, reading_notes};
+pub use sets::{gathering_notes, reading_notes, watching_notes};
 pub use sites::linking;

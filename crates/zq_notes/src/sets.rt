@@ -1,6 +1,6 @@
 //! What a site's history gathers, and what its calls answer, read off that.
 
-ghost use Rattle.std.specs.Prelude.{List, Ok, [], true, ℕ, ◌++◌, ◌∷◌, ◌≡◌, ◌≤◌};
+ghost use Rattle.std.specs.Prelude.{List, Ok, Some, [], true, ℕ, ◌++◌, ◌∷◌, ◌≡◌, ◌≤◌};
 ghost use Rattle.zq_dots.specs.Rule.{rule_of};
 ghost use Rattle.zq_model.specs.Limits.{TailLimits};
 ghost use Rattle.zq_model.specs.Meaning.{IsQueue, IsWholeQueue};
@@ -10,7 +10,11 @@ ghost use Rattle.zq_model.specs.Sets.{AreSame, IsIn, IsWorld};
 ghost use Rattle.zq_model.specs.Moves.{Move};
 ghost use Rattle.zq_notes.specs.Calls.{AreCallsFrom, Call, notes_of};
 ghost use Rattle.zq_notes.specs.Gathered.{AreImagesOf, AreOfWorld, gathered};
-ghost use Rattle.zq_notes.specs.Notes.{Books, Note};
+ghost use Rattle.zq_journal.specs.Untouched.{is_among};
+ghost use Rattle.zq_notes.specs.Notes.{Books, Note, RepliedIf, ToRunWatched};
+ghost use Rattle.zq_semantics.specs.Watching.{HasAllOf};
+ghost use Rattle.zq_spread.specs.Watches.{Watch};
+ghost use Rattle.zq_words.specs.Calls.{Call as Asking};
 ghost use Rattle.zq_notes.specs.Readings.{AreAnswersOver, AreRunsOf, IsOrShort, IsReadOff, IsRunOf, is_list};
 ghost use Rattle.zq_notes.specs.Sites.{empty_books};
 ghost use Rattle.zq_notes.specs.Thread.{IsOneThread, left_by_all};
@@ -82,6 +86,26 @@ pub fn reading_notes()
         (key : List ℕ) → IsWholeQueue rule S key (queues_over rule S (heaps_in K) key) }
     ensures drawn { (rule : Rules) (K : ℕ) (S : List Operation) (heaps : List ℕ) → IsWorld K S →
         (key : List ℕ) → IsQueue rule K S key heaps (queues_over rule S heaps key) }
+{
+    // A member's score over books is the one that their set means.
+    naming();
+}
+
+/// Where several things ran as one call with keys watched, the queue of each of these keys is what it
+/// was at each moment since then: at each at which the site had gathered at least what the vectors
+/// have that were noted as the keys began to be watched.
+pub fn watching_notes()
+    ensures { (rule : Rules) (K site : ℕ) (W : List Operation) → 2 ≤ K → IsWorld K W →
+        (S : List Operation) (opening : Books) (first more : List Note) (n : Note)
+        (after : List Note) (watch : Watch) (calls : List Asking) (replies : List Word)
+        (key : List ℕ) → AreImagesOf rule K W S opening →
+        IsOneThread rule K site opening (first ++ (more ++ n ∷ after)) →
+        AreOfWorld W (first ++ (more ++ n ∷ after)) → n.asked ≡ ToRunWatched watch calls →
+        n.answer ≡ RepliedIf (Some replies) →
+        HasAllOf (gathered W first S) (heaps_in K) watch.vectors →
+        is_among watch.keys key ≡ true →
+        queues_over rule (gathered W more (gathered W first S)) (heaps_in K) key
+        ≡ queues_over rule (gathered W first S) (heaps_in K) key }
 {
     // A member's score over books is the one that their set means.
     naming();

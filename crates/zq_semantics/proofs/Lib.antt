@@ -13,3 +13,4 @@ pub mod NearBooks
 pub mod FewMembers
 pub mod Dropping
 pub mod ReadingRuns
+pub mod OneKey

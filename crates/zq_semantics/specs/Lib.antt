@@ -10,3 +10,4 @@ pub mod Events
 pub mod Runs
 pub mod Books
 pub mod Procedures
+pub mod Watching

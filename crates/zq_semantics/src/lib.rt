@@ -11,6 +11,7 @@ mod books;
 mod examples;
 mod heaps;
 mod joins;
+mod keys;
 mod procedures;
 mod sets;
 
@@ -19,5 +20,6 @@ pub use books::{doing, drawing, holding, recording};
 pub use examples::{answering, planning, slicing};
 pub use heaps::narrowing;
 pub use joins::meeting;
+pub use keys::{one_key, watching};
 pub use procedures::{answering_each, calling, reading_each, removing};
 pub use sets::{gathering, telling};

@@ -18,3 +18,5 @@ mod OfSets
 pub mod InHistory
 pub mod FurtherAnswers
 pub mod FurtherHistory
+mod Woven
+mod Together

@@ -16,3 +16,7 @@ pub mod PassFacts
 pub mod Calls
 pub mod FurtherCalls
 pub mod LentSites
+pub mod Transacting
+pub mod Writable
+pub mod Asking
+pub mod Places

@@ -1,6 +1,6 @@
 -- How long things take at most, in nanoseconds, and how many bytes a frame has.
 
-use Rattle.std.specs.Prelude.{Bool, List, length, nat_lt, ℕ, ◌*◌, ◌+◌, ◌^◌}
+use Rattle.std.specs.Prelude.{Bool, List, length, max, min, nat_lt, ℕ, ◌*◌, ◌+◌, ◌^◌}
 
 abbrev pub seconds : ℕ → ℕ
 seconds n = n * 1_000_000_000
@@ -32,9 +32,9 @@ beat = seconds 1
 abbrev pub stepping : ℕ
 stepping = 4 * 1_000_000
 
--- calls are gathered for so long before their operations are pushed
-abbrev pub gathering : ℕ
-gathering = 1_000_000
+-- calls are gathered for so long before their operations are pushed, where so many links are up
+abbrev pub gathering : ℕ → ℕ
+gathering links = max 1 (min links 4) * 1_000_000
 
 -- behind a piece of each heap it is waited for so long, where one call made more
 abbrev pub spreading : ℕ → ℕ

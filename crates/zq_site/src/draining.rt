@@ -3,6 +3,7 @@
 ghost use Rattle.zq_node.specs.Node.{IsNode, IsSameHome};
 
 use crate::keeping::keep_site;
+use crate::peer_links::links_up;
 use crate::post::Post;
 use crate::shared::Shared;
 use crate::times::{gathering, spreading};
@@ -82,7 +83,7 @@ fn drain_calls<L: Clock + Wait>(rt: &L, shared: Shared<'_>, node: &mut Node<'_>,
             break;
         }
         is_left = drain_and_look(rt, shared, node, hasher, &mut walks);
-        if shared.halt.wait(rt, pause_after(shared, is_left)) {
+        if shared.halt.wait(rt, pause_after(rt, shared, is_left)) {
             break;
         }
     }
@@ -100,11 +101,11 @@ fn goes_on<L: Wait>(calls: &mut Incoming<'_, L>, is_left: bool) -> bool {
 }
 
 /// For how long nothing is taken after a piece of each heap, where more is left or not.
-fn pause_after(shared: Shared<'_>, is_left: bool) -> Duration {
+fn pause_after<L: Wait>(rt: &L, shared: Shared<'_>, is_left: bool) -> Duration {
     if is_left {
         spreading(shared.settings.heaps.value() as u8)
     } else {
-        gathering()
+        gathering(links_up(rt, shared.peer_links))
     }
 }
 

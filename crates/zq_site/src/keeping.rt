@@ -5,6 +5,7 @@ ghost use Rattle.zq_node.specs.Node.{IsNode, IsSameHome};
 
 use crate::draining::intake_of;
 use crate::note::{LogRead, LogSwitched, Note};
+use crate::peer_links::links_up;
 use crate::report::RunName;
 use crate::shared::Shared;
 use crate::survey::milliseconds;
@@ -38,7 +39,8 @@ impl<L: Log + Clock + Wait> Beside for Aside<'_, L> {
     fn between(&mut self, node: &mut Node<'_>) {
         self.walks.go_on(self.log, self.shared, node, self.hasher);
         if self.shared.settings.disk.sync == SyncMode::Soon {
-            let _ = self.shared.halt.wait(self.log, gathering());
+            let links = links_up(self.log, self.shared.peer_links);
+            let _ = self.shared.halt.wait(self.log, gathering(links));
         }
     }
 

@@ -111,7 +111,18 @@ impl PeerLink {
     /// The same where the link of this number is up. Elsewhere the frame was made for another link,
     /// and is dropped: what a peer is told over a link begins with that link.
     pub fn send_over<R: Wait>(&self, rt: &R, number: u64, frame: Vec<u8>) {
+        self.leave_over(rt, number, frame);
+        self.wake();
+    }
+
+    /// The same, but who writes the link is not woken: [`PeerLink::wake`] does that, once for all
+    /// the frames that were left, so that they go in one write.
+    pub fn leave_over<R: Wait>(&self, rt: &R, number: u64, frame: Vec<u8>) {
         let _ = self.state.lock(rt).send_over(number, frame);
+    }
+
+    /// Wakes who writes the link.
+    pub fn wake(&self) {
         self.changed.notify_all();
     }
 

@@ -6,6 +6,7 @@ ghost use Rattle.zq_site.specs.PeerLinks.{dialers, is_listed, may_meet, partners
 
 use crate::peer_link::PeerLink;
 use std::alloc::{AllocError, Global};
+use std::sync::Wait;
 use zq_dots::{SITES, SiteNo};
 use zq_peers::others;
 use zq_settings::{Accept, Peer, SiteSettings};
@@ -32,6 +33,17 @@ pub fn peer_link_of(peer_links: &[PeerLink], peer: SiteNo) -> Option<&PeerLink>
         ≡ find (λ peer_link. peer_link.site == peer) peer_links.now }
 {
     peer_links.iter().find(|peer_link| peer_link.site == peer)
+}
+
+/// How many of these links are up.
+pub fn links_up<R: Wait>(rt: &R, peer_links: &[PeerLink]) -> usize {
+    let mut links = 0usize;
+    for peer_link in peer_links {
+        if peer_link.is_up(rt) {
+            links = links.saturating_add(1);
+        }
+    }
+    links
 }
 
 /// The sites that may have a link to this one: its peers, and where it accepts any those of greater

@@ -415,17 +415,30 @@ fn window_of(shared: Shared<'_>, links: usize) -> u64 {
 }
 
 /// Has each frame wait for its peer, once all that it may tell of is on the disk, where the site
-/// keeps a log. What was made for a link that was replaced meanwhile is dropped.
+/// keeps a log. What was made for a link that was replaced meanwhile is dropped. Who writes a link is
+/// woken once, when all its frames wait.
 fn post_all<L: Wait>(rt: &L, shared: Shared<'_>, replica: &Replica<'_>, out: Parcels) {
     if out.is_empty() || !is_kept(rt, shared) {
         return;
     }
+    let mut told = SiteSet::empty();
     for (to, frame) in out {
         if let Some(peer_link) = peer_link_of(shared.peer_links, to)
             && let Some(number) = peer_link.number(rt)
             && replica.is_up(to, number)
         {
-            peer_link.send_over(rt, number, frame);
+            peer_link.leave_over(rt, number, frame);
+            told = told.with(to);
+        }
+    }
+    wake_each(shared.peer_links, &told);
+}
+
+/// Wakes who writes the links to these peers.
+fn wake_each(peer_links: &[PeerLink], peers: &SiteSet) {
+    for peer_link in peer_links {
+        if peers.has(peer_link.site) {
+            peer_link.wake();
         }
     }
 }

@@ -68,11 +68,16 @@ pub fn stepping() -> Duration
     Duration::from_millis(4)
 }
 
-/// For how long calls are gathered before their operations are pushed: a millisecond.
-pub fn gathering() -> Duration
-    ensures { as_nanos result ≡ wanted.gathering }
+/// The most links for which calls are gathered longer.
+const MOST_GATHERED: u64 = 4;
+
+/// For how long calls are gathered before their operations are pushed, where so many links are up: a
+/// millisecond for each, at least one and at most four. So up to four peers together cost as many
+/// writes as one.
+pub fn gathering(links: usize) -> Duration
+    ensures { as_nanos result ≡ wanted.gathering links }
 {
-    Duration::from_millis(1)
+    Duration::from_millis((links as u64).clamp(1, MOST_GATHERED))
 }
 
 /// How long it is waited behind a piece of each heap, of so many, where one call made more: 5

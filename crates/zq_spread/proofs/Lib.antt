@@ -18,3 +18,4 @@ pub mod Worked
 pub mod Called
 pub mod Named
 pub mod Crossing
+pub mod Stays

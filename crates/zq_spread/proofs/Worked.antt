@@ -1,12 +1,13 @@
 -- A command over the books of several heaps, from where its call began to where it ended.
 
 use Rattle.std.proofs.Common.{ap, arith, inl, inr, refl, subst, sym, ◌∙◌}
+use Rattle.std.proofs.lemmas.List.{append-nil}
 use Rattle.std.specs.Prelude.{IfSome, List, Some, [], length, map, max, slice_get, ℕ, ◌+◌, ◌<◌, ◌∷◌, ◌≡◌, ◌≤◌}
 use Rattle.zq_commands.specs.Lending.{IsLending}
-use Rattle.zq_commands.specs.VecBooks.{lending_of, rule_in}
+use Rattle.zq_commands.specs.VecBooks.{IsRecordedOn, lending_of, rule_in}
 use Rattle.zq_dots.specs.Rule.{rule_of}
 use Rattle.zq_model.specs.Books.{Book, Step, steps_of}
-use Rattle.zq_model.specs.Reach.{IsWorked}
+use Rattle.zq_model.specs.Reach.{IsWorked, begun}
 use Rattle.zq_model.specs.Bounded.{IsBounded}
 use Rattle.zq_model.specs.Sets.{IsIn}
 use Rattle.zq_model.specs.Lent.{AreLent}
@@ -19,10 +20,11 @@ use Rattle.zq_spread.proofs.Twins.{AreTwins, begun_twin, each_twins, run_twins}
 use Rattle.zq_spread.specs.Calls.{AreWorkedIn, IsCall, greatest_stamp, heaps_of}
 use Rattle.zq_spread.specs.Commanded.{AreAppended}
 use Rattle.zq_spread.specs.Dispatch.{DoesCommand, HasHeldEach, IsCommandOver}
-use Rattle.zq_spread.specs.Each.{AreCalled, DoesEach}
+use Rattle.zq_spread.specs.Each.{AreCalledOver, DoesEach}
 use Rattle.zq_spread.specs.Passes.{IsSlotAt, seen_at, steps_at}
 use Rattle.zq_spread.specs.HeapSlots.{IsWorkedOn}
 use Rattle.zq_spread.specs.Several.{AreBegunAt, AreBooksAt, AreHeapsOf, AreHeldOn, HasEndedIn, IsBegunAt, IsHeldOn, IsSameOutside, MayEndIn, books_of}
+use Rattle.zq_spread.specs.Watching.{AreIdle, IsIdleOver}
 use Rattle.zq_spread.specs.Turns.{HasHeldOnce, HasTurn, turns_at}
 use Rattle.zq_spread.specs.declared.locked_heap.LockedHeap.{LockedHeap}
 use Rattle.zq_spread.specs.declared.pass.Pass.{Pass}
@@ -111,6 +113,19 @@ steps_each [] [] on = []
 steps_each [] (y ∷ news) on = []
 steps_each (x ∷ olds) [] on = []
 steps_each (x ∷ olds) (y ∷ news) on = steps_of on.0.kept.1.records ∷ steps_each olds news on.1
+
+-- a heap that is held, and on which nothing was worked
+abbrev recorded_idle : (b : Book) → IsRecordedOn b b
+recorded_idle b = record {
+  stamp = omega arith;
+  records = [];
+  tail = sym (append-nil b.tail);
+  worked = λ start steps w. subst (λ s. IsWorked b start b.stamp s) (sym (append-nil steps)) w;
+}
+
+abbrev held_idle : (helds : List (Held LockedHeap)) → AreHeldOn helds helds
+held_idle [] = tt
+held_idle (x ∷ helds) = (record { lock = refl; was_given = refl; kept = (refl, recorded_idle (value_of x).book); turns = refl }, held_idle helds)
 
 module _ (site : Site) (before : Pass) (stamp : ℕ) where
   begun_twins : (heaps : List ℕ) (helds : List (Held LockedHeap)) (found : List LockedHeap) → AreBegunAt site before stamp heaps helds found →
@@ -251,14 +266,45 @@ module _ (site : Site) (before : Pass) (stamp : ℕ) where
   pub each_over : (ps : List Procedure) (replies : List Word) (mid after : Pass) (heaps : List ℕ) (olds news : List (Held LockedHeap)) (found : List LockedHeap) → AreBegunAt site before stamp heaps olds found →
       (on : AreHeldOn olds news) → ((b : Book) → IsIn b (books_of news) → b.stamp ≤ stamp) → after.stamp ≡ stamp → IsSameOutside heaps before mid → HasEndedIn mid after heaps news →
       ((k : ℕ) → (IsIn k heaps → ⊥) → (seen_at after k ≡ seen_at mid k) × (steps_at after k ≡ steps_at mid k) × (turns_at after k ≡ turns_at mid k)) → stamp ≡ max before.stamp (greatest_stamp found) + 1 →
-      RunsAll (rule_of site.rule) site.number stamp ps (books_of olds) (books_of news) replies → AreCalled site ps replies before after heaps
+      RunsAll (rule_of site.rule) site.number stamp ps (books_of olds) (books_of news) replies → AreCalledOver site ps replies before after heaps found
   each_over ps replies mid after heaps olds news found are on low dated outside ended others next ran =
       let books = map (λ (x : LockedHeap). x.book) found in
       let other = each_twins (rule_of site.rule) site.number stamp ps (books_of olds) books (books_of olds) books (books_of news) replies (begun_twins heaps olds found are) ran in
-      let call = call_over (DoesEach site after.stamp ps replies) mid after heaps olds news found are on low dated outside ended others next
+      call_over (DoesEach site after.stamp ps replies) mid after heaps olds news found are on low dated outside ended others next
       (record {
         left = other.0;
         ran = subst (λ n. RunsAll (rule_of site.rule) site.number n ps books other.0 replies) (sym dated) other.1;
         appended = appended_each heaps olds news found other.0 are on other.2;
-      }) in
-      (call.0, call.2)
+      })
+
+  -- a call that made nothing
+  idle_steps : (heaps : List ℕ) (helds : List (Held LockedHeap)) (found : List LockedHeap) → AreBegunAt site before stamp heaps helds found →
+      steps_each helds helds (held_idle helds) ≡ map (λ (b : Book). []) (map (λ (x : LockedHeap). x.book) found)
+  idle_steps [] [] [] are = refl
+  idle_steps [] [] (x ∷ found) are = absurd are
+  idle_steps [] (held ∷ helds) found are = absurd are
+  idle_steps (h ∷ heaps) [] found are = absurd are
+  idle_steps (h ∷ heaps) (held ∷ helds) [] are = absurd are
+  idle_steps (h ∷ heaps) (held ∷ helds) (x ∷ found) are = ap (λ l. [] ∷ l) (idle_steps heaps helds found are.1)
+
+  pub idle_over : (mid after : Pass) (heaps : List ℕ) (helds : List (Held LockedHeap)) (found : List LockedHeap) → AreBegunAt site before stamp heaps helds found → after.stamp ≡ stamp →
+      IsSameOutside heaps before mid → HasEndedIn mid after heaps helds →
+      ((k : ℕ) → (IsIn k heaps → ⊥) → (seen_at after k ≡ seen_at mid k) × (steps_at after k ≡ steps_at mid k) × (turns_at after k ≡ turns_at mid k)) → stamp ≡ max before.stamp (greatest_stamp found) + 1 →
+      IsIdleOver before after heaps found
+  idle_over mid after heaps helds found are dated outside ended others next =
+      call_over AreIdle mid after heaps helds helds found are (held_idle helds) (λ b here. begun_dated site before stamp heaps helds found b are here) dated outside ended others next
+      (idle_steps heaps helds found are)
+
+  pub may_end_idle : (heaps : List ℕ) (helds : List (Held LockedHeap)) (found : List LockedHeap) → AreBegunAt site before stamp heaps helds found → MayEndIn site heaps helds
+  may_end_idle heaps helds found are = may_end_each heaps helds helds found are (held_idle helds) (λ b here. begun_dated site before stamp heaps helds found b are here)
+
+  -- the books that are held are those found, as the call begins with them
+  pub begun_are : (heaps : List ℕ) (helds : List (Held LockedHeap)) (found : List LockedHeap) → AreBegunAt site before stamp heaps helds found →
+      books_of helds ≡ map (begun stamp) (map (λ (x : LockedHeap). x.book) found)
+  begun_are [] [] [] are = refl
+  begun_are [] [] (x ∷ found) are = absurd are
+  begun_are [] (held ∷ helds) found are = absurd are
+  begun_are (h ∷ heaps) [] found are = absurd are
+  begun_are (h ∷ heaps) (held ∷ helds) [] are = absurd are
+  begun_are (h ∷ heaps) (held ∷ helds) (x ∷ found) are =
+      ap (λ b. b ∷ books_of helds) are.0.worked.is ∙ ap (λ l. begun stamp x.book ∷ l) (begun_are heaps helds found are.1)

@@ -16,3 +16,5 @@ pub mod Dispatch
 pub mod Several
 pub mod Worn
 pub mod Each
+pub mod Watches
+pub mod Watching

@@ -9,7 +9,7 @@ ghost use Rattle.zq_model.specs.Books.{Book as Books};
 ghost use Rattle.zq_resp.specs.Reply.{reply_bytes};
 ghost use Rattle.zq_spread.specs.Calls.{greatest_stamp, heaps_of};
 ghost use Rattle.zq_spread.specs.Dispatch.{all_heaps};
-ghost use Rattle.zq_spread.specs.Each.{HasCalledEach};
+ghost use Rattle.zq_spread.specs.Each.{HasCalledEach, HasCalledOver};
 ghost use Rattle.zq_spread.specs.Passes.{IsPassBut, IsPassOf, IsStopped};
 ghost use Rattle.zq_spread.specs.Several.{AreBegunAt, AreBooksAt, AreHeapsOf, IsSameOutside, books_of, helds_of};
 ghost use Rattle.zq_spread.specs.Worn.{IsStopOf, IsWornIn};
@@ -32,7 +32,7 @@ use zq_words::SiteCall;
 impl Site {
     /// Runs what is asked in the heaps in which its call has begun, one after the other, and ends
     /// the call. The replies stand behind those that are there, and there is room for them.
-    fn work_each(
+    pub(crate) fn work_each(
         &self,
         alloc: Global,
         pass: &mut Pass,
@@ -57,8 +57,8 @@ impl Site {
             AreBegunAt self.now before stamp heaps.now (helds_of holds.old) found →
             IsSameOutside heaps.now before pass.old →
             stamp ≡ max before.stamp (greatest_stamp found) + 1 →
-            HasCalledEach self.now (procedures calls.now) (map reply_bytes replies.old.items)
-            (map reply_bytes replies.new.items) before pass.new heaps.now }
+            HasCalledOver self.now (procedures calls.now) (map reply_bytes replies.old.items)
+            (map reply_bytes replies.new.items) before pass.new heaps.now found }
         ensures writable { IsTrue (are_writable replies.old.items) →
             IsTrue (are_writable replies.new.items) }
         ensures empty { helds_of holds.new ≡ [] }

@@ -63,6 +63,17 @@ pub enum EachFault {
     NoMemory,
 }
 
+/// Why nothing of what a site was asked while something was watched was done.
+#[derive(Clone, Copy, Debug, PartialEq, Eq)]
+pub enum WatchFault {
+    /// Something that is watched was changed, or may have been.
+    Touched,
+    /// A heap's lock or the stamp is at its last value.
+    Worn,
+    /// A growth was refused.
+    NoMemory,
+}
+
 /// Another thread holds a heap of the call or waits for it, or did so just now.
 #[derive(Clone, Copy, Debug, PartialEq, Eq)]
 pub struct Busy;

@@ -65,7 +65,7 @@ impl Books for LockedHeaps {
 }
 
 /// The book at a place. The lowest heap is the last of the stack.
-fn book_at(holds: &LockedHeaps, place: usize) -> &Book
+pub(crate) fn book_at(holds: &LockedHeaps, place: usize) -> &Book
     requires { place < length (helds_of holds.now) }
     ensures { slice_get (books_of (helds_of holds.now)) place ≡ Some result.now }
 {

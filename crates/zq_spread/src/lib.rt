@@ -37,11 +37,14 @@ mod taken_all;
 mod taking;
 mod tallying;
 mod trying_all;
+mod watched;
+mod watching;
 mod working;
 
 pub use draws::Draws;
-pub use faults::{Busy, EachFault, HoldFault, ReadFault, SiteFault};
+pub use faults::{Busy, EachFault, HoldFault, ReadFault, SiteFault, WatchFault};
 pub use holdings::Holding;
 pub use pass::Pass;
 pub use site::Site;
 pub use taken_all::{TakeEnd, TakenAll};
+pub use watched::Watched;

@@ -1,4 +1,4 @@
-use Rattle.zq_notes.proofs.Noted.{calls, calls_each, copies, drains, merges, portions, shows, takes, takes_all, takes_over, tells}
+use Rattle.zq_notes.proofs.Noted.{calls, calls_each, calls_watched, copies, drains, merges, portions, shows, takes, takes_all, takes_over, tells}
 use Rattle.zq_notes.proofs.calls.noting.Goals as goal
 
 pub returns-clause-calls : goal.returns-clause-calls
@@ -6,6 +6,9 @@ returns-clause-calls c = calls
 
 pub returns-clause-calls_each : goal.returns-clause-calls_each
 returns-clause-calls_each c = calls_each
+
+pub returns-clause-calls_watched : goal.returns-clause-calls_watched
+returns-clause-calls_watched c = calls_watched
 
 pub returns-clause-takes : goal.returns-clause-takes
 returns-clause-takes c = takes

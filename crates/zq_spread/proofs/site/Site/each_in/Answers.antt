@@ -12,7 +12,8 @@ work_each-requires-clause-homes g c =
 pub returns-in-Ok-clause-called : goal.returns-in-Ok-clause-called
 returns-in-Ok-clause-called g c =
     let begun = c.in-Ok.ensures.begun in
-    c.work_each.ensures.called c.args.pass.now begun.found begun.each c.in-Ok.ensures.outside begun.next
+    let over = c.work_each.ensures.called c.args.pass.now begun.found begun.each c.in-Ok.ensures.outside begun.next in
+    (over.0, over.1, (over.2.0, over.2.2))
 
 pub returns-in-Err-clause-pass : goal.returns-in-Err-clause-pass
 returns-in-Err-clause-pass g c = pass_back c.args.self.now c.args.heaps.now c.args.pass.now c.begin_all.new.pass c.requires.pass c.in-Err.ensures.back

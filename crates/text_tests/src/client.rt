@@ -1,11 +1,11 @@
 //! Requests, with the replies of redis-server 7.0.15 to them, or zqueue's own where it differs: it
 //! has one text for each reason, one database, and no more of CLIENT than its table says.
 
-use crate::{ClientState, Moment, Password, Profile};
 use sha2::{Digest, Sha256};
 use std::alloc::Global;
 use std::process::Abort;
 use std::test::Fail;
+use zq_client::{ClientState, Moment, Password, Profile};
 use zq_resp::{Reader, Request, write_reply};
 
 /// What is said where the site has to answer.

@@ -1,10 +1,10 @@
 //! What stays as it is, and what memory is asked for.
 
 use super::request;
-use crate::{read_call, rewritten};
 use std::alloc::Global;
 use std::process::Abort;
 use std::test::Fail;
+use zq_dialect::{read_call, rewritten};
 use zq_resp::Request;
 
 const KEPT: [&str; 21] = [

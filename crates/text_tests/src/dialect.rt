@@ -7,11 +7,11 @@ mod numbers;
 mod ranges;
 mod traps;
 
-use crate::{read_call, rewritten};
 use found::{write_answer, write_call};
 use std::alloc::Global;
 use std::process::Abort;
 use std::test::Fail;
+use zq_dialect::{read_call, rewritten};
 use zq_resp::{Reader, Request, write_reply};
 use zq_words::{Command, Refused};
 
