@@ -1,10 +1,13 @@
 -- Which commands a site answers, and what it tells the others.
 
+use Rattle.std.specs.List.{list_all}
 use Rattle.std.specs.Prelude.{Bool, List, [], codes, decimal, false, not, true, ℕ, ◌++◌, ◌||◌, ◌∷◌, ◌≡◌}
 use Rattle.zq_resp.specs.Reply.{line, reply_bytes}
 use Rattle.zq_resp.specs.declared.reply.Reply.{Reply}
 use Rattle.zq_serve.specs.declared.admission.Admits.{Admits}
 use Rattle.zq_serve.specs.declared.admission.Admits.TheVariants.{All, NoAdditions, NoChanges, Pings, Readings}
+use Rattle.zq_session.specs.declared.queued.Queued.{Queued}
+use Rattle.zq_session.specs.declared.queued.Queued.TheVariants as queued
 use Rattle.zq_words.specs.Words.{Word, is}
 
 -- whether a request of this name writes
@@ -65,3 +68,17 @@ pub record IsHeldBack (site : ℕ) (admits : Admits) (words : List Word) (reply 
   where
     pub refused : is_admitted admits words ≡ false
     pub told : reply_bytes reply ≡ 45 ∷ line (refusal_of site admits)
+
+-- whether what waits is answered; what a connection answers itself, and what is refused, is no
+-- business of this
+abbrev pub is_admitted_later : Admits → Queued → Bool
+is_admitted_later admits (queued.Asked request) = is_admitted admits request
+is_admitted_later admits other = true
+
+abbrev pub are_admitted : Admits → List Queued → Bool
+are_admitted admits queue = list_all (is_admitted_later admits) queue
+
+-- one of those that waited is not answered any more, and so none is
+abbrev pub AreHeldBack : ℕ → Admits → List Queued → Reply → Type 0
+AreHeldBack site admits queue reply = (are_admitted admits queue ≡ false)
+    × (reply_bytes reply ≡ 45 ∷ line (refusal_of site admits))

@@ -13,3 +13,10 @@ pub mod Commits
 pub mod CommitLaws
 pub mod Limits
 pub mod Rewriting
+pub mod Controls
+pub mod Denials
+pub mod Queues
+pub mod Callers
+pub mod Preparing
+pub mod Transactions
+pub mod Together

@@ -1,6 +1,5 @@
 //! What counts the commands that are answered.
 
-ghost use Rattle.std.specs.Prelude.{◌≡◌};
 
 use std::alloc::Global;
 use zq_loop::Attends;

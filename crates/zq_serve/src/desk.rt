@@ -4,7 +4,7 @@ ghost use Rattle.std.specs.Prelude.{ℤ, ◌≡◌};
 ghost use Rattle.zq_client.specs.Clients.{begun};
 
 use std::alloc::Global;
-use std::sync::atomic::{AtomicU64, Ordering};
+use std::sync::atomic::{AtomicBool, AtomicU64, Ordering};
 use std::time::{Clock, Duration};
 use zq_client::{ClientState, Moment, Password, Profile};
 use zq_loop::PortFigures;
@@ -15,11 +15,14 @@ pub struct Desk {
     pub(crate) profile: Profile,
     started: Duration,
     given: AtomicU64,
+    may_end: bool,
+    is_ended: AtomicBool,
 }
 
 impl Desk {
     /// Of a site whose clients have to show this password, if there is one, which starts now: a
     /// program of this version, with so many names of commands, and these values of its settings.
+    /// Where it may end, a connection that is known may have the site end.
     pub fn new<R: Clock>(
         rt: &R,
         password: Option<Password>,
@@ -27,6 +30,7 @@ impl Desk {
         commands: u32,
         max_memory: u64,
         timeout: u64,
+        may_end: bool,
     ) -> Desk
         ensures { result.profile.password ≡ password }
     {
@@ -40,7 +44,24 @@ impl Desk {
             },
             started: time_of(rt),
             given: AtomicU64::new(0),
+            may_end,
+            is_ended: AtomicBool::new(false),
         }
+    }
+
+    /// Whether a connection that is known may have the site end.
+    pub(crate) fn may_end(&self) -> bool {
+        self.may_end
+    }
+
+    /// A connection has the site end.
+    pub(crate) fn end(&self) {
+        self.is_ended.store(true, Ordering::SeqCst);
+    }
+
+    /// Whether a connection has had the site end.
+    pub fn is_ended(&self) -> bool {
+        self.is_ended.load(Ordering::SeqCst)
     }
 
     /// A connection that begins, with a number that no other has.

@@ -6,7 +6,8 @@ use crate::notifier::Notifier;
 use std::alloc::Global;
 use std::snapshot::Snapshot;
 use zq_resp::{Reply, Request};
-use zq_session::Answers;
+use zq_session::{Answers, Queued, Transacted, Transacts};
+use zq_spread::Watched;
 
 /// Answers as the answerer inside, once answers are admitted, and tells of each answer once it is
 /// made. Whoever waits to be admitted has no lock.
@@ -27,5 +28,40 @@ impl<A: Answers, T: Notifier> Answers for Ticking<A, T> {
         let reply = self.answerer.answer(alloc, request);
         self.notifier.tell(Snapshot::of(&reply));
         reply
+    }
+}
+
+impl<A: Answers + Transacts, T: Notifier> Transacts for Ticking<A, T> {
+    ghost use Rattle.std.specs.Prelude.{◌≡◌};
+    ghost use Rattle.zq_resp.specs.declared.reply.Reply.{Reply as Told};
+
+    ghost prepares = { λ state words result. A.prepares state.answerer words result };
+
+    ghost transacts = { λ old queue watch result new.
+        A.transacts old.answerer queue watch result new.answerer
+        × (told : Told) × T.tells old.notifier told new.notifier };
+
+    ghost watches = { λ old keys result new.
+        A.watches old.answerer keys result new.answerer × (new.notifier ≡ old.notifier) };
+
+    fn prepare(&self, alloc: Global, request: &Request) -> Result<Queued, Reply> {
+        self.answerer.prepare(alloc, request)
+    }
+
+    fn transact(
+        &mut self,
+        alloc: Global,
+        queue: &[Queued],
+        watched: Option<&Watched>,
+    ) -> Transacted {
+        self.notifier.admit();
+        let come = self.answerer.transact(alloc, queue, watched);
+        self.notifier.tell(Snapshot::of(&Reply::NullArray));
+        come
+    }
+
+    fn watch(&mut self, alloc: Global, keys: Vec<Vec<u8>>) -> Result<Watched, Reply> {
+        self.notifier.admit();
+        self.answerer.watch(alloc, keys)
     }
 }

@@ -61,6 +61,13 @@ impl<L: Log + Clock + Wait> Desk for SiteDesk<'_, L> {
     }
 }
 
+/// The site is told to end, where a connection asked for that.
+pub fn heed_shutdown<L: Log>(log: &L, shared: Shared<'_>) {
+    if shared.desk.is_ended() && !shared.front.stop() {
+        note_of(log, shared.settings.site, Note::Stopping);
+    }
+}
+
 /// The text of a page of a site that is so ready. Where the largest keys are asked for they may be
 /// looked for from now on.
 fn page_of<L: Clock + Wait>(

@@ -4,7 +4,7 @@ ghost use Rattle.std.specs.Prelude.{◌≡◌};
 ghost use Rattle.zq_site.specs.Site.{acceptors_for};
 
 use crate::accepting::accept_peers;
-use crate::administering::{pass_on, serve_admin};
+use crate::administering::{heed_shutdown, pass_on, serve_admin};
 use crate::announcing::{announce, listening_of};
 use crate::dialing::dial_line;
 use crate::draining::Draining;
@@ -161,6 +161,7 @@ where
             );
             ended = run_clients(log, shared.alloc, clients, inboxes, seeds.draws);
         }
+        heed_shutdown(log, shared);
         if shared.front.stops() && !shared.admission.is_fenced() {
             pass_on(log, shared);
         }
@@ -270,6 +271,7 @@ fn beat_time<M: Memory, L: Log + Wait + Clock>(
     let mut guard = MemoryGuard::new(shared.admission, shared.settings.max_memory);
     for _ in log.forever() {
         guard.look(log, memory);
+        heed_shutdown(log, shared);
         measure_process(log, memory, shared, port, began);
         if pass_beat(log, shared) {
             break;
