@@ -1,6 +1,5 @@
 //! What counts the commands that are answered.
 
-
 use std::alloc::Global;
 use zq_loop::Attends;
 use zq_metrics::{Command, WorkerCounters, command_of};
