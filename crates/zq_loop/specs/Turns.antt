@@ -2,7 +2,6 @@
 use Rattle.std.specs.Prelude.{◌≡◌, ℕ, List, None, Option, Some, slice_get}
 use Rattle.zq_loop.specs.Attending.{AnyAsked, OwnRelation, attended, beside, on_pairs}
 use Rattle.zq_loop.specs.Client.{IsServedAt}
-use Rattle.zq_loop.specs.declared.attending.Attended.{Attended}
 use Rattle.zq_loop.specs.declared.client.Client.{Client}
 use Rattle.zq_session.specs.Among.{Change}
 use Rattle.zq_session.specs.Steps.{Does}

@@ -1,6 +1,6 @@
 -- What becomes of those who wait for the disk, step by step.
 
-use Rattle.std.proofs.Common.{List, [], ap, arith, false, max, min, nat_le, nat_lt, refl, subst, sym, true, ℕ, ◌+◌, ◌<◌, ◌^◌, ◌∙◌, ◌∷◌, ◌≡◌, ◌≤◌}
+use Rattle.std.proofs.Common.{List, [], ap, arith, false, max, refl, subst, sym, true, ℕ, ◌<◌, ◌∷◌, ◌≡◌, ◌≤◌}
 use Rattle.std.proofs.lemmas.Bool.{le-leb, lt-leb}
 use Rattle.std.proofs.lemmas.Bool.Decides.{nat_tests}
 use Rattle.zq_serve.specs.CommitLaws.{AreEarly, Asks, Closes, DoneStays, Ends, EndsOwn, Fails, FailuresHold, FailuresHoldOwn, HasNext, IsEarly, NoneIsDoneEarly, OwnLetsGo, OwnTicketsAreHeld, StayOpen, StaysOpen, Step, TicketsAreHeld, after, stepped}

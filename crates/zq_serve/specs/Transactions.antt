@@ -87,8 +87,8 @@ IsPutOffBy prepares state before words reply after = (read : Result Queued Reply
 
 -- ---- what is told, and leaves all as it was
 
-pub record IsTold {S : Type 0} (bytes : Word) (reply : Reply) (old new : S) (before after : Caller) :
-    Type 0
+pub record IsTold {S : Type 0} (bytes : Word) (reply : Reply) (old new : S)
+    (before after : Caller) : Type 0
   where
     pub told : reply_bytes reply ≡ bytes
     pub inside : new ≡ old
@@ -141,8 +141,9 @@ IsFilledAt profile before other was is after = (is ≡ was) × (after ≡ before
 abbrev pub AreFilled : Profile → Client → List Queued → List Reply → List Reply → Client → Type 0
 AreFilled profile before [] were are after = (are ≡ were) × (after ≡ before)
 AreFilled profile before (q ∷ queue) [] are after = (are ≡ []) × (after ≡ before)
-AreFilled profile before (q ∷ queue) (was ∷ were) are after = (first : Reply) × (others : List Reply)
-    × (mid : Client) × (are ≡ first ∷ others) × IsFilledAt profile before q was first mid
+AreFilled profile before (q ∷ queue) (was ∷ were) are after = (first : Reply)
+    × (others : List Reply) × (mid : Client) × (are ≡ first ∷ others)
+    × IsFilledAt profile before q was first mid
     × AreFilled profile mid queue were others after
 
 -- what is told of what came of them
@@ -245,7 +246,8 @@ IsWatched transacts watches old before keys reply new after =
 -- that the site ends, or that it does not for this connection; what is kept stays as it is
 abbrev pub IsToldOfEnd : {S : Type 0} → Reply → S → S → Caller → Caller → Type 0
 IsToldOfEnd reply old new before after =
-    IsTold OK reply old new before after ⊎ IsTold (denied denial.Shutdown) reply old new before after
+    IsTold OK reply old new before after
+    ⊎ IsTold (denied denial.Shutdown) reply old new before after
 
 abbrev pub IsToldOfEndWith : {S : Type 0} → Bool → Reply → S → S → Caller → Caller → Type 0
 IsToldOfEndWith true reply old new before after = IsToldOfEnd reply old new before after

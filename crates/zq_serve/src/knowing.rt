@@ -87,8 +87,9 @@ impl<A: Answers + Transacts, R: Clock> Knowing<'_, A, R> {
         alloc: Global,
         request: &Request,
     ) -> Reply
-        ensures related { AnswersAtDesk (inside A.answers A.prepares A.transacts A.watches) desk.now.profile
-            self.old.answerer own.old request.now result self.new.answerer own.new }
+        ensures related { AnswersAtDesk (inside A.answers A.prepares A.transacts A.watches)
+            desk.now.profile self.old.answerer own.old request.now result
+            self.new.answerer own.new }
         ensures writable { IsTrue (is_writable result) }
         ensures desk { option_copied self.new.desk ≡ option_copied self.old.desk }
     {
@@ -110,8 +111,9 @@ impl<A: Answers + Transacts, R: Clock> Knowing<'_, A, R> {
         alloc: Global,
         request: &Request,
     ) -> Reply
-        ensures related { IsAskedOf (inside A.answers A.prepares A.transacts A.watches) desk.now.profile
-            self.old.answerer caller.old request.now result self.new.answerer caller.new }
+        ensures related { IsAskedOf (inside A.answers A.prepares A.transacts A.watches)
+            desk.now.profile self.old.answerer caller.old request.now result
+            self.new.answerer caller.new }
         ensures writable { IsTrue (is_writable result) }
         ensures desk { option_copied self.new.desk ≡ option_copied self.old.desk }
     {

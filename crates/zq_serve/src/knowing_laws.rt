@@ -21,7 +21,8 @@ use zq_session::{Answers, Transacts};
 pub fn strangers_reach_nothing<A: Answers + Transacts>()
     ensures { (profile : Profile) (old new : A) (own own_new : Option Caller)
         (words : List (List ℕ)) (reply : Reply) → IsStranger profile own →
-        AnswersAtDesk (inside A.answers A.prepares A.transacts A.watches) profile old own words reply new own_new → new ≡ old }
+        AnswersAtDesk (inside A.answers A.prepares A.transacts A.watches) profile old own words
+        reply new own_new → new ≡ old }
 {}
 
 /// Requests that wait, whatever other connections do meanwhile, are answered as one: EXEC asks once

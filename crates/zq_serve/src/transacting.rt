@@ -77,8 +77,9 @@ impl<A: Answers + Transacts, R: Clock> Knowing<'_, A, R> {
         control: Control,
         request: &Request,
     ) -> Reply
-        ensures related { IsObeyed (inside A.answers A.prepares A.transacts A.watches) desk.now.profile control
-            self.old.answerer caller.old request.now result self.new.answerer caller.new }
+        ensures related { IsObeyed (inside A.answers A.prepares A.transacts A.watches)
+            desk.now.profile control self.old.answerer caller.old request.now result
+            self.new.answerer caller.new }
         ensures writable { IsTrue (is_writable result) }
         ensures desk { option_copied self.new.desk ≡ option_copied self.old.desk }
     {
@@ -133,8 +134,8 @@ impl<A: Answers + Transacts, R: Clock> Knowing<'_, A, R> {
 
     /// EXEC: those that wait are answered as one, and nothing is watched any more.
     fn execute(&mut self, desk: &Desk, caller: &mut CallerState, alloc: Global) -> Reply
-        ensures related { IsExecuted A.transacts desk.now.profile self.old.answerer caller.old result
-            self.new.answerer caller.new }
+        ensures related { IsExecuted A.transacts desk.now.profile self.old.answerer caller.old
+            result self.new.answerer caller.new }
         ensures writable { IsTrue (is_writable result) }
         ensures desk { option_copied self.new.desk ≡ option_copied self.old.desk }
     {
@@ -182,8 +183,9 @@ impl<A: Answers + Transacts, R: Clock> Knowing<'_, A, R> {
         requests: &[Queued],
         watched: Option<&Watched>,
     ) -> Reply
-        ensures related { IsAnsweredTogether A.transacts desk.now.profile self.old.answerer client.old
-            requests.now (option_copied watched.entry) result self.new.answerer client.new }
+        ensures related { IsAnsweredTogether A.transacts desk.now.profile self.old.answerer
+            client.old requests.now (option_copied watched.entry) result
+            self.new.answerer client.new }
         ensures writable { IsTrue (is_writable result) }
         ensures desk { option_copied self.new.desk ≡ option_copied self.old.desk }
     {

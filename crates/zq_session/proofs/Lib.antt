@@ -20,3 +20,4 @@ pub mod FurtherAnswers
 pub mod FurtherHistory
 mod Woven
 mod Together
+mod Transactions

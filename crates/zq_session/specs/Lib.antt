@@ -20,3 +20,4 @@ pub mod Transacting
 pub mod Writable
 pub mod Asking
 pub mod Places
+pub mod Transactions

@@ -1,6 +1,6 @@
 //! The two ends of a peer: what it sends is read, and what it is owed is written.
 
-ghost use Rattle.std.specs.Prelude.{◌≡◌, ◌<◌, ◌≤◌, ℕ, List, length, take, MatchResult};
+ghost use Rattle.std.specs.Prelude.{◌≡◌, ◌<◌, ◌≤◌, ℕ, length, take, MatchResult};
 
 use crate::outcome::SessionFault;
 use crate::transfer::{put_all, read_some};

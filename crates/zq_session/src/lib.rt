@@ -3,6 +3,7 @@
 
 mod along;
 mod answering;
+mod as_one;
 mod calling;
 mod connection;
 mod ends;
@@ -26,6 +27,7 @@ mod transacts;
 mod transfer;
 
 pub use along::keeping;
+pub use as_one::transacting_meaning;
 pub use calling::Calling;
 pub use connection::Connection;
 pub use ends::Ends;

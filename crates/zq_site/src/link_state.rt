@@ -1,6 +1,6 @@
 //! What is known of the link to a peer, and what waits for it.
 
-ghost use Rattle.std.specs.Prelude.{◌≡◌, ◌≢◌, ℕ, IfOk, IfSome, IsNone, IsSome, None, OnErr, OnOk, Option, Some, [], if◌then◌else◌, is_some, option_map};
+ghost use Rattle.std.specs.Prelude.{◌≡◌, ◌≢◌, ℕ, IfOk, IfSome, IsNone, IsSome, None, OnErr, OnOk, Option, Some, [], if◌then◌else◌, option_map};
 ghost use Rattle.zq_site.specs.FrameQueues.{frames_of};
 ghost use Rattle.zq_site.specs.LinkStates.{IsHeartbeat, IsTaken, append_to, cleared_all, fresh, halted, has_room, is_up, lowered, most_before, next_number, protocol_of as link_protocol, put_on, raised, sent, stream_of as link_stream, written_on};
 

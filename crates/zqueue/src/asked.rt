@@ -1,6 +1,6 @@
 //! What the command line asks for.
 
-ghost use Rattle.zqueue.specs.Asked.{AreNumbers, Asks, AsksOfLog, AsksOther, IsAsked, IsNumber, LAST_SITE, ROUNDS, SEEDS};
+ghost use Rattle.zqueue.specs.Asked.{Asks, AsksOfLog, AsksOther, IsAsked, IsNumber, LAST_SITE, ROUNDS, SEEDS};
 ghost use Rattle.std.specs.Prelude.{IfOk, SomeIff, map, string_bytes};
 ghost use Rattle.std.specs.Str.Parse.{digits_value};
 

@@ -1,4 +1,4 @@
-use Rattle.std.proofs.Common.{ap, arith, length, refl, ◌+◌, ◌∙◌, ◌≡◌}
+use Rattle.std.proofs.Common.{ap, arith, length, refl, ◌+◌, ◌≡◌}
 use Rattle.zq_session.proofs.MadeAndLent.{lent_by}
 use Rattle.zq_session.proofs.lending.lend.Goals as goal
 
