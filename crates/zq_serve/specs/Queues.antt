@@ -1,6 +1,6 @@
 -- Requests that wait to be answered as one.
 
-use Rattle.std.specs.Prelude.{Err, IsTrue, List, Ok, Result, [], codes, ◌++◌, ◌∷◌, ◌≡◌, ◌⊎◌}
+use Rattle.std.specs.Prelude.{Err, IsTrue, List, Ok, Result, [], codes, length, min, ℕ, ◌+◌, ◌++◌, ◌-◌, ◌^◌, ◌∷◌, ◌≡◌, ◌⊎◌}
 use Rattle.zq_resp.specs.Reply.{is_writable, line, reply_bytes}
 use Rattle.zq_resp.specs.declared.reply.Reply.{Reply}
 use Rattle.zq_serve.specs.Denials.{denied}
@@ -49,3 +49,17 @@ IsPutOff (Open old) q reply Broken = IsTooMuch reply
 IsPutOff (Open old) q reply Idle = ⊥
 IsPutOff Idle q reply new = (new ≡ Idle) × (reply_bytes reply ≡ QUEUED)
 IsPutOff Broken q reply new = (new ≡ Broken) × (reply_bytes reply ≡ QUEUED)
+
+-- ---- what requests weigh
+
+-- the sum, where 64 bits hold it
+abbrev pub within : ℕ → ℕ
+within sum = min sum (2 ^ 64 - 1)
+
+-- what words weigh behind others that weigh so much: each its bytes, and 24 more
+abbrev pub weight_behind : ℕ → List Word → ℕ
+weight_behind others [] = others
+weight_behind others (word ∷ words) = weight_behind (within (within (others + length word) + 24)) words
+
+abbrev pub weight_of : List Word → ℕ
+weight_of words = weight_behind 0 words

@@ -32,7 +32,8 @@ impl Desk {
         timeout: u64,
         may_end: bool,
     ) -> Desk
-        ensures { result.profile.password ≡ password }
+        ensures password { result.profile.password ≡ password }
+        ensures may_end { result.may_end ≡ may_end }
     {
         Desk {
             profile: Profile {
@@ -50,7 +51,9 @@ impl Desk {
     }
 
     /// Whether a connection that is known may have the site end.
-    pub(crate) fn may_end(&self) -> bool {
+    pub(crate) fn may_end(&self) -> bool
+        ensures { result ≡ self.now.may_end }
+    {
         self.may_end
     }
 

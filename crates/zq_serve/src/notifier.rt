@@ -8,13 +8,18 @@ use std::sync::Wait;
 use std::time::Clock;
 use zq_peers::Mailbox;
 use zq_resp::Reply;
+use zq_session::Transacted;
 
 /// What is told of answers.
 pub trait Notifier {
     ghost use Rattle.zq_resp.specs.declared.reply.Reply.{Reply as Answer};
+    ghost use Rattle.zq_session.specs.declared.queued.Transacted.{Transacted as Ended};
 
     /// What stands before, the answer, and what stands after.
     ghost tells: { Self → Answer → Self → Type 0 };
+
+    /// The same of what came of requests that were answered as one.
+    ghost tells_all: { Self → Ended → Self → Type 0 };
 
     /// An answer is to be made. It waits where answers have to.
     fn admit(&self);
@@ -23,6 +28,10 @@ pub trait Notifier {
     /// of alike.
     fn tell(&mut self, answer: Snapshot<Reply>)
         ensures { tells self.old answer.value self.new };
+
+    /// Requests were answered as one. Only proofs see what came of them, so that they were before.
+    fn tell_all(&mut self, come: Snapshot<Transacted>)
+        ensures { tells_all self.old come.value self.new };
 }
 
 /// Tells the link thread of a site, by a Tick in its mailbox, where there is one. Before an answer
@@ -48,6 +57,8 @@ impl<R: Wait + Clock> Notifier for Ticks<'_, R> {
 
     ghost tells = { λ old answer new. option_copied new.mailbox ≡ option_copied old.mailbox };
 
+    ghost tells_all = { λ old come new. option_copied new.mailbox ≡ option_copied old.mailbox };
+
     fn admit(&self) {
         if let Some(gate) = self.gate {
             gate.wait(self.rt);
@@ -55,6 +66,12 @@ impl<R: Wait + Clock> Notifier for Ticks<'_, R> {
     }
 
     fn tell(&mut self, _answer: Snapshot<Reply>) {
+        if let Some(mailbox) = self.mailbox {
+            mailbox.tick(self.rt);
+        }
+    }
+
+    fn tell_all(&mut self, _come: Snapshot<Transacted>) {
         if let Some(mailbox) = self.mailbox {
             mailbox.tick(self.rt);
         }

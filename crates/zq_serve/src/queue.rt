@@ -1,8 +1,9 @@
 //! Requests that wait to be answered as one.
 
-ghost use Rattle.std.specs.Prelude.{IsTrue, ◌≡◌};
+ghost use Rattle.std.specs.Prelude.{IsTrue, OnOk, length, ◌+◌, ◌-◌, ◌<◌, ◌≡◌, ◌≤◌};
 ghost use Rattle.zq_resp.specs.Reply.{is_writable};
-ghost use Rattle.zq_serve.specs.Queues.{IsAppended, IsPutOff, line_of, spoiled};
+ghost use Rattle.zq_serve.specs.Queues.{IsAppended, IsPutOff, line_of, spoiled, weight_of};
+ghost use Rattle.zq_words.specs.Words.{views};
 
 use crate::denial::Denial;
 use zq_resp::Reply;
@@ -67,7 +68,10 @@ fn append(
     queued: Queued,
     weight: usize,
 ) -> Result<(), Reply>
-    ensures { IsAppended requests.old.items queued result requests.new.items }
+    ensures appended { IsAppended requests.old.items queued result requests.new.items }
+    ensures limits { OnOk result ((length requests.old.items < 65536)
+        × (weight ≤ 16777216 - bytes.old)) }
+    ensures weighed { OnOk result (bytes.new ≡ bytes.old + weight) }
 {
     if requests.len() >= MOST_QUEUED || weight > MOST_BYTES.saturating_sub(*bytes) {
         return Err(Denial::TooLarge.reply());
@@ -82,7 +86,9 @@ fn append(
 }
 
 /// What a request of these words weighs.
-pub fn weight_of(words: &[Vec<u8>]) -> usize {
+pub fn weight_of(words: &[Vec<u8>]) -> usize
+    ensures { result ≡ weight_of (views words.now) }
+{
     let mut bytes = 0usize;
     for word in words {
         bytes = bytes.saturating_add(word.len()).saturating_add(WORD);

@@ -33,13 +33,12 @@ impl<A: Answers, T: Notifier> Answers for Ticking<A, T> {
 
 impl<A: Answers + Transacts, T: Notifier> Transacts for Ticking<A, T> {
     ghost use Rattle.std.specs.Prelude.{◌≡◌};
-    ghost use Rattle.zq_resp.specs.declared.reply.Reply.{Reply as Told};
 
     ghost prepares = { λ state words result. A.prepares state.answerer words result };
 
     ghost transacts = { λ old queue watch result new.
         A.transacts old.answerer queue watch result new.answerer
-        × (told : Told) × T.tells old.notifier told new.notifier };
+        × T.tells_all old.notifier result new.notifier };
 
     ghost watches = { λ old keys result new.
         A.watches old.answerer keys result new.answerer × (new.notifier ≡ old.notifier) };
@@ -56,7 +55,7 @@ impl<A: Answers + Transacts, T: Notifier> Transacts for Ticking<A, T> {
     ) -> Transacted {
         self.notifier.admit();
         let come = self.answerer.transact(alloc, queue, watched);
-        self.notifier.tell(Snapshot::of(&Reply::NullArray));
+        self.notifier.tell_all(Snapshot::of(&come));
         come
     }
 

@@ -1,7 +1,7 @@
 //! How a connection has several requests answered as one.
 
 ghost use Rattle.std.specs.Option.{option_copied};
-ghost use Rattle.std.specs.Prelude.{IfErr, IfOk, IsTrue, Ok, OnOk, length, ◌++◌, ◌≡◌, ◌⊎◌};
+ghost use Rattle.std.specs.Prelude.{IfErr, IfOk, IsTrue, Ok, OnOk, if◌then◌else◌, length, ◌+◌, ◌++◌, ◌≡◌, ◌≤◌};
 ghost use Rattle.zq_client.specs.Texts.{OK};
 ghost use Rattle.zq_commands.specs.Arrays.{are_writable};
 ghost use Rattle.zq_journal.specs.Untouched.{keys_of};
@@ -10,6 +10,7 @@ ghost use Rattle.zq_resp.specs.declared.reply.Reply.{Array};
 ghost use Rattle.zq_serve.specs.Callers as callers;
 ghost use Rattle.zq_serve.specs.Controls as controls;
 ghost use Rattle.zq_serve.specs.Denials.{denied};
+ghost use Rattle.zq_serve.specs.Queues.{weight_of};
 ghost use Rattle.zq_session.specs.Transacting.{refused_bytes};
 ghost use Rattle.zq_serve.specs.declared.denial.Denial.TheVariants as denial;
 ghost use Rattle.zq_serve.specs.Transactions.{AreFilled, IsAnsweredTogether, IsDiscarded, IsExecuted, IsFilledAt, IsKept, IsObeyed, IsObeyedAlone, IsOpened, IsOwnReadBy, IsOwnReply, IsPutOffBy, IsReadAs, IsRun, IsWatched, IsWatchedAnew, IsWatchedBeside, spoiled_by, unwatched};
@@ -121,7 +122,8 @@ impl<A: Answers + Transacts, R: Clock> Knowing<'_, A, R> {
 
     /// SHUTDOWN: the site ends, where this connection may have it end.
     fn shut(&self, desk: &Desk) -> Reply
-        ensures told { (reply_bytes result ≡ OK) ⊎ (reply_bytes result ≡ denied denial.Shutdown) }
+        ensures told { reply_bytes result
+            ≡ (if desk.now.may_end then OK else denied denial.Shutdown) }
         ensures writable { IsTrue (is_writable result) }
     {
         if !desk.may_end() {
@@ -312,6 +314,8 @@ impl<A: Answers + Transacts, R: Clock> Knowing<'_, A, R> {
         ensures related { IsWatchedAnew A.watches self.old.answerer (views had.now)
             (views keys.now) result self.new.answerer }
         ensures writable { IfErr result (λ reply. IsTrue (is_writable reply)) }
+        ensures limit { OnOk result
+            (weight_of (views had.now) + weight_of (views keys.now) ≤ 16777216) }
         ensures desk { option_copied self.new.desk ≡ option_copied self.old.desk }
     {
         if weight_of(had).saturating_add(weight_of(keys)) > MOST_BYTES {

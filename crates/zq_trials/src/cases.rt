@@ -4,7 +4,7 @@ use crate::commands::ROWS;
 use crate::devices::{Trial, devices};
 use crate::ended::Ended;
 use crate::visits::{Visit, visited};
-use crate::{books, careless, feeding, making, merging};
+use crate::{books, careless, feeding, making, merging, transacting};
 use std::alloc::Global;
 use std::sync::Wait;
 
@@ -27,6 +27,7 @@ pub fn case<R: Wait>(rt: &R, alloc: Global, name: &str) -> Option<Ended> {
         "writes" => devices(rt, alloc, Trial::Writes),
         "index" => visited(rt, alloc, Visit::Index),
         "worn" => visited(rt, alloc, Visit::Worn),
+        "transaction" => transacting::transaction(rt, alloc),
         "careless" => careless::careless(alloc),
         _ => command_named(rt, alloc, name),
     }

@@ -18,6 +18,7 @@ mod merging;
 mod shards;
 mod sites;
 mod streams;
+mod transacting;
 mod visits;
 mod worn;
 

@@ -61,6 +61,11 @@ pub fn request(alloc: Global, line: &str) -> Option<Request> {
     }
 }
 
+/// Room for the bytes of a reply.
+pub fn room(alloc: Global) -> Option<Vec<u8>> {
+    Vec::with_capacity(alloc, LONGEST_REPLY).ok()
+}
+
 /// What the site answers a request.
 fn reply_of<R: Wait>(
     rt: &R,
@@ -92,7 +97,7 @@ pub fn answer<R: Wait>(
     ensures { IsPassOf site.now pass.new }
 {
     let request = request(alloc, line)?;
-    let mut bytes = Vec::with_capacity(alloc, LONGEST_REPLY).ok()?;
+    let mut bytes = room(alloc)?;
     let reply = reply_of(rt, alloc, site, pass, &request);
     write_reply(&mut bytes, &reply).ok()?;
     Some(bytes)
