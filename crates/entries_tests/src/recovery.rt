@@ -8,10 +8,11 @@ use std::alloc::Global;
 use std::fmt::Write;
 use std::process::Abort;
 use std::test::Fail;
-use zq_dots::{Rule, SiteNo};
-use zq_entries::{EntryFault, read_entry};
+use std::thread::Threads;
+use zq_dots::{Op, Rule, SiteNo};
+use zq_entries::{Entry, EntryFault, read_entry};
 use zq_posheap::Seeded;
-use zq_recovery::{Identity, Recovery, Refusal};
+use zq_recovery::{Hearer, Identity, Recovery, Refusal};
 use zq_stage::Stage;
 use zq_wal::{Disk, MemoryDisk, MemorySource, Wal, WalError, read_records, reopen};
 
@@ -71,6 +72,53 @@ fn told(alloc: Global, log: &str) -> Result<String, Fail> {
         }
     }
     told_of(alloc, recovery)
+}
+
+/// The entries of these names, up to the first that is none, and why that is none.
+fn entries_of(alloc: Global, log: &str) -> Result<(Vec<Entry>, Option<Refusal>), Fail> {
+    let mut entries = Vec::new(alloc);
+    for name in log.split_whitespace() {
+        let bytes = entry_of(alloc, name)?;
+        match read_entry(alloc, &bytes, Seeded::new(1)) {
+            Ok(entry) => entries.push(entry)?,
+            Err(fault) => return Ok((entries, Some(Refusal::Entry(fault)))),
+        }
+    }
+    Ok((entries, None))
+}
+
+/// Nobody hears of the operations.
+#[derive(Drop)]
+struct Unheard;
+
+impl Hearer for Unheard {
+    fn hear(&self, _ops: &[Op]) {}
+}
+
+/// The same where each heap takes what is its own in a thread.
+fn told_abreast<R: Threads + Sync>(rt: &R, alloc: Global, log: &str) -> Result<String, Fail> {
+    let mut recovery = begun(alloc)?;
+    let (entries, fault) = entries_of(alloc, log)?;
+    let refusal = match recovery.take_all(rt, 2, entries, &Unheard) {
+        Ok(()) => fault,
+        Err(refusal) => Some(refusal),
+    };
+    if let Some(refusal) = refusal {
+        let mut out = String::new(alloc);
+        write!(out, "{refusal:?}")?;
+        return Ok(out);
+    }
+    told_of(alloc, recovery)
+}
+
+#[test]
+fn logs_are_taken_as_told_by_a_thread_for_each_heap(rt: HostRuntime) -> Result<(), Fail> {
+    for row in LOGS.lines() {
+        let (log, expected) = row.split_once(" | ").ok_or("a log")?;
+        let told = told_abreast(&rt, rt.alloc(), log)?;
+        assert_eq!(rt; told.as_str(), expected, "{log}");
+    }
+    Ok(())
 }
 
 #[test]

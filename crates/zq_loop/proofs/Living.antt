@@ -4,7 +4,7 @@ use Rattle.std.proofs.lemmas.Option.{slice_get_within}
 use Rattle.std.specs.Prelude.{slice_get, slice_set}
 use Rattle.zq_loop.proofs.AtSocket.{served-first}
 use Rattle.zq_loop.proofs.TurnByTurn.{set-cases}
-use Rattle.zq_loop.specs.Attending.{AnyAsked, OwnRelation, attended, beside, on_pairs}
+use Rattle.zq_loop.specs.Attending.{AnyDone, OwnRelation, attended, beside, on_pairs}
 use Rattle.zq_loop.specs.Client.{IsServedAt}
 use Rattle.zq_loop.specs.Life.{AreKeptOrNew, AreNone, AreServed, IsAsItWas, IsAt, IsMove, IsTurn, Lives, Moment, Rests, moment}
 use Rattle.zq_loop.specs.Turns.{AreServedAt, IsServedFrom}
@@ -90,12 +90,12 @@ module _ {E C : Type 0} where
 
 module _ {E C S : Type 0} (does : Does E) (others : Change S) (answers : OwnRelation S C) where
   pub turn-none : (now : Moment E C S) → IsTurn does others answers now now
-  turn-none now = record { served = λ begun all. all; requests = λ begun all. meanwhile-none (AnyAsked answers) now.answerer }
+  turn-none now = record { served = λ begun all. all; requests = λ begun all. meanwhile-none (AnyDone others answers) now.answerer }
 
   pub turn-join : (a b c : Moment E C S) → IsTurn does others answers a b → IsTurn does others answers b c → IsTurn does others answers a c
   turn-join a b c p q = record {
     served = λ begun all. q.served begun (p.served begun all);
-    requests = λ begun all. meanwhile-join (AnyAsked answers) a.answerer b.answerer c.answerer (p.requests begun all) (q.requests begun (p.served begun all));
+    requests = λ begun all. meanwhile-join (AnyDone others answers) a.answerer b.answerer c.answerer (p.requests begun all) (q.requests begun (p.served begun all));
   }
 
   pub lives-none : (now : Moment E C S) → Lives does others answers now now
@@ -173,23 +173,23 @@ module _ {E C S : Type 0} (does : Does E) (others : Change S) (answers : OwnRela
       rests-served now mids mid new next.0 p.1 next.1
 
   lives-by : (mids : List (Moment E C S)) (old new : Moment E C S) → Leads (IsMove does others answers) old mids new → AreServed does others answers old
-      → AreServed does others answers new × Meanwhile (AnyAsked answers) old.answerer new.answerer
+      → AreServed does others answers new × Meanwhile (AnyDone others answers) old.answerer new.answerer
   lives-by [] old new same served =
-      (subst (AreServed does others answers) same served, subst (λ (m : Moment E C S). Meanwhile (AnyAsked answers) old.answerer m.answerer) same (meanwhile-none (AnyAsked answers) old.answerer))
+      (subst (AreServed does others answers) same served, subst (λ (m : Moment E C S). Meanwhile (AnyDone others answers) old.answerer m.answerer) same (meanwhile-none (AnyDone others answers) old.answerer))
   lives-by (mid ∷ mids) old new p served = elim p.0 [
     | inl turn ↦
         let rest = lives-by mids mid new p.1 (served.0, turn.served served.0 served.1) in
-        (rest.0, meanwhile-join (AnyAsked answers) old.answerer mid.answerer new.answerer (turn.requests served.0 served.1) rest.1)
+        (rest.0, meanwhile-join (AnyDone others answers) old.answerer mid.answerer new.answerer (turn.requests served.0 served.1) rest.1)
     | inr rest ↦
         let kept : AreServed does others answers (moment old.answerer mid.clients) = rests-served old.answerer rest.clients.0 old.clients mid.clients served.0 rest.clients.1 served.1 in
         let here : AreServed does others answers mid = subst (λ s. AreServed does others answers (moment s mid.clients)) (sym rest.answerer) kept in
         let more = lives-by mids mid new p.1 here in
-        (more.0, subst (λ s. Meanwhile (AnyAsked answers) s new.answerer) rest.answerer more.1)
+        (more.0, subst (λ s. Meanwhile (AnyDone others answers) s new.answerer) rest.answerer more.1)
   ]
 
-  -- over a worker's life each client is served, and what answers is changed by requests alone
+  -- over a worker's life each client is served, and what answers is changed by requests and others alone
   pub lives-served : (old new : Moment E C S) → Lives does others answers old new → AreServed does others answers old
-      → AreServed does others answers new × Meanwhile (AnyAsked answers) old.answerer new.answerer
+      → AreServed does others answers new × Meanwhile (AnyDone others answers) old.answerer new.answerer
   lives-served old new p served = lives-by p.0 old new p.1 served
 
   -- with no clients there is none to be served

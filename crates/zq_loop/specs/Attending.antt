@@ -1,6 +1,6 @@
 -- Answers to connections that have something of their own.
 
-use Rattle.std.specs.Prelude.{List, Option, ℕ, ◌≡◌}
+use Rattle.std.specs.Prelude.{List, Option, ℕ, ◌≡◌, ◌⊎◌}
 use Rattle.zq_loop.specs.declared.attending.Attended.{Attended}
 use Rattle.zq_resp.specs.declared.reply.Reply.{Reply}
 use Rattle.zq_session.specs.Among.{Change}
@@ -27,3 +27,7 @@ beside others old new = others old.answerer new.answerer × (new.own ≡ old.own
 abbrev pub AnyAsked : {S C : Type 0} → OwnRelation S C → Change S
 AnyAsked {C = C} answers old new = (own own_new : Option C) × (request : List (List ℕ))
     × (reply : Reply) × answers old own request reply new own_new
+
+-- a request was answered, whoever asked, or others did what they may
+abbrev pub AnyDone : {S C : Type 0} → Change S → OwnRelation S C → Change S
+AnyDone others answers old new = AnyAsked answers old new ⊎ others old new

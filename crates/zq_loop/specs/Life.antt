@@ -1,6 +1,6 @@
 -- The life of a worker: its turns, and what it does between them.
 use Rattle.std.specs.Prelude.{◌≡◌, ◌⊎◌, ℕ, List, None, Option, Some, slice_get}
-use Rattle.zq_loop.specs.Attending.{AnyAsked, OwnRelation}
+use Rattle.zq_loop.specs.Attending.{AnyDone, OwnRelation}
 use Rattle.zq_loop.specs.Turns.{AreServedAt}
 use Rattle.zq_loop.specs.declared.client.Client.{Client}
 use Rattle.zq_session.specs.Among.{Change, Meanwhile}
@@ -68,7 +68,7 @@ abbrev pub moment : {E C S : Type 0} → S → List (Option (Client E C)) → Mo
 moment answerer clients = record { answerer = answerer; clients = clients }
 
 -- A turn: whatever each client began with, it is served as before, with all others between its
--- requests, and what answers is changed by requests alone.
+-- requests, and what answers is changed by requests, and by what others may do, alone.
 pub record IsTurn {E C S : Type 0} (does : Does E) (others : Change S) (answers : OwnRelation S C)
     (old new : Moment E C S) : Type 0 where
   pub served : (begun : ℕ → Option (E × S)) →
@@ -76,7 +76,7 @@ pub record IsTurn {E C S : Type 0} (does : Does E) (others : Change S) (answers 
       AreServedAt does others answers begun new.answerer new.clients
   pub requests : (begun : ℕ → Option (E × S)) →
       AreServedAt does others answers begun old.answerer old.clients
-      → Meanwhile (AnyAsked answers) old.answerer new.answerer
+      → Meanwhile (AnyDone others answers) old.answerer new.answerer
 
 -- between turns nothing is answered, and clients stay as they are, leave whole, or come
 pub record IsRest {E C S : Type 0} (old new : Moment E C S) : Type 0 where

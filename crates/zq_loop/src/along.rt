@@ -1,7 +1,7 @@
 //! What is true of a connection at its socket while others are served between its turns.
 
 ghost use Rattle.std.specs.Prelude.{[]};
-ghost use Rattle.zq_loop.specs.Attending.{AnyAsked};
+ghost use Rattle.zq_loop.specs.Attending.{AnyDone};
 ghost use Rattle.zq_loop.specs.Client.{IsSent, IsServedAt};
 ghost use Rattle.zq_loop.specs.Life.{AreServed, Lives, Moment, moment};
 ghost use Rattle.zq_session.specs.Among.{Meanwhile};
@@ -27,7 +27,8 @@ pub fn keeping_at_sockets<S: Socket, A: Answers>()
 {}
 
 /// Over the life of a worker, which begins with no clients, each client that is there has been
-/// served since it came, and what answers is changed by requests alone: turns and rests keep both.
+/// served since it came, and what answers is changed by requests, and by what others may do, alone:
+/// turns and rests keep both.
 pub fn keeping_through_lives<S: Socket, C, A: Attends<C>>()
     ensures begins { (now : A) →
         AreServed S.does A.others A.answers (moment {E = S} {C = C} now []) }
@@ -35,5 +36,5 @@ pub fn keeping_through_lives<S: Socket, C, A: Attends<C>>()
         AreServed S.does A.others A.answers old → AreServed S.does A.others A.answers new }
     ensures requests { (old new : Moment S C A) → Lives S.does A.others A.answers old new →
         AreServed S.does A.others A.answers old →
-        Meanwhile (AnyAsked A.answers) old.answerer new.answerer }
+        Meanwhile (AnyDone A.others A.answers) old.answerer new.answerer }
 {}

@@ -10,8 +10,9 @@ use zq_session::Answers;
 /// What answers the requests of many connections, each of which has something of its own: nothing
 /// when it begins, and from its first request on what that left.
 pub trait Attends<C> {
-    ghost use Rattle.std.specs.Prelude.{List, Option, ℕ};
+    ghost use Rattle.std.specs.Prelude.{List, Option, ℕ, ◌≡◌};
     ghost use Rattle.zq_resp.specs.declared.reply.Reply.{Reply};
+    ghost use Rattle.zq_session.specs.Among.{Meanwhile};
 
     /// The state before and what the connection has, a request's words, the reply, and the same
     /// after.
@@ -24,6 +25,17 @@ pub trait Attends<C> {
     fn attend(&mut self, own: &mut Option<C>, alloc: Global, request: &Request) -> Reply
         ensures related { answers self.old own.old request.now result self.new own.new }
         ensures writable { IsTrue (is_writable result) };
+
+    /// Whether the request of the connection that has this is not to be answered yet. This is asked
+    /// right before each request is answered: where it is so the request is held, and asked about
+    /// again. To find that out may change what others may change, and nothing that is known of what
+    /// the connection has.
+    fn holds(&mut self, _own: &mut Option<C>, _alloc: Global, _request: &Request) -> bool
+        ensures meanwhile { Meanwhile others self.old self.new }
+        ensures own { _own.new ≡ _own.old }
+    {
+        false
+    }
 
     /// Whether the connection that has this is to be closed: it is heard no more, and what it is
     /// owed is written.
@@ -72,6 +84,10 @@ impl<C, A: Attends<C>> Answers for Attended<A, C> {
     fn answer(&mut self, alloc: Global, request: &Request) -> Reply {
         self.answerer.attend(&mut self.own, alloc, request)
     }
+
+    fn holds(&mut self, alloc: Global, request: &Request) -> bool {
+        self.answerer.holds(&mut self.own, alloc, request)
+    }
 }
 
 /// What answers alike whoever asks: connections have nothing of their own, none is closed for what
@@ -92,6 +108,10 @@ impl<A: Answers> Attends<()> for Alike<A> {
 
     fn attend(&mut self, _own: &mut Option<()>, alloc: Global, request: &Request) -> Reply {
         self.answerer.answer(alloc, request)
+    }
+
+    fn holds(&mut self, _own: &mut Option<()>, alloc: Global, request: &Request) -> bool {
+        self.answerer.holds(alloc, request)
     }
 
     fn is_over(&self, _own: &Option<()>) -> bool {

@@ -1,12 +1,12 @@
 //! A connection at its socket.
 
 ghost use Rattle.std.specs.Prelude.{◌<◌, ◌≡◌, ◌≢◌, ◌≤◌, ◌↔◌, ◌⊎◌, IsTrue, None, [], length, max};
-ghost use Rattle.zq_loop.specs.Attending.{AnyAsked, attended, beside, on_pairs};
+ghost use Rattle.zq_loop.specs.Attending.{AnyDone, attended, beside, on_pairs};
 ghost use Rattle.zq_loop.specs.declared.attending.Attended.{Attended as Pair};
 ghost use Rattle.zq_loop.specs.Client.{IsPast, IsSent, IsServedAt, fault_of};
 ghost use Rattle.zq_loop.specs.Life.{IsAsItWas};
-ghost use Rattle.zq_session.specs.Among.{AnyRequest, Meanwhile};
-ghost use Rattle.zq_session.specs.Connection.{IsNew, IsOver, WantsToRead, owed_of};
+ghost use Rattle.zq_session.specs.Among.{AnyChange, Meanwhile};
+ghost use Rattle.zq_session.specs.Connection.{CanGoOn, IsNew, IsOver, WantsToRead, owed_of};
 
 use crate::attending::{Attended, Attends};
 use crate::socket::{Moved, Socket};
@@ -31,6 +31,8 @@ pub struct Client<S: Drop, C: Drop> {
     is_finishing: bool,
     has_broken: bool,
     has_failed: bool,
+    // Whether it is to be asked again about the request that is held.
+    asks_again: bool,
     /// Whether it has a turn to come.
     pub(crate) is_queued: bool,
     /// When it last brought something, in seconds.
@@ -62,6 +64,7 @@ impl<S: Socket + Drop, C: Drop> Client<S, C> {
             is_finishing: false,
             has_broken: false,
             has_failed: false,
+            asks_again: false,
             is_queued: false,
             heard_at: now,
             taken_at: now,
@@ -80,7 +83,16 @@ impl<S: Socket + Drop, C: Drop> Client<S, C> {
         self.is_last |= is_last;
     }
 
-    /// No more is read of it. What was read is answered, and what is owed is written.
+    /// Where a request is held, that one may be to be answered now: this is asked again at its next
+    /// turn, which it is ready for.
+    pub fn ask_again(&mut self)
+        ensures { IsAsItWas self.old self.new }
+    {
+        self.asks_again = self.connection.is_held();
+    }
+
+    /// No more is read of it. What was read is answered, also a request that is held, and what is
+    /// owed is written.
     pub fn finish(&mut self)
         ensures { IsAsItWas self.old self.new }
     {
@@ -107,7 +119,7 @@ impl<S: Socket + Drop, C: Drop> Client<S, C> {
         ensures requests { (first : S) (begun : Pair A C) →
             IsServedAt S.does (beside A.others) (on_pairs A.answers) first begun
             (attended attending.old.answerer self.old.own) self.old.socket self.old.connection →
-            Meanwhile (AnyAsked A.answers) attending.old.answerer attending.new.answerer }
+            Meanwhile (AnyDone A.others A.answers) attending.old.answerer attending.new.answerer }
     {
         mem::swap(&mut self.own, &mut attending.own);
         self.serve_and_close(alloc, attending, buffer, now);
@@ -132,7 +144,7 @@ impl<S: Socket + Drop, C: Drop> Client<S, C> {
         ensures requests { (first : S) (begun : Pair A C) →
             IsServedAt S.does (beside A.others) (on_pairs A.answers) first begun attending.old
             self.old.socket self.old.connection →
-            Meanwhile (AnyRequest (on_pairs A.answers)) attending.old attending.new }
+            Meanwhile (AnyChange (beside A.others) (on_pairs A.answers)) attending.old attending.new }
     {
         self.serve_by(alloc, attending, buffer, now);
         self.standing.note(attending.is_stranger(), now);
@@ -153,18 +165,41 @@ impl<S: Socket + Drop, C: Drop> Client<S, C> {
             self.new.connection }
         ensures requests { (first : S) (begun : A) →
             IsServedAt S.does A.others A.answers first begun answerer.old self.old.socket
-            self.old.connection → Meanwhile (AnyRequest A.answers) answerer.old answerer.new }
+            self.old.connection →
+            Meanwhile (AnyChange A.others A.answers) answerer.old answerer.new }
     {
         self.taken_at = self.last_taken(now);
         if self.connection.can_go_on() {
-            let heard = self.connection.go_on(alloc, answerer);
-            self.has_broken = heard.is_ok() & self.connection.is_closed();
+            self.go_on(alloc, answerer);
         } else if self.connection.wants_to_read() {
             if self.is_finishing {
                 self.connection.close();
             } else if self.is_readable {
                 self.read(alloc, answerer, buffer, now);
             }
+        }
+    }
+
+    /// The replies to what came and waits. Where a request is held still, and the other side is
+    /// gone or writes no more, the connection is closed: nobody waits for that one.
+    fn go_on<A: Answers>(&mut self, alloc: Global, answerer: &mut A)
+        requires goes_on { CanGoOn self.old.connection }
+        ensures served { (first : S) (begun : A) →
+            IsServedAt S.does A.others A.answers first begun answerer.old self.old.socket
+            self.old.connection →
+            IsServedAt S.does A.others A.answers first begun answerer.new self.new.socket
+            self.new.connection }
+        ensures requests { (first : S) (begun : A) →
+            IsServedAt S.does A.others A.answers first begun answerer.old self.old.socket
+            self.old.connection →
+            Meanwhile (AnyChange A.others A.answers) answerer.old answerer.new }
+    {
+        self.asks_again = false;
+        let heard = self.connection.go_on(alloc, answerer);
+        self.has_broken = heard.is_ok() & self.connection.is_closed();
+        let is_gone = self.is_last & self.connection.is_held();
+        if is_gone {
+            self.connection.close();
         }
     }
 
@@ -189,7 +224,8 @@ impl<S: Socket + Drop, C: Drop> Client<S, C> {
             self.new.connection }
         ensures requests { (first : S) (begun : A) →
             IsServedAt S.does A.others A.answers first begun answerer.old self.old.socket
-            self.old.connection → Meanwhile (AnyRequest A.answers) answerer.old answerer.new }
+            self.old.connection →
+            Meanwhile (AnyChange A.others A.answers) answerer.old answerer.new }
     {
         match self.socket.receive(buffer) {
             Moved::Some(0) => self.connection.close(),
@@ -262,17 +298,22 @@ impl<S: Socket + Drop, C: Drop> Client<S, C> {
     }
 
     /// Whether it has been owed nothing, and brought nothing, for so many seconds. None has where
-    /// it is 0.
+    /// it is 0, or where a request is held: that one waits for its answer.
     pub fn is_silent(&self, limit: u64, now: u64) -> bool
-        ensures { IsTrue result ↔ ((owed_of self.now.connection ≡ [])
+        ensures { IsTrue result ↔ ((self.now.connection.held ≡ None)
+            × (owed_of self.now.connection ≡ [])
             × IsPast (max self.now.heard_at self.now.taken_at) limit now) }
     {
-        self.connection.owed().is_empty() && is_past(self.heard_at.max(self.taken_at), limit, now)
+        !self.connection.is_held()
+            && self.connection.owed().is_empty()
+            && is_past(self.heard_at.max(self.taken_at), limit, now)
     }
 
-    /// Whether it has something to do that waits for nobody.
+    /// Whether it has something to do that waits for nobody. A request that is held waits until it is
+    /// to be asked about again, or the other side is gone or writes no more.
     pub fn is_ready(&self) -> bool {
-        self.connection.can_go_on()
+        let is_waiting = self.connection.is_held() && !self.asks_again && !self.is_last;
+        self.connection.can_go_on() && !is_waiting
             || (self.is_readable || self.is_finishing) && self.connection.wants_to_read()
             || self.is_writable && !self.connection.owed().is_empty()
     }

@@ -55,6 +55,27 @@ pub fn note_at<S: Socket + Drop, C: Drop>(
     }
 }
 
+/// Where the client at a place has a request that is held, queues it to be asked again whether that
+/// is to be answered.
+pub fn ask_at<S: Socket + Drop, C: Drop>(
+    clients: &mut [Option<Client<S, C>>],
+    queue: &mut Vec<usize>,
+    place: usize,
+)
+    ensures { Rests clients.old clients.new }
+{
+    if place >= clients.len() {
+        return;
+    }
+    if let Some(client) = &mut clients[place] {
+        client.ask_again();
+        let is_due = !client.is_queued & client.is_ready();
+        if is_due {
+            client.is_queued = queue.push(place).is_ok();
+        }
+    }
+}
+
 /// Has the client at a place finish, and queues it.
 pub fn finish_at<S: Socket + Drop, C: Drop>(
     clients: &mut [Option<Client<S, C>>],

@@ -1,6 +1,6 @@
 //! What a worker waits with.
 
-ghost use Rattle.zq_loop.specs.Attending.{AnyAsked};
+ghost use Rattle.zq_loop.specs.Attending.{AnyDone};
 ghost use Rattle.zq_loop.specs.Life.{Rests};
 ghost use Rattle.zq_loop.specs.Turns.{AreOthers};
 ghost use Rattle.zq_session.specs.Among.{Meanwhile};
@@ -49,7 +49,8 @@ impl Poller {
     /// Serves the connections of its port that are handed to it, until all have come and are
     /// served, or it is told to stop. The port has to be the one that it was opened with. What
     /// answers has to let all that requests do to it be what others may do to a connection. It is
-    /// changed by requests alone.
+    /// changed by requests, and by what others may do, alone: to find out whether a request is to
+    /// be answered yet may do that.
     pub fn run<R: Wait + Clock, C: Drop, A: Attends<C>, W: Watch>(
         &mut self,
         rt: &R,
@@ -59,7 +60,7 @@ impl Poller {
         watch: &W,
     )
         requires others { AreOthers A.others A.answers }
-        ensures { Meanwhile (AnyAsked A.answers) attending.old.answerer attending.new.answerer }
+        ensures { Meanwhile (AnyDone A.others A.answers) attending.old.answerer attending.new.answerer }
     {
         if let Some(inbox) = port.inboxes.get(self.place) {
             Worker::new(alloc, self, inbox, port, watch).run(rt, attending);

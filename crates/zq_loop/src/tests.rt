@@ -3,7 +3,7 @@
 use crate::{Alike, Attended, Limits, Port, PortFault, Watch};
 use std::alloc::{AllocError, Global};
 use std::io::{Read, Write};
-use std::net::{IpAddr, Ipv4Addr, Net, OpenStream, SocketAddr, TcpListener, TcpStream};
+use std::net::{IpAddr, Ipv4Addr, Net, OpenStream, Shutdown, SocketAddr, TcpListener, TcpStream};
 use std::rt::Clock;
 use std::sync::Wait;
 use std::sync::atomic::{AtomicU64, Ordering};
@@ -25,6 +25,24 @@ impl Answers for Pong {
 
     fn answer(&mut self, _alloc: Global, _request: &Request) -> Reply {
         Reply::Simple("PONG")
+    }
+}
+
+// Holds every request.
+#[derive(Drop)]
+struct Never;
+
+impl Answers for Never {
+    ghost answers = { λ _ _ _ _. Unit {0} };
+
+    ghost others = { λ _ _. Unit {0} };
+
+    fn answer(&mut self, _alloc: Global, _request: &Request) -> Reply {
+        Reply::Simple("PONG")
+    }
+
+    fn holds(&mut self, _alloc: Global, _request: &Request) -> bool {
+        true
     }
 }
 
@@ -194,5 +212,66 @@ fn a_port_that_is_stopped_ends(rt: HostRuntime) -> Result<(), Fail> {
 fn a_port_that_is_cut_ends(rt: HostRuntime) -> Result<(), Fail> {
     let told = visited(&rt, rt.alloc(), End::Cut)?;
     assert!(rt; told == 0);
+    Ok(())
+}
+
+/// Whether a client whose request is held reads the end at once, where it says that it writes no
+/// more.
+fn is_let_go<R>(rt: &R, number: u16) -> io::Result<bool>
+where
+    R: Net<Listener = TcpListener, Stream = TcpStream>,
+{
+    let address = SocketAddr::from((IpAddr::V4(Ipv4Addr::LOCALHOST), number));
+    let mut client = TcpStream::connect(rt, address)?;
+    client.set_read_timeout(Some(Duration::from_secs(10)))?;
+    client.write_all(PING)?;
+    client.shutdown(Shutdown::Write)?;
+    let mut buffer = [0u8; 7];
+    Ok(client.read(&mut buffer)? == 0)
+}
+
+/// A port of one worker that holds every request, which one client visits.
+fn held<R>(rt: &R, alloc: Global) -> Result<bool, Fail>
+where
+    R: Net<Listener = TcpListener, Stream = TcpStream> + Clock + Threads + Wait + Sync,
+{
+    let address = SocketAddr::from((IpAddr::V4(Ipv4Addr::LOCALHOST), 0));
+    let limits = Limits {
+        clients: 1,
+        connections: 1,
+        timeout: 0,
+        write_timeout: 60,
+        output: 1_000_000,
+        strangers: 0,
+    };
+    let watch = Counting {
+        told: AtomicU64::new(0),
+    };
+    let (port, mut acceptor, mut pollers) = Port::open(rt, alloc, address, 1, limits)?;
+    let number = port.address()?.port();
+    let (port, told) = (&port, &watch);
+    let (acceptor, pollers) = (&mut acceptor, pollers.as_mut_slice());
+    thread::scope(
+        thread::scope_env(),
+        rt,
+        move |scope| -> Result<bool, Fail> {
+            for poller in pollers {
+                scope.spawn(move || poller.run(
+                    rt,
+                    alloc,
+                    port,
+                    &mut Attended::new(Alike { answerer: Never }),
+                    told,
+                ))?;
+            }
+            scope.spawn(move || acceptor.run(rt, port, told))?;
+            Ok(is_let_go(rt, number).unwrap_or(false))
+        },
+    )
+}
+
+#[test]
+fn a_connection_whose_request_is_held_ends_with_its_client(rt: HostRuntime) -> Result<(), Fail> {
+    assert!(rt; held(&rt, rt.alloc())?);
     Ok(())
 }

@@ -2,3 +2,9 @@ pub mod World
 pub mod Stepping
 pub mod Keeping
 pub mod Reading
+pub mod Along
+pub mod InTurn
+pub mod Gaining
+pub mod Rows
+pub mod Crossing
+pub mod AtOnce

@@ -2,6 +2,8 @@ pub mod Step
 pub mod Opening
 pub mod Refused
 pub mod Effect
+pub mod Abreast
+pub mod Lanes
 pub mod Behind
 pub mod Replayed
 pub mod Laws

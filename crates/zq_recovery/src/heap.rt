@@ -54,7 +54,7 @@ pub(crate) fn judge_sealed(stages: &[Stage], whole: &Sealed) -> Result<(), Refus
 }
 
 /// The same of the heap's stage.
-fn judge_stage(stage: &Stage, whole: &Sealed) -> Result<(), Refusal>
+pub(crate) fn judge_stage(stage: &Stage, whole: &Sealed) -> Result<(), Refusal>
     ensures heaps { OnOk result (stage.now.held.heaps ≡ whole.now.heap.heaps) }
     ensures whole { OnOk result (stage.now.whole ≡ true) }
     ensures vector { OnOk result (stage.now.held.image.vector ≡ whole.now.vector) }

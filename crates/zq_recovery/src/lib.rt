@@ -1,7 +1,8 @@
 //! A site's heaps, made again from the entries of its log after a crash.
 //!
-//! Entries are taken one at a time, in the order in which they stand in the log. It holds each heap
-//! once, and the entry that is taken.
+//! Entries are taken in the order in which they stand in the log, one at a time (`take`), or some at
+//! once by a thread for each heap (`take_all`), of which the same comes. It holds each heap once, and
+//! the entries that are taken.
 //!
 //! | entry | does | is refused |
 //! |---|---|---|
@@ -16,16 +17,22 @@
 //! `Recovery` is a `Replay` of `zq_wal`, so that `read_records` has it take a log's records.
 #![tactic(auto)]
 
+mod abreast;
+mod halt;
 mod heap;
+mod lane;
 mod laws;
 mod opening;
+mod part;
 mod pieces;
 mod recovery;
 mod refusal;
 mod replaying;
 mod rounds;
+mod sharing;
 
 pub use laws::{going_on, recovering};
 pub use opening::Identity;
+pub use part::Hearer;
 pub use recovery::Recovery;
 pub use refusal::Refusal;

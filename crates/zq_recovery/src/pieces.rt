@@ -26,7 +26,7 @@ pub(crate) fn take_piece(alloc: Global, stages: &mut [Stage], piece: Piece) -> R
 }
 
 /// Takes a piece: the first of a stream, or the next one.
-fn take_in(alloc: Global, stage: &mut Stage, piece: Piece) -> Result<(), Refusal>
+pub(crate) fn take_in(alloc: Global, stage: &mut Stage, piece: Piece) -> Result<(), Refusal>
     ensures comes { OnOk result
         (Begins piece stage.old stage.new ⊎ GoesOn piece stage.old stage.new) }
     ensures cause { IfErr result IsPieceRefused }

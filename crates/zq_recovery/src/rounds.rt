@@ -51,7 +51,7 @@ fn take_op(alloc: Global, stages: &mut [Stage], op: &Op) -> Result<(), Refusal>
 }
 
 /// Takes an operation; one that is known changes nothing.
-fn take_in(alloc: Global, stage: &mut Stage, op: &Op) -> Result<(), Refusal>
+pub(crate) fn take_in(alloc: Global, stage: &mut Stage, op: &Op) -> Result<(), Refusal>
     ensures taken { OnOk result (Takes op.now stage.old stage.new) }
     ensures gap { IsErrOf result Refusal.Gap →
         taken_of stage.old.held.image.vector op.now.operation ≡ Early }

@@ -1,10 +1,11 @@
 -- Requests of one connection that are answered while others are served between them.
-use Rattle.std.proofs.Common.{List, ℕ, [], ◌∷◌, ◌++◌, Option, Ok, Err, refl, sym, subst}
+use Rattle.std.proofs.Common.{List, ℕ, [], ◌∷◌, ◌++◌, Option, Result, Ok, Err, inl, inr, refl, sym, subst}
 use Rattle.zq_resp.specs.declared.reply.Reply.{Reply}
 use Rattle.zq_resp.specs.Stream.{Requests, handed}
-use Rattle.zq_session.specs.Among.{Among, AnyRequest, Change, Leads, Meanwhile}
-use Rattle.zq_session.specs.Serving.{ServesPiece}
+use Rattle.zq_session.specs.Among.{Among, AnyChange, Change, Leads, Meanwhile}
+use Rattle.zq_session.specs.Serving.{AnswersAll, ServesPiece}
 use Rattle.zq_session.specs.Session.{IsAnswered, IsStopped, Relation, Runs}
+use Rattle.zq_session.specs.declared.outcome.SessionFault.{SessionFault}
 use Rattle.zq_session.specs.declared.outcome.SessionFault.TheVariants as stop
 use Rattle.zq_session.specs.declared.serving.Served.{Served}
 use Rattle.zq_session.specs.declared.serving.Served.TheVariants.{Broken, More}
@@ -74,19 +75,95 @@ module _ {S : Type 0} (others : Change S) where
         let q = stopped-among last now new (handed p.0) bytes p.2 o p.4 in
         (q.0, (p.0, p.1, p.2, p.3, q.1, p.5), q.2)
 
--- what answers went on by requests alone
-module _ {S : Type 0} (answers : Relation S) where
-  runs-requests : (a b : S) (xs : Requests) (rs : List Reply) → Runs answers a xs rs b → Meanwhile (AnyRequest answers) a b
-  runs-requests a b [] [] p = ([], p)
-  runs-requests a b (x ∷ xs) (r ∷ rs) p =
-      let more = runs-requests p.0 b xs rs p.2 in
-      (p.0 ∷ more.0, ((x, r, p.1), more.1))
-  runs-requests a b [] (r ∷ rs) p = absurd p
-  runs-requests a b (x ∷ xs) [] p = absurd p
+    -- what was answered among others was so from before these on
+    runs-shift : (last now end new : S) (xs : Requests) (rs : List Reply) → Meanwhile others last now → Runs (Among others answers) now xs rs end → Meanwhile others end new
+        → (mid : S) × Runs (Among others answers) last xs rs mid × Meanwhile others mid new
+    runs-shift last now end new [] [] o p m = (last, refl, meanwhile-join last now new o (subst (λ s. Meanwhile others s new) (sym p) m))
+    runs-shift last now end new (x ∷ xs) (r ∷ rs) o p m =
+        (end, (p.0, record { mid = p.1.mid; meanwhile = meanwhile-join last now p.1.mid o p.1.meanwhile; answered = p.1.answered }, p.2), m)
+    runs-shift last now end new [] (r ∷ rs) o p m = absurd p
+    runs-shift last now end new (x ∷ xs) [] o p m = absurd p
 
-  pub piece-requests : (now new : S) (had piece bytes : List ℕ) (kept : Option (List ℕ)) (served : Served) → ServesPiece answers now new had piece kept bytes (Ok served) → Meanwhile (AnyRequest answers) now new
-  piece-requests now new had piece bytes kept More p = runs-requests now new (handed p.0) p.4.0 p.4.1
-  piece-requests now new had piece bytes kept Broken p = runs-requests now new (handed p.0) p.3.1.0 p.3.1.1
+    answered-shift : (last now end new : S) (xs : Requests) (bytes : List ℕ) → Meanwhile others last now → IsAnswered (Among others answers) now end xs bytes → Meanwhile others end new
+        → (mid : S) × IsAnswered (Among others answers) last mid xs bytes × Meanwhile others mid new
+    answered-shift last now end new xs bytes o p m =
+        let q = runs-shift last now end new xs p.0 o p.1 m in
+        (q.0, (p.0, q.1, p.2), q.2)
 
-  pub short-requests : (now new : S) (had piece bytes : List ℕ) (kept : Option (List ℕ)) → ServesPiece answers now new had piece kept bytes (Err stop.NoMemory) → Meanwhile (AnyRequest answers) now new
-  short-requests now new had piece bytes kept p = runs-requests now new p.4.first (p.4.replies ++ p.2) p.4.runs
+    pub piece-shift : (last now end new : S) (had piece bytes : List ℕ) (kept : Option (List ℕ)) (served : Served) → Meanwhile others last now
+        → ServesPiece (Among others answers) now end had piece kept bytes (Ok served) → Meanwhile others end new
+        → (mid : S) × ServesPiece (Among others answers) last mid had piece kept bytes (Ok served) × Meanwhile others mid new
+    piece-shift last now end new had piece bytes kept More o p m =
+        let q = answered-shift last now end new (handed p.0) bytes o p.4 m in
+        (q.0, (p.0, p.1, p.2, p.3, q.1), q.2)
+    piece-shift last now end new had piece bytes kept Broken o p m =
+        let q = answered-shift last now end new (handed p.0) p.3.0 o p.3.1 m in
+        (q.0, (p.0, p.1, p.2, (p.3.0, q.1, p.3.2)), q.2)
+
+    pub short-shift : (last now end new : S) (had piece bytes : List ℕ) (kept : Option (List ℕ)) → Meanwhile others last now
+        → ServesPiece (Among others answers) now end had piece kept bytes (Err stop.NoMemory) → Meanwhile others end new
+        → (mid : S) × ServesPiece (Among others answers) last mid had piece kept bytes (Err stop.NoMemory) × Meanwhile others mid new
+    short-shift last now end new had piece bytes kept o p m =
+        let q = runs-shift last now end new p.4.first (p.4.replies ++ p.2) o p.4.runs m in (
+          q.0,
+          (
+            p.0,
+            p.1,
+            p.2,
+            p.3,
+            record {
+              first = p.4.first;
+              others = p.4.others;
+              split = p.4.split;
+              replies = p.4.replies;
+              runs = q.1;
+              at_most_one = p.4.at_most_one;
+              all_else = p.4.all_else;
+              written = p.4.written;
+            },
+            p.5,
+          ),
+          q.2,
+        )
+
+    -- what answers went on by requests, and by what others may do, alone
+    leads-change : (a b : S) (mids : List S) → Leads others a mids b → Leads (AnyChange others answers) a mids b
+    leads-change a b [] p = p
+    leads-change a b (mid ∷ mids) p = (inr p.0, leads-change mid b mids p.1)
+
+    pub meanwhile-change : (a b : S) → Meanwhile others a b → Meanwhile (AnyChange others answers) a b
+    meanwhile-change a b p = (p.0, leads-change a b p.0 p.1)
+
+module _ {S : Type 0} (others : Change S) (answers : Relation S) where
+  answer-change : (a b : S) (request : List (List ℕ)) (reply : Reply) → answers a request reply b → Meanwhile (AnyChange others answers) a b
+  answer-change a b request reply p = (b ∷ [], (inl (request, reply, p), refl))
+
+  runs-answer : (a b : S) (xs : Requests) (rs : List Reply) → Runs answers a xs rs b → Meanwhile (AnyChange others answers) a b
+  runs-answer a b [] [] p = ([], p)
+  runs-answer a b (x ∷ xs) (r ∷ rs) p = meanwhile-join (AnyChange others answers) a p.0 b (answer-change a p.0 x r p.1) (runs-answer p.0 b xs rs p.2)
+  runs-answer a b [] (r ∷ rs) p = absurd p
+  runs-answer a b (x ∷ xs) [] p = absurd p
+
+  -- some requests are answered, or the first of them
+  pub all-change : (a b : S) (xs : Requests) (bytes : List ℕ) (result : Result (Unit {0}) SessionFault) → AnswersAll answers a b xs bytes result → Meanwhile (AnyChange others answers) a b
+  all-change a b xs bytes (Ok done) p = runs-answer a b xs p.0 p.1
+  all-change a b xs bytes (Err stop.Read) p = absurd p
+  all-change a b xs bytes (Err stop.Write) p = absurd p
+  all-change a b xs bytes (Err stop.NoMemory) p = runs-answer a b p.2.first (p.2.replies ++ p.0) p.2.runs
+
+  among-change : (a b : S) (request : List (List ℕ)) (reply : Reply) → Among others answers a request reply b → Meanwhile (AnyChange others answers) a b
+  among-change a b request reply p =
+      meanwhile-join (AnyChange others answers) a p.mid b (meanwhile-change others answers a p.mid p.meanwhile) (answer-change p.mid b request reply p.answered)
+
+  runs-change : (a b : S) (xs : Requests) (rs : List Reply) → Runs (Among others answers) a xs rs b → Meanwhile (AnyChange others answers) a b
+  runs-change a b [] [] p = ([], p)
+  runs-change a b (x ∷ xs) (r ∷ rs) p = meanwhile-join (AnyChange others answers) a p.0 b (among-change a p.0 x r p.1) (runs-change p.0 b xs rs p.2)
+  runs-change a b [] (r ∷ rs) p = absurd p
+  runs-change a b (x ∷ xs) [] p = absurd p
+
+  pub piece-change : (now new : S) (had piece bytes : List ℕ) (kept : Option (List ℕ)) (served : Served) → ServesPiece (Among others answers) now new had piece kept bytes (Ok served) → Meanwhile (AnyChange others answers) now new
+  piece-change now new had piece bytes kept More p = runs-change now new (handed p.0) p.4.0 p.4.1
+  piece-change now new had piece bytes kept Broken p = runs-change now new (handed p.0) p.3.1.0 p.3.1.1
+
+  pub short-change : (now new : S) (had piece bytes : List ℕ) (kept : Option (List ℕ)) → ServesPiece (Among others answers) now new had piece kept bytes (Err stop.NoMemory) → Meanwhile (AnyChange others answers) now new
+  short-change now new had piece bytes kept p = runs-change now new p.4.first (p.4.replies ++ p.2) p.4.runs

@@ -104,10 +104,3 @@ module _ {S : Type 0} (answers : Relation S) where
   owed-front-of old new had piece bytes kept taken served p =
       subst (λ text. IsOwed answers old new text bytes) (append_assoc had (take taken piece) (drop taken piece) ∙ ap (λ l. had ++ l) (take-append-drop taken piece))
       (owed-longer answers old new (had ++ take taken piece) (drop taken piece) bytes (owed-whole answers old new had (take taken piece) bytes kept (Ok served) p))
-
-  -- where answering fails, memory is refused
-  pub some-short : (old new : S) (had piece bytes : List ℕ) (kept : Option (List ℕ)) (why : SessionFault)
-      → AnswersSome answers old new had piece kept bytes (Err why) → ServesPiece answers old new had piece kept bytes (Err stop.NoMemory)
-  some-short old new had piece bytes kept stop.Read p = absurd p
-  some-short old new had piece bytes kept stop.Write p = absurd p
-  some-short old new had piece bytes kept stop.NoMemory p = p

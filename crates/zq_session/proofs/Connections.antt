@@ -1,15 +1,19 @@
 -- A connection that is served in turn with others.
-use Rattle.std.proofs.Common.{◌≡◌, ◌≤◌, List, ℕ, [], ◌∷◌, ◌++◌, Option, Some, Ok, Err, true, false, refl, sym, ap, subst, ◌∙◌, append_assoc, append-nil, drop, inl, length, take, take-append-drop}
-use Rattle.std.proofs.lemmas.List.{drop-append-le}
-use Rattle.zq_session.proofs.Alongside.{meanwhile-join, meanwhile-none, piece-among, piece-requests, short-among, short-requests}
+use Rattle.std.proofs.Common.{◌≡◌, ◌≤◌, ◌+◌, List, OnErr, Result, ℕ, [], ◌∷◌, ◌++◌, Option, None, Some, Ok, Err, true, false, refl, sym, ap, subst, ◌∙◌, append_assoc, append-nil, drop, inl, inr, length, take, take-append-drop}
+use Rattle.std.proofs.lemmas.List.{drop-append-le, drop-drop}
+use Rattle.zq_session.proofs.Alongside.{meanwhile-change, meanwhile-join, meanwhile-none, piece-among, piece-change, piece-shift, short-among, short-change, short-shift}
+use Rattle.zq_resp.specs.Stream.{Feeds}
 use Rattle.zq_session.proofs.Runs.{begun-whole}
-use Rattle.zq_session.proofs.Served.{Stands, breaks-off, goes-no-further, owed-broken, owed-front, owed-refused, serves-to-end, stands-first, stands-on}
-use Rattle.zq_session.specs.Among.{Among, AnyRequest, Change, Meanwhile}
-use Rattle.zq_session.specs.Connection.{Closes, ConnectionState, HasBroken, IsAlong, IsCutShort, IsDue, IsEnded, IsNew, IsServed, IsWritten, broken, owed_of, short, so_far}
-use Rattle.zq_session.specs.Serving.{ServesPiece}
-use Rattle.zq_session.specs.Session.{IsOwed, Relation, Serves}
+use Rattle.zq_session.proofs.Served.{Stands, breaks-off, goes-no-further, owed-broken, owed-front, owed-refused, piece-cut, piece-more, serves-to-end, stands-first, stands-on}
+use Rattle.zq_session.specs.Answering.{HadNoRoom}
+use Rattle.zq_session.specs.Among.{Among, AnyChange, Change, Meanwhile}
+use Rattle.zq_session.specs.Connection.{Closes, ConnectionState, HasBroken, IsAlong, IsCutShort, IsDue, IsEnded, IsNew, IsRefusedFor, IsServed, IsWritten, broken, owed_of, short, so_far}
+use Rattle.zq_session.specs.Hearing.{PutsAmong}
+use Rattle.zq_session.specs.Serving.{AnswersAll, ServesPiece}
+use Rattle.zq_session.specs.Session.{IsAnswered, IsOwed, Relation, Serves}
 use Rattle.zq_session.specs.declared.outcome.End.{End}
 use Rattle.zq_session.specs.declared.outcome.End.TheVariants.{Clean, Inside, Protocol}
+use Rattle.zq_session.specs.declared.outcome.SessionFault.{SessionFault}
 use Rattle.zq_session.specs.declared.outcome.SessionFault.TheVariants as stop
 use Rattle.zq_session.specs.declared.serving.Served.{Served}
 use Rattle.zq_session.specs.declared.serving.Served.TheVariants.{Broken, More}
@@ -145,42 +149,42 @@ module _ {S : Type 0} (others : Change S) (answers : Relation S) where
 
     -- the front of a piece is heard
     pub along-heard : (at : ℕ) (served : Served)
-        → ((had : List ℕ) → old.unfinished ≡ Some had → (bytes : List ℕ) × ServesPiece answers now new had (take at piece) c.unfinished bytes (Ok served) × (c.replies ≡ old.replies ++ bytes))
+        → ((had : List ℕ) → old.unfinished ≡ Some had → PutsAmong others answers now new had (take at piece) c.unfinished (Ok served) old.replies c.replies)
         → (c.is_closed ≡ false → drop at piece ≡ c.waiting) → (served ≡ Broken → c.is_closed ≡ true)
         → IsAlong others answers begun new (text ++ piece) written c
     along-heard at served step unheard closed =
         let stood = stands-of begun p.last p.taken p.due old.unfinished (open-stands begun p.last p.taken p.due old going p.is_due) in
         let fed = step stood.0 stood.1 in
-        let q = piece-among others answers p.last now new stood.0 (take at piece) fed.0 c.unfinished served p.meanwhile fed.1 in
-        along-served begun p.last q.0 new (text ++ piece) written (take at piece) (drop at piece) old c served p.taken p.due stood.0 fed.0 stood.2 q.1 q.2
-        (whole-text text p.taken p.rest piece at p.text_is (p.unheard going ∙ none)) unheard (owed-more fed.0 fed.2) closed
+        let q = piece-shift others answers p.last now fed.last new stood.0 (take at piece) fed.bytes c.unfinished served p.meanwhile fed.serves fed.meanwhile in
+        along-served begun p.last q.0 new (text ++ piece) written (take at piece) (drop at piece) old c served p.taken p.due stood.0 fed.bytes stood.2 q.1 q.2
+        (whole-text text p.taken p.rest piece at p.text_is (p.unheard going ∙ none)) unheard (owed-more fed.bytes fed.put) closed
 
     -- its end breaks the protocol
     pub along-broken : (at : ℕ) (served : Served) → served ≡ Broken
-        → ((had : List ℕ) → old.unfinished ≡ Some had → (bytes : List ℕ) × ServesPiece answers now new had (take at piece) c.unfinished bytes (Ok served) × (c.replies ≡ old.replies ++ bytes))
+        → ((had : List ℕ) → old.unfinished ≡ Some had → PutsAmong others answers now new had (take at piece) c.unfinished (Ok served) old.replies c.replies)
         → HasBroken others answers begun new (text ++ piece) written c
     along-broken at More is step = absurd (cc is)
     along-broken at Broken is step =
         let stood = stands-of begun p.last p.taken p.due old.unfinished (open-stands begun p.last p.taken p.due old going p.is_due) in
         let fed = step stood.0 stood.1 in
-        let q = piece-among others answers p.last now new stood.0 (take at piece) fed.0 c.unfinished Broken p.meanwhile fed.1 in record {
+        let q = piece-shift others answers p.last now fed.last new stood.0 (take at piece) fed.bytes c.unfinished Broken p.meanwhile fed.serves fed.meanwhile in record {
           last = q.0;
           meanwhile = q.2;
           taken = p.taken ++ take at piece;
           rest = drop at piece;
           text_is = whole-text text p.taken p.rest piece at p.text_is (p.unheard going ∙ none);
-          serves = subst (λ bytes. Serves (Among others answers) begun q.0 (p.taken ++ take at piece) bytes (Ok Protocol)) (owed-more fed.0 fed.2)
-              (breaks-off (Among others answers) begun p.last q.0 p.taken p.due stood.0 (take at piece) fed.0 c.unfinished stood.2 q.1);
+          serves = subst (λ bytes. Serves (Among others answers) begun q.0 (p.taken ++ take at piece) bytes (Ok Protocol)) (owed-more fed.bytes fed.put)
+              (breaks-off (Among others answers) begun p.last q.0 p.taken p.due stood.0 (take at piece) fed.bytes c.unfinished stood.2 q.1);
         }
 
     -- there was no memory for it
-    pub along-short : length piece ≤ 65536 → c.is_closed ≡ true
-        → ((had : List ℕ) → old.unfinished ≡ Some had → (bytes : List ℕ) × ServesPiece answers now new had piece c.unfinished bytes (Err stop.NoMemory) × (c.replies ≡ old.replies ++ bytes))
+    pub along-short : (kept : Option (List ℕ)) → length piece ≤ 65536 → c.is_closed ≡ true
+        → ((had : List ℕ) → old.unfinished ≡ Some had → PutsAmong others answers now new had piece kept (Err stop.NoMemory) old.replies c.replies)
         → IsAlong others answers begun new (text ++ piece) written c
-    along-short small closed step =
+    along-short kept small closed step =
         let stood = stands-of begun p.last p.taken p.due old.unfinished (open-stands begun p.last p.taken p.due old going p.is_due) in
         let fed = step stood.0 stood.1 in
-        let q = short-among others answers p.last now new stood.0 piece fed.0 c.unfinished p.meanwhile fed.1 in
+        let q = short-shift others answers p.last now fed.last new stood.0 piece fed.bytes kept p.meanwhile fed.serves fed.meanwhile in
         let only : text ≡ p.taken = p.text_is ∙ (ap (λ l. p.taken ++ l) (p.unheard going ∙ none) ∙ append-nil p.taken) in record {
           last = q.0;
           meanwhile = q.2;
@@ -188,27 +192,65 @@ module _ {S : Type 0} (others : Change S) (answers : Relation S) where
           rest = [];
           text_is = ap (λ l. l ++ piece) only ∙ sym (append-nil (p.taken ++ piece));
           unheard = λ going_on. absurd (cc (going_on, closed));
-          due = p.due ++ fed.0;
-          due_is = owed-more fed.0 fed.2;
-          is_due = short closed (goes-no-further (Among others answers) begun p.last q.0 p.taken p.due stood.0 piece fed.0 c.unfinished stop.NoMemory stood.2 small q.1);
+          due = p.due ++ fed.bytes;
+          due_is = owed-more fed.bytes fed.put;
+          is_due = short closed (goes-no-further (Among others answers) begun p.last q.0 p.taken p.due stood.0 piece fed.bytes kept stop.NoMemory stood.2 small q.1);
         }
 
-  module _ (begun now new : S) (text written piece : List ℕ) (old c : ConnectionState) (p : IsAlong others answers begun now text written old) (going : old.is_closed ≡ false) where
-    -- what answers went on by requests alone
-    pub heard-requests : (served : Served)
-        → ((had : List ℕ) → old.unfinished ≡ Some had → (bytes : List ℕ) × ServesPiece answers now new had piece c.unfinished bytes (Ok served) × (c.replies ≡ old.replies ++ bytes))
-        → Meanwhile (AnyRequest answers) now new
-    heard-requests served step =
-        let stood = stands-of begun p.last p.taken p.due old.unfinished (open-stands begun p.last p.taken p.due old going p.is_due) in
-        let fed = step stood.0 stood.1 in
-        piece-requests answers now new stood.0 piece fed.0 c.unfinished served fed.1
+  -- what answers went on by requests, and by what others may do, alone
+  pub heard-changes : (begun now new : S) (text written piece before after : List ℕ) (old : ConnectionState) (kept : Option (List ℕ)) (served : Served) → IsAlong others answers begun now text written old → old.is_closed ≡ false
+      → ((had : List ℕ) → old.unfinished ≡ Some had → PutsAmong others answers now new had piece kept (Ok served) before after)
+      → Meanwhile (AnyChange others answers) now new
+  heard-changes begun now new text written piece before after old kept served p going step =
+      let has = along-has begun now text written old p going in
+      let fed = step has.0 has.1 in
+      meanwhile-join (AnyChange others answers) now fed.last new (piece-change others answers now fed.last has.0 piece fed.bytes kept served fed.serves) (meanwhile-change others answers fed.last new fed.meanwhile)
 
-    pub lost-requests : ((had : List ℕ) → old.unfinished ≡ Some had → (bytes : List ℕ) × ServesPiece answers now new had piece c.unfinished bytes (Err stop.NoMemory) × (c.replies ≡ old.replies ++ bytes))
-        → Meanwhile (AnyRequest answers) now new
-    lost-requests step =
+  pub lost-changes : (begun now new : S) (text written piece before after : List ℕ) (old : ConnectionState) (kept : Option (List ℕ)) → IsAlong others answers begun now text written old → old.is_closed ≡ false
+      → ((had : List ℕ) → old.unfinished ≡ Some had → PutsAmong others answers now new had piece kept (Err stop.NoMemory) before after)
+      → Meanwhile (AnyChange others answers) now new
+  lost-changes begun now new text written piece before after old kept p going step =
+      let has = along-has begun now text written old p going in
+      let fed = step has.0 has.1 in
+      meanwhile-join (AnyChange others answers) now fed.last new (short-change others answers now fed.last has.0 piece fed.bytes kept fed.serves) (meanwhile-change others answers fed.last new fed.meanwhile)
+
+  -- the request that was held is answered
+  module _ (begun now mid new : S) (text written : List ℕ) (old c : ConnectionState) (p : IsAlong others answers begun now text written old) (going : old.is_closed ≡ false) (within : old.sent ≤ length old.replies) (sent : c.sent ≡ old.sent)
+      (count : ℕ) (request : List (List ℕ)) (reader : Option (List ℕ)) (fed : Feeds old.unfinished (take count old.waiting) (Ok (request ∷ [])) reader) (meanwhile : Meanwhile others now mid)
+      (bytes : List ℕ) (put : c.replies ≡ old.replies ++ bytes) where
+    owed-then : p.due ++ bytes ≡ written ++ owed_of c
+    owed-then = subst (λ n. p.due ++ bytes ≡ written ++ drop n c.replies) (sym sent) (owed-grows old.sent old.replies c.replies written p.due bytes within put p.due_is)
+
+    pub along-answered : IsAnswered answers mid new (request ∷ []) bytes → c.unfinished ≡ reader → c.waiting ≡ drop count old.waiting → IsAlong others answers begun new text written c
+    along-answered answered kept waits =
+        let front = take count old.waiting in
+        let rest = drop count old.waiting in
         let stood = stands-of begun p.last p.taken p.due old.unfinished (open-stands begun p.last p.taken p.due old going p.is_due) in
-        let fed = step stood.0 stood.1 in
-        short-requests answers now new stood.0 piece fed.0 c.unfinished fed.1
+        let step = piece-more answers mid new stood.0 front bytes (request ∷ []) old.unfinished reader stood.1 fed answered in
+        let q = piece-among others answers p.last mid new stood.0 front bytes reader More (meanwhile-join others p.last now mid p.meanwhile meanwhile) step in
+        let whole : text ≡ (p.taken ++ front) ++ rest =
+        p.text_is ∙ (ap (λ l. p.taken ++ l) (p.unheard going ∙ sym (take-append-drop count old.waiting)) ∙ sym (append_assoc p.taken front rest)) in
+        along-served begun p.last q.0 new text written front rest old c More p.taken p.due stood.0 bytes stood.2
+        (subst (λ kept. ServesPiece (Among others answers) p.last q.0 stood.0 front kept bytes (Ok More)) (sym kept) q.1) q.2 whole (λ going_on. sym waits) owed-then (λ broke. absurd (cc broke))
+
+    -- there was no memory for the reply
+    pub along-lost : (why : SessionFault) → AnswersAll answers mid new (request ∷ []) bytes (Err why) → length old.waiting ≤ 65536 → c.is_closed ≡ true → IsAlong others answers begun new text written c
+    along-lost stop.Read lost small closed = absurd lost
+    along-lost stop.Write lost small closed = absurd lost
+    along-lost stop.NoMemory lost small closed =
+        let stood = stands-of begun p.last p.taken p.due old.unfinished (open-stands begun p.last p.taken p.due old going p.is_due) in
+        let step = piece-cut answers mid new stood.0 old.waiting bytes count (request ∷ []) old.unfinished reader None stop.NoMemory stood.1 fed lost in
+        let q = short-among others answers p.last mid new stood.0 old.waiting bytes None (meanwhile-join others p.last now mid p.meanwhile meanwhile) step in record {
+          last = q.0;
+          meanwhile = q.2;
+          taken = p.taken ++ old.waiting;
+          rest = [];
+          text_is = p.text_is ∙ (ap (λ l. p.taken ++ l) (p.unheard going) ∙ sym (append-nil (p.taken ++ old.waiting)));
+          unheard = λ going_on. absurd (cc (going_on, closed));
+          due = p.due ++ bytes;
+          due_is = owed-then;
+          is_due = short closed (goes-no-further (Among others answers) begun p.last q.0 p.taken p.due stood.0 old.waiting bytes None stop.NoMemory stood.2 small q.1);
+        }
 
   -- what came and waited is heard
   module _ (begun now : S) (text written : List ℕ) (old mid : ConnectionState) (p : IsAlong others answers begun now text written old) (input : mid.unfinished ≡ old.unfinished) (none : mid.waiting ≡ [])
@@ -273,3 +315,9 @@ module _ {S : Type 0} (others : Change S) (answers : Relation S) where
   along-ended begun now text written c p none =
       let all-written : p.due ≡ written = p.due_is ∙ (ap (λ l. written ++ l) none ∙ append-nil written) in
       ended-by begun now p.last text written p.taken p.rest c p.meanwhile p.text_is (subst (λ bytes. IsDue (Among others answers) begun p.last p.taken bytes c) all-written p.is_due)
+
+  -- what there was no memory for is a part of what waited before some of that was gone
+  pub refused-more : {T E : Type 0} (new : S) (before after : List ℕ) (c : ConnectionState) (gone : ℕ) (result : Result T E) → after ≡ drop gone before → OnErr result (IsRefusedFor answers new after c) → OnErr result (IsRefusedFor answers new before c)
+  refused-more new before after c gone (Ok done) is p = tt
+  refused-more new before after c gone (Err why) is (inl p) = inl p
+  refused-more new before after c gone (Err why) is (inr p) = inr (gone + p.0, subst (HadNoRoom []) (ap (drop p.0) is ∙ drop-drop p.0 gone before) p.1)

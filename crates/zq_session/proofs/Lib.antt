@@ -6,6 +6,7 @@ pub mod AnsweredPart
 pub mod Turns
 pub mod Alongside
 pub mod Connections
+pub mod Hearings
 pub mod Seen
 pub mod Runs
 pub mod Served

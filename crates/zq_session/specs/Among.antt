@@ -1,6 +1,6 @@
 -- Requests of one connection that are answered one after the other, while others are served
 -- between them.
-use Rattle.std.specs.Prelude.{◌≡◌, ℕ, List, [], ◌∷◌}
+use Rattle.std.specs.Prelude.{◌≡◌, ◌⊎◌, ℕ, List, [], ◌∷◌}
 use Rattle.zq_resp.specs.declared.reply.Reply.{Reply}
 use Rattle.zq_session.specs.Session.{Relation}
 
@@ -12,6 +12,10 @@ Change S = S → S → Type 0
 abbrev pub AnyRequest : {S : Type 0} → Relation S → Change S
 AnyRequest answers old new = (request : List (List ℕ)) × (reply : Reply)
     × answers old request reply new
+
+-- a request was answered, or others did what they may
+abbrev pub AnyChange : {S : Type 0} → Change S → Relation S → Change S
+AnyChange others answers old new = AnyRequest answers old new ⊎ others old new
 
 -- changes led from one state to the other, by way of these
 abbrev pub Leads : {S : Type 0} → Change S → S → List S → S → Type 0

@@ -1,6 +1,6 @@
 -- A connection whose requests are answered while others are served between them.
-use Rattle.std.specs.Prelude.{◌≡◌, ◌≤◌, ◌<◌, ◌⊎◌, ℕ, Bool, false, true, List, [], ◌++◌, drop, length, Option, Some, Result, Ok, Err}
-use Rattle.zq_resp.specs.Stream.{Requests, Splits, handed}
+use Rattle.std.specs.Prelude.{◌≡◌, ◌≤◌, ◌<◌, ◌⊎◌, ℕ, Bool, false, true, List, [], ◌∷◌, ◌++◌, drop, length, take, IsSome, Option, None, Some, Result, Ok, Err}
+use Rattle.zq_resp.specs.Stream.{Feeds, Requests, Splits, handed}
 use Rattle.zq_session.specs.Among.{Among, Change, Meanwhile}
 use Rattle.zq_session.specs.Answering.{HadNoRoom, LacksMemory}
 use Rattle.zq_session.specs.Session.{Relation, IsAnswered, Serves}
@@ -10,10 +10,11 @@ use Rattle.zq_session.specs.declared.outcome.SessionFault.{SessionFault}
 use Rattle.zq_session.specs.declared.outcome.SessionFault.TheVariants as stop
 
 -- What is kept of a connection: the bytes of an unfinished request, none after a fault; the bytes
--- that came and wait; the bytes of replies, and how many of these are written; and whether nothing
--- more is heard.
+-- that came and wait, and the request that is held, which ends next there; the bytes of replies, and
+-- how many of these are written; and whether nothing more is heard.
 pub record ConnectionState : Type 0 where
   pub unfinished : Option (List ℕ)
+  pub held : Option (List (List ℕ))
   pub waiting : List ℕ
   pub replies : List ℕ
   pub sent : ℕ
@@ -34,6 +35,7 @@ owed_of c = drop c.sent c.replies
 -- nothing came, and nothing is owed
 pub record IsNew (c : ConnectionState) : Type 0 where
   pub unfinished : c.unfinished ≡ Some []
+  pub held : c.held ≡ None
   pub waiting : c.waiting ≡ []
   pub replies : c.replies ≡ []
   pub sent : c.sent ≡ 0
@@ -56,10 +58,27 @@ pub record IsOver (c : ConnectionState) : Type 0 where
   pub closed : c.is_closed ≡ true
   pub none : owed_of c ≡ []
 
--- of a piece that was heard something waits only where there are many bytes of replies
+-- The request is the next that ends in what waits, behind the bytes of an unfinished one: some of
+-- what waits is its end.
+abbrev pub EndsNext : List (List ℕ) → ConnectionState → Type 0
+EndsNext request c = (count : ℕ) × (0 < count) × (count ≤ length c.waiting)
+    × (reader : Option (List ℕ))
+    × Feeds c.unfinished (take count c.waiting) (Ok (request ∷ [])) reader
+
+-- Of a piece that was heard something waits only where there are many bytes of replies, or where
+-- the request that ends next there is held.
 pub record IsTaken (piece : List ℕ) (c : ConnectionState) : Type 0 where
-  pub less : 0 < length piece → length c.waiting < length piece
-  pub full : (c.waiting ≡ []) ⊎ (MOST ≤ length c.replies)
+  pub less : 0 < length piece → (length c.waiting < length piece) ⊎ IsSome c.held
+  pub full : (c.waiting ≡ []) ⊎ ((MOST ≤ length c.replies) ⊎ IsSome c.held)
+
+-- What is left of what waits once the connection was asked whether the request that was held is
+-- held still: where none is, all, or what follows that request.
+pub record IsLeft (old new : ConnectionState) : Type 0 where
+  pub closed : new.is_closed ≡ old.is_closed
+  pub gone : ℕ
+  pub waits : new.waiting ≡ drop gone old.waiting
+  pub how : IsSome new.held
+      ⊎ ((new.held ≡ None) × ((new ≡ old) ⊎ (length new.waiting < length old.waiting)))
 
 -- Memory was refused as the piece was heard: for what is answered, or for what would wait of it.
 abbrev pub IsRefusedFor : {S : Type 0} → Relation S → S → List ℕ → ConnectionState → Type 0
@@ -70,15 +89,17 @@ IsRefusedFor answers new piece c = LacksMemory answers new c.replies
 -- until all are written.
 pub record IsWritten (old : ConnectionState) (count : ℕ) (new : ConnectionState) : Type 0 where
   pub unfinished : new.unfinished ≡ old.unfinished
+  pub held : new.held ≡ old.held
   pub waiting : new.waiting ≡ old.waiting
   pub closed : new.is_closed ≡ old.is_closed
   pub owed : owed_of new ≡ drop count (owed_of old)
   pub kept : (new.replies ≡ old.replies) ⊎ (new.replies ≡ [])
   pub all : length (owed_of old) ≤ count → new.replies ≡ []
 
--- nothing more is heard, and all else is as it was
+-- Nothing more is heard, and no request is held. All else is as it was.
 pub record Closes (old new : ConnectionState) : Type 0 where
   pub unfinished : new.unfinished ≡ old.unfinished
+  pub dropped : new.held ≡ None
   pub waiting : new.waiting ≡ old.waiting
   pub replies : new.replies ≡ old.replies
   pub sent : new.sent ≡ old.sent

@@ -4,6 +4,7 @@ pub mod Serving
 pub mod Session
 pub mod Answering
 pub mod Among
+pub mod Hearing
 pub mod Connection
 pub mod Conversation
 pub mod Plain

@@ -1,5 +1,5 @@
-//! The one core of sessions that block and of connections that are served in turn: answers the
-//! requests of a piece until it is taken, or until there are many bytes of replies.
+//! The core of sessions that block: answers the requests of a piece until it is taken, or until
+//! there are many bytes of replies.
 
 ghost use Rattle.std.specs.Prelude.{◌≡◌, ◌≤◌, ◌<◌, ◌++◌, ◌∷◌, [], IfOk, List, OnErr, length, ℕ, Some};
 ghost use Rattle.zq_session.specs.Answering.{AnswersSome, IsFew, IsOneMore, LacksMemory};
@@ -81,7 +81,7 @@ pub fn answer_some<A: Answers>(
 
 /// Answers a request, and puts its reply's bytes behind `out`. The reply is gone then: its bytes
 /// alone are kept. Memory is wanting only where there is no room for them.
-fn answer_into<A: Answers>(
+pub(crate) fn answer_into<A: Answers>(
     alloc: Global,
     answerer: &mut A,
     request: &Request,

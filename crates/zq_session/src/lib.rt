@@ -8,6 +8,7 @@ mod connection;
 mod ends;
 mod further;
 mod gathering;
+mod hearing;
 mod histories;
 mod lending;
 mod lent_site;

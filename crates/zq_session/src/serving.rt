@@ -18,6 +18,8 @@ use zq_resp::{FeedFault, Reader, Reply, Request, write_reply};
 
 /// What answers requests.
 pub trait Answers {
+    ghost use Rattle.zq_session.specs.Among.{Meanwhile};
+
     /// The state before, a request's words, the reply, and the state after.
     ghost answers: { Self → List (List ℕ) → Reply → Self → Type 0 };
 
@@ -29,6 +31,16 @@ pub trait Answers {
     fn answer(&mut self, alloc: Global, request: &Request) -> Reply
         ensures related { answers self.old request.now result self.new }
         ensures writable { IsTrue (is_writable result) };
+
+    /// Whether the request is not to be answered yet. A connection that is served in turn asks this
+    /// right before each request is answered. Where it is so the request is held, and what is behind
+    /// it waits; else it is answered next. To find that out may change what others may change. A
+    /// session that blocks holds no request: it answers each at once.
+    fn holds(&mut self, _alloc: Global, _request: &Request) -> bool
+        ensures meanwhile { Meanwhile others self.old self.new }
+    {
+        false
+    }
 }
 
 /// Whether the input may go on.

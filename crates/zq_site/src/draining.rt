@@ -12,6 +12,7 @@ use log::Log;
 use std::fs::File;
 use std::rt::Files;
 use std::sync::Wait;
+use std::thread::Threads;
 use std::time::{Clock, Duration};
 use zq_dots::SiteNo;
 use zq_links::Message;
@@ -30,7 +31,7 @@ impl Called for Post {
 /// Taking what the calls of a site's clients make, and what its link thread hears, into the logs of
 /// its heaps, and onto the disk where the site keeps a log there.
 #[derive(Drop)]
-pub struct Draining<'a, N: Files<File = File>, L: Log + Clock + Wait> {
+pub struct Draining<'a, N: Files<File = File>, L: Log + Clock + Threads + Wait> {
     /// Whose files the log is in.
     pub net: &'a N,
     pub log: &'a L,
@@ -39,7 +40,7 @@ pub struct Draining<'a, N: Files<File = File>, L: Log + Clock + Wait> {
     pub hasher: Seeded,
 }
 
-impl<N: Files<File = File>, L: Log + Clock + Wait> NodeWork for Draining<'_, N, L> {
+impl<N: Files<File = File>, L: Log + Clock + Threads + Wait> NodeWork for Draining<'_, N, L> {
     fn run(self, node: &mut Node<'_>, _others: &[SiteNo]) {
         let Draining {
             net,

@@ -17,6 +17,7 @@ use log::Log;
 use std::fs::File;
 use std::rt::Files;
 use std::sync::Wait;
+use std::thread::Threads;
 use std::time::Clock;
 use zq_node::Node;
 use zq_posheap::Seeded;
@@ -71,7 +72,7 @@ impl<L: Log + Clock + Wait> Beside for Aside<'_, L> {
 /// Begins with what the log in the folder of this path has, and tells how the site begins. Then it
 /// takes what is made and heard into the logs and onto the disk, until the site ends. Where the disk
 /// fails nothing leaves the site any more, and who waits for the site is told.
-pub(crate) fn keep_site<N: Files<File = File>, L: Log + Clock + Wait>(
+pub(crate) fn keep_site<N: Files<File = File>, L: Log + Clock + Threads + Wait>(
     net: &N,
     log: &L,
     shared: Shared<'_>,

@@ -241,7 +241,7 @@ fn link_site<L: Log + Clock + Wait>(
 
 /// Takes what calls make into the logs, and onto the disk where the site keeps a log there, until
 /// the site is to stop. Where the site's pass is not there, nobody waits for how it begins.
-fn drain_site<N: Files<File = File>, L: Log + Clock + Wait>(
+fn drain_site<N: Files<File = File>, L: Log + Clock + Threads + Wait>(
     net: &N,
     log: &L,
     shared: Shared<'_>,

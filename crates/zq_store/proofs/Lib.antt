@@ -1,2 +1,4 @@
+mod Crossing
 mod EscapedLengths
-mod Rereading
+mod Fronts
+mod Gathering

@@ -1,3 +1,4 @@
 pub mod Faults
 pub mod Intake
 pub mod Work
+pub mod Gathered

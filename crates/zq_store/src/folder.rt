@@ -9,6 +9,7 @@ ghost use Rattle.zq_wal.specs.Found.{IsFound};
 ghost use Rattle.zq_wal_file.specs.FileDisk.{IsRead, given_of};
 
 use crate::fault::{of_data, of_files, of_keeper, of_open, of_refusal};
+use crate::leave::Leave;
 use crate::read_so_far::ReadSoFar;
 use crate::recalling::Recalling;
 use crate::restoring::restore;
@@ -19,6 +20,7 @@ use std::alloc::{AllocError, Global};
 use std::fs::File;
 use std::rt::Files;
 use std::sync::Wait;
+use std::thread::{Threads, available_parallelism};
 use zq_keeper::Reader;
 use zq_node::Node;
 use zq_posheap::Seeded;
@@ -52,7 +54,7 @@ pub struct Place<'a> {
 /// peers, of which the last ones stay there.
 ///
 /// `NoMemory`, or `Device` with why the folder is not taken. What it holds is as it was then.
-pub fn open<'d, N: Files<File = File>, R: Wait>(
+pub fn open<'d, N: Files<File = File>, R: Threads + Wait>(
     net: &'d N,
     rt: &R,
     alloc: Global,
@@ -104,7 +106,7 @@ fn joined(alloc: Global, path: &str, name: &str) -> Result<String, AllocError> {
 }
 
 /// Reads the records of a log, and cuts its torn end off, if it has one.
-fn read_log<'d, N: Files<File = File>, R: Wait>(
+fn read_log<'d, N: Files<File = File>, R: Threads + Wait>(
     rt: &R,
     alloc: Global,
     logs: &Logs,
@@ -117,19 +119,35 @@ fn read_log<'d, N: Files<File = File>, R: Wait>(
     requires heaps { IsHeaps reader.recovery.identity.heaps }
 {
     let recalling = Recalling {
-        rt,
+        leave: Leave::of(rt),
         logs,
         so_far,
+        threads: processors(rt),
         reader,
+        waiting: Vec::new(alloc),
+        bytes: 0,
     };
     let (mut log, mut recalling) = (log, recalling);
     let found = match read_records(alloc, &mut log, &mut recalling) {
         Ok(found) => found,
         Err(error) => return Err(unread(error, &recalling.reader, &log)),
     };
+    match recalling.take_gathered() {
+        Ok(()) => {}
+        Err(refusal) => return Err(of_refusal(refusal)),
+    }
     let Recalling { reader, .. } = recalling;
     let keeper = kept_by(alloc, found, log, &reader)?;
     Ok((keeper, reader))
+}
+
+/// In how many threads it is read at most: as many as there are processors, and one where that is
+/// not known.
+fn processors<R: Threads>(rt: &R) -> usize {
+    match available_parallelism(rt) {
+        Ok(count) => count.get(),
+        Err(_) => 1,
+    }
 }
 
 /// Why a log was not read.

@@ -6,7 +6,7 @@ use Rattle.zq_loop.proofs.Living.{turn-none}
 use Rattle.zq_loop.specs.Life.{IsTurn, moment}
 use Rattle.zq_loop.proofs.TurnByTurn.{written-at}
 use Rattle.zq_session.proofs.Alongside.{meanwhile-none}
-use Rattle.zq_loop.specs.Attending.{AnyAsked}
+use Rattle.zq_loop.specs.Attending.{AnyDone}
 use Rattle.zq_loop.proofs.turns.write_at.Goals as goal
 
 pub returns-in-Some : goal.returns-in-Some
@@ -17,7 +17,7 @@ returns-in-Some g c =
     let there : slice_get clients place ≡ Some (Some c.in-Some.client) =
     slice_get-get_or clients place c.index-clients-place.result (omega (arith, c.if-place-clients.false)) ∙ ap Some c.in-Some.is in record {
       served = λ begun all. written-at g.S.Socket.does others g.A.Attends.answers clients place c.in-Some.client c.write.new.self begun c.args._attending.now.answerer there (meanwhile-none others _) c.write.ensures.sent c.write.ensures.own all;
-      requests = λ begun all. meanwhile-none (AnyAsked g.A.Attends.answers) _;
+      requests = λ begun all. meanwhile-none (AnyDone g.A.Attends.others g.A.Attends.answers) _;
     }
 
 pub returns-in_default : goal.returns-in_default

@@ -1,14 +1,16 @@
-use Rattle.zq_keeper.specs.Read.{Reads}
-use Rattle.zq_store.proofs.Rereading.{same_site, taken_by}
+use Rattle.std.proofs.Common.{ap}
+use Rattle.zq_keeper.proofs.Reading.{blank_heaps}
+use Rattle.zq_store.proofs.Gathering.{has_read}
+use Rattle.zq_store.specs.Gathered.{waits}
 use Rattle.zq_store.proofs.folder.read_log.Goals as goal
 
 pub kept_by-requires-clause-heaps : goal.kept_by-requires-clause-heaps
 kept_by-requires-clause-heaps g c =
-    rw (same_site _ _ _ (taken_by (λ r. r.reader) Reads _ _ _ c.in-Ok.ensures.replayed)) c.requires.heaps
+    blank_heaps _ _ (has_read (λ r. r.reader) (λ r. waits r.waiting.items) _ _ _ _
+    (ap waits c.new.ensures.items) c.requires.blank c.in-Ok.ensures.replayed
+    c.in-Ok-take_gathered.ensures.taken)
 
 pub kept_by-requires-clause-all : goal.kept_by-requires-clause-all
-kept_by-requires-clause-all g c = record {
-  first = c.args.reader;
-  blank = c.requires.blank;
-  read = taken_by (λ r. r.reader) Reads _ _ _ c.in-Ok.ensures.replayed;
-}
+kept_by-requires-clause-all g c =
+    has_read (λ r. r.reader) (λ r. waits r.waiting.items) _ _ _ _ (ap waits c.new.ensures.items)
+    c.requires.blank c.in-Ok.ensures.replayed c.in-Ok-take_gathered.ensures.taken

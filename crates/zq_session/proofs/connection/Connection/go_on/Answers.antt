@@ -1,50 +1,22 @@
-use Rattle.std.proofs.Common.{◌≡◌, ◌++◌, List, OnErr, OnOk, ap, refl, subst, sym, true, ℕ, ◌∙◌}
-use Rattle.zq_session.proofs.Connections.{along-again, heard-again}
-use Rattle.zq_session.specs.Connection.{CanGoOn, ConnectionState, HasBroken, IsAlong, IsRefusedFor}
+use Rattle.std.proofs.Common.{inl}
+use Rattle.std.proofs.lemmas.Result.{err_from_is_err_and}
+use Rattle.zq_session.proofs.Alongside.{meanwhile-join}
+use Rattle.zq_session.proofs.Connections.{refused-more}
+use Rattle.zq_session.specs.Among.{AnyChange}
 use Rattle.zq_session.proofs.connection.Connection.go_on.Goals as goal
 
-pub returns-clause-along : goal.returns-clause-along
-returns-clause-along g c = λ begun text written p.
-    let s = c.self.inside in
-    let old : ConnectionState = record { unfinished = s.reader; waiting = s.waiting.items; replies = s.replies.items; sent = s.sent; is_closed = s.is_closed } in
-    let view : old ≡ c.args.self.now = c.self.view_is in
-    let can = subst CanGoOn (sym view) c.requires in
-    let along = subst (IsAlong g.A.Answers.others g.A.Answers.answers begun c.args.answerer.now text written) (sym view) p in
-    let piece : c.deref.result.now ≡ s.waiting.items = c.deref.ensures.value ∙ ap (λ v. v.items) c.replace-piece.ensures.value in
-    let none = ap (λ v. v.items) c.replace-piece.ensures.after ∙ c.new.ensures.items in
-    along-again g.A.Answers.others g.A.Answers.answers begun _ text written old _ along refl none refl refl refl (λ text. IsAlong g.A.Answers.others g.A.Answers.answers begun c.hear.new.answerer text written c.hear.new.self)
-    (λ taken q. subst (λ piece. IsAlong g.A.Answers.others g.A.Answers.answers begun c.hear.new.answerer (taken ++ piece) written c.hear.new.self) piece (c.hear.ensures.along begun taken written q)) can.is_open
+pub returns-in_err-answer_held-clause-short : goal.returns-in_err-answer_held-clause-short
+returns-in_err-answer_held-clause-short g c = λ begun text written p.
+    let failed = err_from_is_err_and c.from_residual.result c.from_residual.ensures.1 in
+    rw failed.1 (inl c.in_err-answer_held.ensures.short)
 
 pub returns-clause-requests : goal.returns-clause-requests
 returns-clause-requests g c = λ begun text written p.
-    let s = c.self.inside in
-    let old : ConnectionState = record { unfinished = s.reader; waiting = s.waiting.items; replies = s.replies.items; sent = s.sent; is_closed = s.is_closed } in
-    let view : old ≡ c.args.self.now = c.self.view_is in
-    let along = subst (IsAlong g.A.Answers.others g.A.Answers.answers begun c.args.answerer.now text written) (sym view) p in
-    let none = ap (λ v. v.items) c.replace-piece.ensures.after ∙ c.new.ensures.items in
-    heard-again g.A.Answers.others g.A.Answers.answers begun _ text written old _ along refl none refl refl refl (λ taken q. c.hear.ensures.requests begun taken written q)
-
-pub returns-clause-broken : goal.returns-clause-broken
-returns-clause-broken g c = λ begun text written p.
-    let s = c.self.inside in
-    let old : ConnectionState = record { unfinished = s.reader; waiting = s.waiting.items; replies = s.replies.items; sent = s.sent; is_closed = s.is_closed } in
-    let view : old ≡ c.args.self.now = c.self.view_is in
-    let can = subst CanGoOn (sym view) c.requires in
-    let along = subst (IsAlong g.A.Answers.others g.A.Answers.answers begun c.args.answerer.now text written) (sym view) p in
-    let piece : c.deref.result.now ≡ s.waiting.items = c.deref.ensures.value ∙ ap (λ v. v.items) c.replace-piece.ensures.value in
-    let none = ap (λ v. v.items) c.replace-piece.ensures.after ∙ c.new.ensures.items in
-    let Breaks : List ℕ → Type 0 = λ text. OnOk c.hear.result (c.hear.new.self.is_closed ≡ true → HasBroken g.A.Answers.others g.A.Answers.answers begun c.hear.new.answerer text written c.hear.new.self) in
-    along-again g.A.Answers.others g.A.Answers.answers begun _ text written old _ along refl none refl refl refl Breaks
-    (λ taken q. subst (λ piece. Breaks (taken ++ piece)) piece (c.hear.ensures.broken begun taken written q)) can.is_open
+    meanwhile-join (AnyChange g.A.Answers.others g.A.Answers.answers) _ c.answer_held.new.answerer _ c.in_ok-answer_held.ensures.requests
+    (c.hear_waiting.ensures.requests begun text written (c.in_ok-answer_held.ensures.along begun text written p))
 
 pub returns-clause-short : goal.returns-clause-short
 returns-clause-short g c = λ begun text written p.
-    let s = c.self.inside in
-    let old : ConnectionState = record { unfinished = s.reader; waiting = s.waiting.items; replies = s.replies.items; sent = s.sent; is_closed = s.is_closed } in
-    let view : old ≡ c.args.self.now = c.self.view_is in
-    let along = subst (IsAlong g.A.Answers.others g.A.Answers.answers begun c.args.answerer.now text written) (sym view) p in
-    let piece : c.deref.result.now ≡ s.waiting.items = c.deref.ensures.value ∙ ap (λ v. v.items) c.replace-piece.ensures.value in
-    let none = ap (λ v. v.items) c.replace-piece.ensures.after ∙ c.new.ensures.items in
-    let piece_is = piece ∙ ap (λ c. c.waiting) view in
-    heard-again g.A.Answers.others g.A.Answers.answers begun _ text written old _ along refl none refl refl refl
-    (λ taken q. subst (λ piece. OnErr c.hear.result (IsRefusedFor g.A.Answers.answers c.hear.new.answerer piece c.hear.new.self)) piece_is (c.hear.ensures.short begun taken written q))
+    let left = c.in_ok-answer_held.ensures.left in
+    refused-more g.A.Answers.others g.A.Answers.answers _ c.args.self.now.waiting c.answer_held.new.self.waiting c.hear_waiting.new.self left.gone c.hear_waiting.result left.waits
+    (c.hear_waiting.ensures.short begun text written (c.in_ok-answer_held.ensures.along begun text written p))
